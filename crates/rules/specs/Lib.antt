@@ -1,0 +1,10 @@
+pub mod Words
+pub mod Image
+pub mod Order
+pub mod Limits
+pub mod Refusals
+pub mod Run
+pub mod Dry
+pub mod Speed
+pub mod Refresh
+pub mod Demand

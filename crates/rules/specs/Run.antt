@@ -1,0 +1,199 @@
+-- The run.
+use Prim.Native.Nat.{ℕ, suc, _+_, _-_, _*_, _≤_, _<_, min}
+use mathlib.Core.Path.{_≡_}
+use mathlib.Core.Bool.{Bool, true, false, not, cond, _&&_, _||_}
+use mathlib.Core.List.{List, [], _∷_}
+use mathlib.Core.Logic.{_⊎_}
+use lib.Dec.{leb, ltb, eqb}
+use lib.IntN.{ℤ, pos}
+use lib.Signed.{leZ, _≤ℤ_}
+use lib.ListN.{length, getD}
+use Rattle.rules.specs.Words.{last-passing, all-pass, every, one-if}
+use Rattle.rules.specs.Limits.{Plan}
+use Rattle.rules.specs.Refusals.{Test, _if_, first}
+
+-- ---- a decision
+
+-- r is from 1 to min (cap, n - i), t is at most the coast bound (i, q, r) and, unless q is the top level, t is above limit (j, q + 1) for
+-- every j from i to i + r - 1.
+pub record Qualifies (cap : ℕ) (P : Plan) (t i q r : ℕ) : Type 0 where
+  pub some : 0 < r
+  pub most : r ≤ cap
+  pub room : i + r ≤ P .n
+  pub under : pos t ≤ℤ P .bound i q r
+  pub above : suc q < P .levels → (j : ℕ) → i ≤ j → j < i + r → pos t ≤ℤ P .limit j (suc q) → ⊥
+
+-- A decision grants the greatest r that qualifies. If no r qualifies, r is 1.
+pub record Grants (cap : ℕ) (P : Plan) (t i q r : ℕ) : Type 0 where
+  pub is : Qualifies cap P t i q r ⊎ ((r ≡ 1) × ((x : ℕ) → Qualifies cap P t i q x → ⊥))
+  pub greatest : (x : ℕ) → Qualifies cap P t i q x → x ≤ r
+
+-- The same, computed: the level given at position i and time t, whether it fits, and r - 1, what the decision leaves to coast.
+unfoldable pub level-given : Plan → ℕ → ℕ → ℕ
+level-given P t i = last-passing (λ q. leZ (pos t) (P .limit i q)) (P .levels)
+
+unfoldable pub fits : Plan → ℕ → ℕ → Bool
+fits P t i = leZ (pos t) (P .limit i (level-given P t i))
+
+unfoldable pub qualifies : Plan → ℕ → ℕ → ℕ → ℕ → Bool
+qualifies P t i q r =
+    leZ (pos t) (P .bound i q r) && (leb (P .levels) (suc q) || all-pass (λ j. not (leZ (pos t) (P .limit (i + j) (suc q)))) r)
+
+unfoldable pub left-granted : ℕ → Plan → ℕ → ℕ → ℕ → ℕ
+left-granted cap P t i q = last-passing (λ x. qualifies P t i q (suc x)) (min cap (P .n - i))
+
+-- ---- the run record
+
+pub record Run : Type 0 where
+  pub n : ℕ
+  pub levels : ℕ
+  pub position : ℕ
+  pub clock : ℕ
+  pub running : Bool
+  pub level : ℕ
+  pub left : ℕ
+  pub decisions : ℕ
+  pub overrun : Bool
+  pub late : Bool
+
+-- Fields and ranges: n, L; position 0 to n; clock up to its limit; whether an action runs (only below n); level below L; coast left, 0 to 15
+-- and at most n minus position, less 1 while an action runs; decisions, at most position plus 1 if an action runs; the two marks.
+unfoldable pub in-range : Run → Bool
+in-range r =
+    every
+    (leb 1 (r .n)
+    ∷ leb (r .n) 64
+    ∷ leb 1 (r .levels)
+    ∷ leb (r .levels) 8
+    ∷ leb (r .position) (r .n)
+    ∷ leb (r .clock) 1073741823
+    ∷ leb (r .position + one-if (r .running)) (r .n)
+    ∷ ltb (r .level) (r .levels)
+    ∷ leb (r .left) 15
+    ∷ leb (r .left + (r .position + one-if (r .running))) (r .n)
+    ∷ leb (r .decisions) (r .position + one-if (r .running))
+    ∷ [])
+
+-- A start sets n and L, all else 0 or no.
+unfoldable pub begun : ℕ → ℕ → ℕ → Run
+begun n L t = record
+    { n = n; levels = L; position = 0; clock = t; running = false; level = 0; left = 0; decisions = 0; overrun = false; late = false }
+
+-- A decision takes the level given, leaves r - 1 to coast, counts, and sets the late mark where no level fits.
+abbrev pub decide : ℕ → Plan → Run → Run
+decide cap P r =
+    let q : ℕ = level-given P (r .clock) (r .position) in
+    record {
+      n = r .n;
+      levels = r .levels;
+      position = r .position;
+      clock = r .clock;
+      running = true;
+      level = q;
+      left = left-granted cap P (r .clock) (r .position) q;
+      decisions = suc (r .decisions);
+      overrun = r .overrun;
+      late = r .late || not (fits P (r .clock) (r .position));
+    }
+
+-- A coasted asking gives the same level undecided and lowers what is left by 1.
+abbrev pub coast : Run → Run
+coast r = record {
+  n = r .n;
+  levels = r .levels;
+  position = r .position;
+  clock = r .clock;
+  running = true;
+  level = r .level;
+  left = r .left - 1;
+  decisions = r .decisions;
+  overrun = r .overrun;
+  late = r .late;
+}
+
+-- A decision is made where no coast is left.
+unfoldable pub decides : Run → Bool
+decides r = eqb (r .left) 0
+
+unfoldable pub given : ℕ → Plan → Run → Run
+given cap P r = cond (decides r) (decide cap P r) (coast r)
+
+-- The action's end at clock t, with w its worst time at its level: a duration above w sets the overrun mark and cancels the rest of the coast.
+unfoldable pub ended : ℕ → ℕ → Run → Run
+ended w t r =
+    let over : Bool = ltb w (t - r .clock) in
+    record {
+      n = r .n;
+      levels = r .levels;
+      position = suc (r .position);
+      clock = t;
+      running = false;
+      level = r .level;
+      left = cond over 0 (r .left);
+      decisions = r .decisions;
+      overrun = r .overrun || over;
+      late = r .late;
+    }
+
+-- ---- the calls, on lent tables whoever wrote them
+
+-- the limits, n by L, and the coast bounds, n by L by 16, as lent
+unfoldable pub lent : ℕ → ℕ → List ℤ → List ℤ → Plan
+lent n L limits bounds = record {
+  n = n;
+  levels = L;
+  limit = λ i q. getD limits (i * L + q) (pos 0);
+  bound = λ i q r. getD bounds ((i * L + q) * 16 + (r - 1)) (pos 0);
+}
+
+-- What a start and a report answer: the number of the refusal, 0 for none, and the next record.
+pub record Next : Type 0 where
+  pub number : ℕ
+  pub run : Run
+
+-- What an asking answers: the number and the record as it stood, or action, level, whether decided, late, and the next record.
+pub data Answer : Type 0 where
+  refused : ℕ → Run → Answer
+  gives : ℕ → ℕ → Bool → Bool → Run → Answer
+
+-- Starting a run checks n and L only (3). A refused start gives a record of zero actions.
+unfoldable pub start-refusal : ℕ → ℕ → ℕ
+start-refusal n L = first (3 if (ltb n 1 || ltb 64 n || ltb L 1 || ltb 8 L) ∷ [])
+
+unfoldable pub start : ℕ → ℕ → Next
+start n L = cond (eqb (start-refusal n L) 0) (record { number = 0; run = begun n L 0 }) (record { number = start-refusal n L; run = begun 0 0 0 })
+
+-- Asking: fields out of range 11, room 17, an action runs 11, all done 10.
+unfoldable pub ask-refusal : List ℕ → List ℤ → List ℤ → Run → ℕ
+ask-refusal order limits bounds r =
+    first
+    (11 if not (in-range r)
+    ∷ 17 if (ltb (length order) (r .n) || ltb (length limits) (r .n * r .levels) || ltb (length bounds) (r .n * r .levels * 16))
+    ∷ 11 if r .running
+    ∷ 10 if eqb (r .position) (r .n)
+    ∷ [])
+
+unfoldable pub ask : List ℕ → List ℤ → List ℤ → Run → Answer
+ask order limits bounds r =
+    let P : Plan = lent (r .n) (r .levels) limits bounds in
+    let next : Run = given 16 P r in
+    cond (eqb (ask-refusal order limits bounds r) 0)
+    (gives (getD order (r .position) 0) (next .level) (decides r) (decides r && not (fits P (r .clock) (r .position))) next)
+    (refused (ask-refusal order limits bounds r) r)
+
+-- Reporting an end by the clock t: fields out of range 11, room 17, none runs 11, back 12, above the clock limit 13.
+unfoldable pub report-refusal : List ℕ → ℕ → Run → ℕ
+report-refusal worst t r =
+    first
+    (11 if not (in-range r)
+    ∷ 17 if ltb (length worst) (r .n * r .levels)
+    ∷ 11 if not (r .running)
+    ∷ 12 if ltb t (r .clock)
+    ∷ 13 if ltb 1073741823 t
+    ∷ [])
+
+unfoldable pub report : List ℕ → ℕ → Run → Next
+report worst t r =
+    cond (eqb (report-refusal worst t r) 0)
+    (record { number = 0; run = ended (getD worst (r .position * r .levels + r .level) 0) t r })
+    (record { number = report-refusal worst t r; run = r })
