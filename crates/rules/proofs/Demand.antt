@@ -1,0 +1,5 @@
+pub mod Asked
+pub mod Coast
+pub mod Fewest
+pub mod Steps
+pub mod Record

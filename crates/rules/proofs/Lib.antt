@@ -1,0 +1,4 @@
+pub mod Sums
+pub mod Tests
+pub mod Limits
+pub mod Demand

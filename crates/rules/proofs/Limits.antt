@@ -1,0 +1,5 @@
+pub mod Signed
+pub mod Mixed
+pub mod Rows
+pub mod Shape
+pub mod Range
