@@ -8,3 +8,4 @@ pub mod Dry
 pub mod Speed
 pub mod Refresh
 pub mod Demand
+pub mod Cases

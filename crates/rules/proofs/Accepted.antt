@@ -1,0 +1,111 @@
+-- Of a profile that is not refused: its tables obey the rule and the ranges, refusal 9 is 0 above limit (0, 0), and demand 3 holds.
+-- Assumes nothing.
+use Prim.Native.Nat.{ℕ, zero, suc, _+_, _*_, _≤_, _<_, zero-le}
+use mathlib.Core.Path.{_≡_, refl, sym, subst}
+use mathlib.Core.Bool.{Bool, true, false, cond}
+use mathlib.Core.List.{List}
+use mathlib.Core.Logic.{_⊎_, inl, inr, _↔_}
+use native.Mathlib.Nat.{le-refl, le-trans}
+use native.Mathlib.Decide.{decLe, le-ind}
+use native.Mathlib.Omega.{arith}
+use lib.Dec.{eqb}
+use lib.IntN.{pos}
+use lib.ListN.{getD}
+use lib.Signed.{_≤ℤ_}
+use Rattle.rules.specs.Words.{sum}
+use Rattle.rules.specs.Image.{Profile, due, be, average-of, worst-of, profile}
+use Rattle.rules.specs.Order.{Order, Meets, Before, TheOrder, FitFrom, Fit}
+use Rattle.rules.specs.Limits.{Tables, tables, limit}
+use Rattle.rules.specs.Refusals.{Count, Range, TimeOut, Falls, Table, Looped, Unfit, Accepted}
+use Rattle.rules.specs.Demand.{Safe, Policy, WithinWorst, DemandThree}
+use Rattle.rules.proofs.Sums.{sum-longer}
+use Rattle.rules.proofs.Order.OfProfile.{fit-exact, fit?}
+use Rattle.rules.proofs.Limits.Mixed.{Sound, mixed-passes, mixed-safe}
+use Rattle.rules.proofs.Limits.Shape.{limit-fits, mixed-policy}
+use Rattle.rules.proofs.Limits.Range.{Small}
+use Rattle.rules.proofs.Demand.Record.{demand-three}
+
+-- ---- rule and ranges by position
+
+-- a time that never falls from a level to the next never falls
+rises : (time : ℕ → ℕ) (L : ℕ) → (Falls time L → ⊥) → (q r : ℕ) → q ≤ r → r < L → time q ≤ time r
+rises time L never q r l = le-ind (λ (m : ℕ). m < L → time q ≤ time m) (λ h. le-refl _)
+    (λ m k ih h. le-trans (ih (omega arith)) (up m h)) r l
+  where
+    not-below : {x y : ℕ} → (y < x → ⊥) → x ≤ y
+    not-below n = omega arith
+    up : (m : ℕ) → suc m < L → time m ≤ time (suc m)
+    up m h = not-below (λ e. never (m, h, e))
+
+module _ (F : Profile) (o : Order (F .n)) (counts : Count F → ⊥) where
+  not-out : {x y : ℕ} → (y < x → ⊥) → x ≤ y
+  not-out n = omega arith
+
+  pub some-level : 0 < F .levels
+  some-level = not-out (λ h. counts (inl (inr (inr (inl h)))))
+
+  pub some-action : 0 < F .n
+  some-action = not-out (λ h. counts (inl (inl h)))
+
+  pub tables-sound : (Table F → ⊥) → Sound (tables F o)
+  tables-sound table = record {
+    some-level = some-level;
+    ordered = λ p q l m. not-out (λ h. table (o .at p, o .at-lt p l, inl (q, m, h)));
+    average-rises = λ p q r l a m. rises (F .average (o .at p)) (F .levels) (λ f. table (o .at p, o .at-lt p l, inr (inl f))) q r a m;
+    worst-rises = λ p q r l a m. rises (F .worst (o .at p)) (F .levels) (λ f. table (o .at p, o .at-lt p l, inr (inr f))) q r a m;
+  }
+
+  pub tables-small : (Range F → ⊥) → (TimeOut F → ⊥) → Small (tables F o)
+  unfolding due
+  tables-small range time = record {
+    few = not-out (λ h. counts (inl (inr (inl h))));
+    time = λ p q l m. not-out (λ h. time (o .at p, o .at-lt p l, (q, m, inr h)));
+    due = λ k l. by (eqb (F .deadline (o .at k)) 0) (not-out (λ h. range (o .at k, o .at-lt k l, inl h)));
+  }
+    where
+      cycle-in : F .cycle ≤ 1073741823
+      cycle-in = not-out (λ h. counts (inr (inr h)))
+      by : (b : Bool) {x : ℕ} → x ≤ F .cycle → cond b (F .cycle) x ≤ 1073741823
+      by true h = cycle-in
+      by false h = le-trans h cycle-in
+
+-- ---- refusal 9 and demand 3
+
+module _ {F : Profile} {o : Order (F .n)} (x : TheOrder F o) (counts : Count F → ⊥) (table : Table F → ⊥) where
+  S : Tables
+  S = tables F o
+
+  sound : Sound (tables F o)
+  sound = tables-sound F o counts table
+
+  safe-meets : (t : ℕ) → Safe (tables F o) t 0 0 ↔ Meets t o (λ a. F .worst a 0) (due F)
+  unfolding sum
+  safe-meets t =
+      ( (λ s k b. omega (arith, s k zero-le b, sum-longer (λ p. F .worst (o .at p) 0) 1 (suc k) (omega arith)))
+      , (λ m k a b. omega (arith, m k b, sum-longer (λ p. F .worst (o .at p) 0) 1 (suc k) (omega arith))) )
+
+  -- The order meets all deadlines at level 0 worst times exactly if some permitted order does; equally, t is at most limit (0, 0).
+  pub fit-safe : (t : ℕ) → Safe (tables F o) t 0 0 ↔ FitFrom t F
+  fit-safe t = ((λ s. fit-exact x t .0 (safe-meets t .0 s)), (λ f. safe-meets t .1 (fit-exact x t .1 f)))
+
+  pub fit-limit : (t : ℕ) → (pos t ≤ℤ limit (tables F o) 0 0) ↔ FitFrom t F
+  fit-limit t =
+      let l = some-action F o counts in
+      ( (λ h. fit-safe t .0 (mixed-safe (tables F o) sound t 0 0 l (some-level F o counts) (limit-fits (tables F o) t 0 0 l .0 h)))
+      , (λ f. limit-fits (tables F o) t 0 0 l .1 (mixed-passes (tables F o) sound t 0 l (fit-safe t .1 f))) )
+
+  -- the policy of the rules for F
+  abbrev pub policy : Policy (tables F o)
+  policy = mixed-policy (tables F o) (tables-sound F o counts table)
+
+  -- Demand 3, from any start that fits.
+  pub fit-demand : (t : ℕ) → FitFrom t F → (d : ℕ → ℕ → ℕ) → WithinWorst 16 policy t d → DemandThree 16 policy t d
+  fit-demand t f d within = demand-three 16 (omega arith) (some-level F o counts) policy t d within (fit-safe t .1 f)
+
+-- what is not unfit is fit
+pub not-unfit : (F : Profile) → (Unfit F → ⊥) → Fit F
+not-unfit F h = by (fit? 0 F)
+  where
+    by : Dec (Fit F) → Fit F
+    by (yes f) = f
+    by (no f) = absurd (h f)

@@ -1,0 +1,136 @@
+-- Worked values, those marked as proved: a case is a profile, a question and its reply.
+use Prim.Native.Nat.{ℕ, zero, suc, _+_, _<_}
+use mathlib.Core.Path.{_≡_}
+use mathlib.Core.Bool.{Bool, true, false}
+use mathlib.Core.List.{List, [], _∷_}
+use mathlib.Core.Logic.{_↔_}
+use lib.IntN.{ℤ, pos}
+use lib.ListN.{getD}
+use Rattle.rules.specs.Words.{tab, rows}
+use Rattle.rules.specs.Image.{Profile, image}
+use Rattle.rules.specs.Order.{Order, TheOrder}
+use Rattle.rules.specs.Limits.{tables, limit, planned, Gives, Late}
+use Rattle.rules.specs.Refusals.{First, image-checks}
+use Rattle.rules.specs.Run.{Run}
+use Rattle.rules.specs.Dry.{before, level-of}
+use Rattle.rules.specs.Speed.{Reading, ratio, spent, one, reading}
+
+-- ---- the profiles
+
+-- the first of two values at level 0, the other above
+abbrev pub by-level : ℕ → ℕ → ℕ → ℕ
+by-level low high zero = low
+by-level low high (suc q) = high
+
+-- Three: a chain 0, 1, 2; deadlines 0; each action 2 average, 4 worst at level 0, and 6, 8 at level 1. Its cycle is 20, and others in case 7.
+abbrev pub three : ℕ → Profile
+three cycle = record {
+  n = 3;
+  levels = 2;
+  cycle = cycle;
+  mask = λ a. getD (0 ∷ 1 ∷ 2 ∷ []) a 0;
+  deadline = λ a. 0;
+  average = λ a q. by-level 2 6 q;
+  worst = λ a q. by-level 4 8 q;
+}
+
+-- Case 8: deadlines 9, 6, 5, cycle 9, action 0 before 2, one level, average and worst 2 each.
+abbrev pub eight : Profile
+eight = record {
+  n = 3;
+  levels = 1;
+  cycle = 9;
+  mask = λ a. getD (0 ∷ 0 ∷ 1 ∷ []) a 0;
+  deadline = λ a. getD (9 ∷ 6 ∷ 5 ∷ []) a 0;
+  average = λ a q. 2;
+  worst = λ a q. 2;
+}
+
+-- ---- the questions and what answers them
+
+pub data Question : Type 0 where
+  -- the image that writing packs
+  written : Question
+  -- the number that the image checks give, 0 for none
+  checked : Question
+  -- the actions in their order
+  ordered : Question
+  -- the limits by position and level
+  printed : Question
+  -- the level that the manager gives at a position and time, and whether it is late
+  asked : ℕ → ℕ → Question
+  -- the levels, decisions and end of a dry run over a duration for each position, the same at every level
+  run : List ℕ → Question
+  -- the speed reading of positions i to k, level q and time t
+  read : ℕ → ℕ → ℕ → ℕ → Question
+
+abbrev pub Reply : Question → Type 0
+Reply written = List ℕ
+Reply checked = ℕ
+Reply ordered = List ℕ
+Reply printed = List ℤ
+Reply (asked i t) = ℕ × Bool
+Reply (run durations) = List ℕ × ℕ × ℕ
+Reply (read i k q t) = Reading
+
+abbrev pub Answers : (F : Profile) (question : Question) → Reply question → Type 0
+Answers F written reply = image F ≡ reply
+Answers F checked reply = First (image-checks (image F)) reply
+Answers F ordered reply = (o : Order (F .n)) × TheOrder F o × (tab (o .at) (F .n) ≡ reply)
+Answers F printed reply = (o : Order (F .n)) × TheOrder F o × (rows (limit (tables F o)) (F .n) (F .levels) ≡ reply)
+Answers F (asked i t) reply =
+    (o : Order (F .n)) × TheOrder F o × (Gives (planned (tables F o)) t i (reply .0) × ((reply .1 ≡ true) ↔ Late (planned (tables F o)) t i))
+Answers F (run durations) reply =
+    (o : Order (F .n)) × TheOrder F o
+    × (let S = tables F o in
+      let d : ℕ → ℕ → ℕ = λ i q. getD durations i 0 in
+      let end : Run = before 16 (planned S) (S .worst) d 0 (S .n) in
+      (tab (level-of 16 (planned S) (S .worst) d 0) (S .n) ≡ reply .0) × ((end .decisions ≡ reply .1) × (end .clock ≡ reply .2)))
+Answers F (read i k q t) reply = (o : Order (F .n)) × TheOrder F o × (reading (tables F o) i k q t ≡ reply)
+
+pub record Case : Type 0 where
+  pub profile : Profile
+  pub question : Question
+  pub reply : Reply question
+
+-- ---- the cases
+
+abbrev pub of : (F : Profile) (question : Question) → Reply question → Case
+of F question reply = record { profile = F; question = question; reply = reply }
+
+-- an action's record of Three after its mask: no deadline, then average and worst by level
+abbrev pub times : List ℕ → List ℕ
+times rest = 0 ∷ 0 ∷ 0 ∷ 0 ∷ 0x00 ∷ 0x00 ∷ 0x02 ∷ 0x00 ∷ 0x00 ∷ 0x04 ∷ 0x00 ∷ 0x00 ∷ 0x06 ∷ 0x00 ∷ 0x00 ∷ 0x08 ∷ rest
+
+abbrev pub mask-bytes : ℕ → List ℕ → List ℕ
+mask-bytes last rest = 0 ∷ 0 ∷ 0 ∷ 0 ∷ 0 ∷ 0 ∷ 0 ∷ last ∷ rest
+
+abbrev pub cases : List Case
+cases =
+    of (three 20) written (0x10 ∷ 0x64 ∷ 0x00 ∷ 0x00 ∷ 0x00 ∷ 0xA0 ∷ mask-bytes 0 (times (mask-bytes 1 (times (mask-bytes 2 (times []))))))
+    ∷ of (three 20) printed (pos 8 ∷ pos 0 ∷ pos 12 ∷ pos 6 ∷ pos 16 ∷ pos 12 ∷ [])
+    -- 1 to 3
+    ∷ of (three 20) (run (6 ∷ 8 ∷ 4 ∷ [])) (1 ∷ 1 ∷ 0 ∷ [], 3, 18)
+    ∷ of (three 20) (run (0 ∷ 8 ∷ 8 ∷ [])) (1 ∷ 1 ∷ 1 ∷ [], 2, 16)
+    ∷ of (three 20) (run (8 ∷ 4 ∷ 8 ∷ [])) (1 ∷ 0 ∷ 1 ∷ [], 3, 20)
+    -- 4 and 5
+    ∷ of (three 20) (asked 1 6) (1, false)
+    ∷ of (three 20) (asked 1 7) (0, false)
+    ∷ of (three 20) (asked 1 12) (0, false)
+    ∷ of (three 20) (asked 1 13) (0, true)
+    -- 6
+    ∷ of (three 20) (read 0 2 1 0) (ratio one)
+    ∷ of (three 20) (read 0 2 1 18) spent
+    -- 7
+    ∷ of (three 20) checked 0
+    ∷ of (three 12) checked 0
+    ∷ of (three 11) checked 9
+    -- 8
+    ∷ of eight ordered (0 ∷ 2 ∷ 1 ∷ [])
+    ∷ of eight checked 0
+    ∷ []
+
+-- every listed case holds
+abbrev pub AllHold : List Case → Type 0
+AllHold [] = Unit {0}
+AllHold (c ∷ cs) = Answers (c .profile) (c .question) (c .reply) × AllHold cs

@@ -1,0 +1,4 @@
+pub mod Cases
+pub mod Bits
+pub mod Laws
+pub mod Members
