@@ -19,6 +19,7 @@ use Rattle.rules.specs.Limits.{Tables, tables, limit}
 use Rattle.rules.specs.Refusals.{Count, Range, TimeOut, Falls, Table, Looped, Unfit, Accepted}
 use Rattle.rules.specs.Demand.{Safe, Policy, WithinWorst, DemandThree}
 use Rattle.rules.proofs.Sums.{sum-longer}
+use Rattle.rules.proofs.Refusals.{accepted-sound}
 use Rattle.rules.proofs.Order.OfProfile.{fit-exact, fit?}
 use Rattle.rules.proofs.Limits.Mixed.{Sound, mixed-passes, mixed-safe}
 use Rattle.rules.proofs.Limits.Shape.{limit-fits, mixed-policy}
@@ -34,6 +35,7 @@ rises time L never q r l = le-ind (λ (m : ℕ). m < L → time q ≤ time m) (�
   where
     not-below : {x y : ℕ} → (y < x → ⊥) → x ≤ y
     not-below n = omega arith
+
     up : (m : ℕ) → suc m < L → time m ≤ time (suc m)
     up m h = not-below (λ e. never (m, h, e))
 
@@ -65,6 +67,7 @@ module _ (F : Profile) (o : Order (F .n)) (counts : Count F → ⊥) where
     where
       cycle-in : F .cycle ≤ 1073741823
       cycle-in = not-out (λ h. counts (inr (inr h)))
+
       by : (b : Bool) {x : ℕ} → x ≤ F .cycle → cond b (F .cycle) x ≤ 1073741823
       by true h = cycle-in
       by false h = le-trans h cycle-in
@@ -80,9 +83,10 @@ module _ {F : Profile} {o : Order (F .n)} (x : TheOrder F o) (counts : Count F �
 
   safe-meets : (t : ℕ) → Safe (tables F o) t 0 0 ↔ Meets t o (λ a. F .worst a 0) (due F)
   unfolding sum
-  safe-meets t =
-      ( (λ s k b. omega (arith, s k zero-le b, sum-longer (λ p. F .worst (o .at p) 0) 1 (suc k) (omega arith)))
-      , (λ m k a b. omega (arith, m k b, sum-longer (λ p. F .worst (o .at p) 0) 1 (suc k) (omega arith))) )
+  safe-meets t = (
+    (λ s k b. omega (arith, s k zero-le b, sum-longer (λ p. F .worst (o .at p) 0) 1 (suc k) (omega arith))),
+    (λ m k a b. omega (arith, m k b, sum-longer (λ p. F .worst (o .at p) 0) 1 (suc k) (omega arith))),
+  )
 
   -- The order meets all deadlines at level 0 worst times exactly if some permitted order does; equally, t is at most limit (0, 0).
   pub fit-safe : (t : ℕ) → Safe (tables F o) t 0 0 ↔ FitFrom t F
@@ -90,9 +94,10 @@ module _ {F : Profile} {o : Order (F .n)} (x : TheOrder F o) (counts : Count F �
 
   pub fit-limit : (t : ℕ) → (pos t ≤ℤ limit (tables F o) 0 0) ↔ FitFrom t F
   fit-limit t =
-      let l = some-action F o counts in
-      ( (λ h. fit-safe t .0 (mixed-safe (tables F o) sound t 0 0 l (some-level F o counts) (limit-fits (tables F o) t 0 0 l .0 h)))
-      , (λ f. limit-fits (tables F o) t 0 0 l .1 (mixed-passes (tables F o) sound t 0 l (fit-safe t .1 f))) )
+      let l = some-action F o counts in (
+        (λ h. fit-safe t .0 (mixed-safe (tables F o) sound t 0 0 l (some-level F o counts) (limit-fits (tables F o) t 0 0 l .0 h))),
+        (λ f. limit-fits (tables F o) t 0 0 l .1 (mixed-passes (tables F o) sound t 0 l (fit-safe t .1 f))),
+      )
 
   -- the policy of the rules for F
   abbrev pub policy : Policy (tables F o)
@@ -109,3 +114,11 @@ not-unfit F h = by (fit? 0 F)
     by : Dec (Fit F) → Fit F
     by (yes f) = f
     by (no f) = absurd (h f)
+
+-- Demand 3 of an accepted image.
+pub accepted-demand : (s : List ℕ) (a : Accepted s) {o : Order (profile s .n)} (x : TheOrder (profile s) o)
+    → let P = policy x (accepted-sound s .0 a .not-count) (accepted-sound s .0 a .not-table) in
+    (d : ℕ → ℕ → ℕ) → WithinWorst 16 P 0 d → DemandThree 16 P 0 d
+accepted-demand s a x =
+    let h = accepted-sound s .0 a in
+    fit-demand x (h .not-count) (h .not-table) 0 (not-unfit (profile s) (h .not-unfit))

@@ -142,6 +142,7 @@ ended-in-range w t r F runs h = by (ltb w (t - r .clock))
   where
     one-runs : one-if (r .running) ≡ 1
     one-runs = ap one-if runs
+
     by : (b : Bool) → InRange (record {
       n = r .n;
       levels = r .levels;
@@ -209,14 +210,14 @@ module _ (order : List ℕ) (limits bounds : List ℤ) (r : Run) (F : InRange r)
   pub ask-accepted : r .n ≤ length order → r .n * r .levels ≤ length limits → r .n * r .levels * 16 ≤ length bounds
       → r .running ≡ false → r .position < r .n
       → let P = lent (r .n) (r .levels) limits bounds in
-        ask order limits bounds r
-        ≡ Answer.gives (getD order (r .position) 0) (given 16 P r .level) (decides r) (decides r && not (fits P (r .clock) (r .position))) (given 16 P r)
+      ask order limits bounds r
+      ≡ Answer.gives (getD order (r .position) 0) (given 16 P r .level) (decides r) (decides r && not (fits P (r .clock) (r .position))) (given 16 P r)
   unfolding ask
   ask-accepted a b c waits more =
       let P = lent (r .n) (r .levels) limits bounds in
       ap (λ (k : ℕ). cond (eqb k 0)
-        (Answer.gives (getD order (r .position) 0) (given 16 P r .level) (decides r) (decides r && not (fits P (r .clock) (r .position))) (given 16 P r))
-        (Answer.refused k r)) (ask-refusal-none a b c waits more)
+      (Answer.gives (getD order (r .position) 0) (given 16 P r .level) (decides r) (decides r && not (fits P (r .clock) (r .position))) (given 16 P r))
+      (Answer.refused k r)) (ask-refusal-none a b c waits more)
 
 module _ (worst : List ℕ) (t : ℕ) (r : Run) (F : InRange r) where
   report-refusal-none : r .n * r .levels ≤ length worst → r .running ≡ true → r .clock ≤ t → t ≤ 1073741823 → report-refusal worst t r ≡ 0
@@ -231,8 +232,8 @@ module _ (worst : List ℕ) (t : ℕ) (r : Run) (F : InRange r) where
   unfolding report
   report-accepted a runs b c =
       ap (λ (k : ℕ). cond {A = Next} (eqb k 0)
-        (record { number = 0; run = ended (getD worst (r .position * r .levels + r .level) 0) t r })
-        (record { number = k; run = r })) (report-refusal-none a runs b c)
+      (record { number = 0; run = ended (getD worst (r .position * r .levels + r .level) 0) t r })
+      (record { number = k; run = r })) (report-refusal-none a runs b c)
 
 -- ---- a whole cycle by the calls
 
@@ -244,8 +245,8 @@ pub data Called (order : List ℕ) (limits bounds : List ℤ) (worst : List ℕ)
       → report worst (s .clock + d (s .position) q) s′ ≡ record { number = 0; run = s″ } → Called order limits bounds worst d r (suc i) s″
 
 module _ (n L : ℕ) (order : List ℕ) (limits bounds : List ℤ) (worst : List ℕ) (d : ℕ → ℕ → ℕ)
-  (counts : InRange (begun n L 0)) (orders : n ≤ length order) (limited : n * L ≤ length limits) (bounded : n * L * 16 ≤ length bounds)
-  (timed : n * L ≤ length worst) (short : (p q : ℕ) → p < n → q < L → d p q ≤ 16777215) where
+    (counts : InRange (begun n L 0)) (orders : n ≤ length order) (limited : n * L ≤ length limits) (bounded : n * L * 16 ≤ length bounds)
+    (timed : n * L ≤ length worst) (short : (p q : ℕ) → p < n → q < L → d p q ≤ 16777215) where
   P : Plan
   P = lent n L limits bounds
 
@@ -329,7 +330,7 @@ module _ (n L : ℕ) (order : List ℕ) (limits bounds : List ℤ) (worst : List
   unfolding next P
   asked-at i l =
       ask-accepted order limits bounds (at i) (good i (omega arith) .ranges) (omega (arith, n-at i)) (omega (arith, cells i)) (omega (arith, cells i))
-        (waits i) (omega (arith, n-at i, position-at i))
+      (waits i) (omega (arith, n-at i, position-at i))
       ∙ ap (λ (m : ℕ). with-plan (lent m (at i .levels) limits bounds)) (n-at i)
       ∙ ap (λ (m : ℕ). with-plan (lent n m limits bounds)) (levels-at i)
     where
@@ -342,7 +343,7 @@ module _ (n L : ℕ) (order : List ℕ) (limits bounds : List ℤ) (worst : List
       let g = good i (omega arith) in
       let S = same i l g in
       report-accepted worst (end i) (next i) (in-turn i l g) (omega (arith, cells i, ap (λ (x : ℕ). x * next i .levels) (S .n), ap (λ (x : ℕ). at i .n * x) (S .levels)))
-        (runs i) (omega (arith, S .clock)) (ends-in-range i l g)
+      (runs i) (omega (arith, S .clock)) (ends-in-range i l g)
       ∙ ap (λ (k : ℕ). record { number = 0; run = ended (getD worst (k * next i .levels + next i .level) 0) (end i) (next i) }) (S .position)
       ∙ ap (λ (k : ℕ). record { number = 0; run = ended (getD worst (at i .position * k + next i .level) 0) (end i) (next i) }) (S .levels ∙ levels-at i)
 

@@ -1,7 +1,14 @@
 pub mod Sums
+pub mod Terms
 pub mod Tests
+pub mod Differences
+pub mod Refusals
 pub mod Order
 pub mod Limits
+pub mod Margin
 pub mod Demand
 pub mod Calls
 pub mod Accepted
+pub mod Speed
+pub mod Refresh
+pub mod Cases

@@ -66,6 +66,7 @@ last-is test (suc m) = go (test m) refl (last-is test m)
         at : Dec (y < m) → y < m
         at (yes k) = k
         at (no k) = let e : y ≡ m = le-antisymm (omega arith) (omega arith) in absurd (not-both (subst (λ (z : ℕ). test z ≡ true) e h) f)
+
     go : (b : Bool) → test m ≡ b → Last test m (last-passing test m) → Last test (suc m) (cond b m (last-passing test m))
     go true e ih = record {
       below = λ h. le-refl _;
@@ -82,6 +83,7 @@ last-is test (suc m) = go (test m) refl (last-is test m)
         low x (yes k) = omega (arith, ih .below k)
         low (inl x) (no k) = let z : m ≡ 0 = omega arith in subst (λ (y : ℕ). last-passing test y < suc y) (sym z) (le-refl 1)
         low (inr x) (no k) = omega (arith, x .0)
+
         still : (test (last-passing test m) ≡ true) ⊎ ((last-passing test m ≡ 0) × ((y : ℕ) → y < m → test y ≡ true → ⊥))
             → (test (last-passing test m) ≡ true) ⊎ ((last-passing test m ≡ 0) × ((y : ℕ) → y < suc m → test y ≡ true → ⊥))
         still (inl x) = inl x

@@ -83,9 +83,9 @@ Answers F (asked i t) reply =
 Answers F (run durations) reply =
     (o : Order (F .n)) × TheOrder F o
     × (let S = tables F o in
-      let d : ℕ → ℕ → ℕ = λ i q. getD durations i 0 in
-      let end : Run = before 16 (planned S) (S .worst) d 0 (S .n) in
-      (tab (level-of 16 (planned S) (S .worst) d 0) (S .n) ≡ reply .0) × ((end .decisions ≡ reply .1) × (end .clock ≡ reply .2)))
+    let d : ℕ → ℕ → ℕ = λ i q. getD durations i 0 in
+    let end : Run = before 16 (planned S) (S .worst) d 0 (S .n) in
+    (tab (level-of 16 (planned S) (S .worst) d 0) (S .n) ≡ reply .0) × ((end .decisions ≡ reply .1) × (end .clock ≡ reply .2)))
 Answers F (read i k q t) reply = (o : Order (F .n)) × TheOrder F o × (reading (tables F o) i k q t ≡ reply)
 
 pub record Case : Type 0 where

@@ -106,6 +106,18 @@ profile s = record {
   worst = worst-of s;
 }
 
+-- What the tables of masks, deadlines, averages and worst times say, the times by action, then level.
+unfoldable pub of-tables : ℕ → ℕ → ℕ → List ℕ → List ℕ → List ℕ → List ℕ → Profile
+of-tables n L cycle masks deadlines averages worst = record {
+  n = n;
+  levels = L;
+  cycle = cycle;
+  mask = λ a. getD masks a 0;
+  deadline = λ a. getD deadlines a 0;
+  average = λ a q. getD averages (a * L + q) 0;
+  worst = λ a q. getD worst (a * L + q) 0;
+}
+
 -- the header's 48 bits of version 1, spare bits zero
 unfoldable pub header-of : Profile → ℕ
 header-of F = ((1 * 2 ^ 7 + F .n) * 2 ^ 4 + F .levels) * 2 ^ 33 + F .cycle * 2 ^ 3

@@ -29,6 +29,7 @@ module _ (P : Plan) where
         where
           le-of-not : (x < y → ⊥) → y ≤ x
           le-of-not n = omega arith
+
       go : (pos t ≤ℤ P .limit i q) ⊎ (q ≡ 0) → (pos t ≤ℤ P .limit i r) ⊎ (r ≡ 0) → q ≡ r
       go (inl a) (inl b) = le-antisymm (below h g a) (below g h b)
       go (inl a) (inr b) = omega (arith, below h g a)
@@ -46,8 +47,10 @@ module _ (P : Plan) where
     where
       test : ℕ → Bool
       test q = leZ (pos t) (P .limit i q)
+
       found : Last test (P .levels) (last-passing test (P .levels))
       found = last-is test (P .levels)
+
       at : (test (last-passing test (P .levels)) ≡ true) ⊎ ((last-passing test (P .levels) ≡ 0) × ((y : ℕ) → y < P .levels → test y ≡ true → ⊥))
           → (pos t ≤ℤ P .limit i (last-passing test (P .levels))) ⊎ (last-passing test (P .levels) ≡ 0)
       at (inl h) = inl (test-fits t i _ .0 h)
@@ -60,10 +63,13 @@ module _ (P : Plan) where
     where
       test : ℕ → Bool
       test q = leZ (pos t) (P .limit i q)
+
       x : ℕ
       x = last-passing test (P .levels)
+
       found : Last test (P .levels) x
       found = last-is test (P .levels)
+
       there : (test x ≡ true) ⊎ ((x ≡ 0) × ((y : ℕ) → y < P .levels → test y ≡ true → ⊥)) → test x ≡ false → Late P t i
       there (inl h) e q l f = not-both h e
       there (inr h) e q l f = h .1 q l (test-fits t i q .1 f)
@@ -113,16 +119,22 @@ module _ (P : Plan) where
       where
         test : ℕ → Bool
         test x = qualifies P t i q (suc x)
+
         m : ℕ
         m = min cap (P .n - i)
+
         y : ℕ
         y = last-passing test m
+
         found : Last test m y
         found = last-is test m
+
         one-less : (x : ℕ) → 0 < x → suc (x - 1) ≡ x
         one-less x h = omega arith
+
         passing : (x : ℕ) → Qualifies cap P t i q x → test (x - 1) ≡ true
         passing x Q = subst (λ (z : ℕ). qualifies P t i q z ≡ true) (sym (one-less x (Q .some))) (passes-qualifies x (Q .under, Q .above))
+
         at : (test y ≡ true) ⊎ ((y ≡ 0) × ((x : ℕ) → x < m → test x ≡ true → ⊥)) → Qualifies cap P t i q (suc y) ⊎ ((suc y ≡ 1) × ((x : ℕ) → Qualifies cap P t i q x → ⊥))
         at (inl h) = let p = qualifies-passes (suc y) h in inl (record {
           some = omega arith;
@@ -132,6 +144,7 @@ module _ (P : Plan) where
           above = p .1;
         })
         at (inr h) = inr (ap suc (h .0), λ x Q. h .1 (x - 1) (omega (arith, Q .some, Q .most, Q .room)) (passing x Q))
+
         over : (x : ℕ) → Qualifies cap P t i q x → Dec (x < suc (suc y)) → x ≤ suc y
         over x Q (yes k) = omega arith
         over x Q (no k) = absurd (found .none-above (x - 1) (omega arith) (omega (arith, Q .some, Q .most, Q .room)) (passing x Q))

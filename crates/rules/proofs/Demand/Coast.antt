@@ -39,9 +39,11 @@ module _ {S : Tables} (P : Policy S) where
 
   pub step-safe : (t d i q : ℕ) → i < S .n → q < S .levels → Fits t i q → d ≤ S .worst i q → Safe S (t + d) (suc i) 0
   unfolding sum
-  step-safe t d i q l m f w k le lt = omega (arith
-    , P .is-safe t i q l m f k (omega arith) lt
-    , sum-longer (λ p. S .worst p 0) (suc (suc i)) (suc k) (omega arith))
+  step-safe t d i q l m f w k le lt = omega (
+    arith,
+    P .is-safe t i q l m f k (omega arith) lt,
+    sum-longer (λ p. S .worst p 0) (suc (suc i)) (suc k) (omega arith),
+  )
 
   -- ---- the test for a coast
 
@@ -62,7 +64,7 @@ module _ {S : Tables} (P : Policy S) where
   pub bounded-steady : {t i q r : ℕ} → q < S .levels → i + r ≤ S .n → Bounded t i q r → Steady P t i q r
   bounded-steady {t} {i} {q} {r} top room b = record {
     same = λ e h j l m. between top room b (t + span e i j) j l m (omega arith)
-      (omega (arith, span-less e (λ p. S .worst p q) i j l (λ p a c. h p a (omega arith))));
+        (omega (arith, span-less e (λ p. S .worst p q) i j l (λ p a c. h p a (omega arith))));
   }
 
   -- the worst times at level 0 still fit after worst times at q
@@ -70,11 +72,13 @@ module _ {S : Tables} (P : Policy S) where
       → (j : ℕ) → i ≤ j → j ≤ i + r → Safe S (t + span (λ p. S .worst p q) i j) j 0
   unfolding sum
   steady-safe {t} {i} {q} {r} room s st j l = le-ind (λ (m : ℕ). m ≤ i + r → Safe S (t + span (λ p. S .worst p q) i m) m 0)
-    (λ h k a c. omega (arith, s k a c))
-    (λ m k ih h x a c. omega (arith
-      , step-safe (t + span (λ p. S .worst p q) i m) (S .worst m q) m q (omega arith) (at-worst m k h .level)
-        (gives-fits (omega arith) (ih (omega arith)) (at-worst m k h)) (le-refl _) x a c
-      , sum-longer (λ p. S .worst p q) i m k)) j l
+      (λ h k a c. omega (arith, s k a c))
+      (λ m k ih h x a c. omega (
+        arith,
+        step-safe (t + span (λ p. S .worst p q) i m) (S .worst m q) m q (omega arith) (at-worst m k h .level)
+            (gives-fits (omega arith) (ih (omega arith)) (at-worst m k h)) (le-refl _) x a c,
+        sum-longer (λ p. S .worst p q) i m k,
+      )) j l
     where
       at-worst : (m : ℕ) → i ≤ m → m < i + r → Gives (plan-of P) (t + span (λ p. S .worst p q) i m) m q
       at-worst m a c = st .same (λ p. S .worst p q) (λ p x y. le-refl _) m a c
@@ -87,6 +91,7 @@ module _ {S : Tables} (P : Policy S) where
     where
       none : (j : ℕ) → sum j (λ p. 0) ≡ 0
       none j = sum-none j (λ p. 0) (λ a l. refl)
+
       at-zero : (j : ℕ) → i ≤ j → j < i + r → Gives (plan-of P) (t + span (λ p. 0) i j) j q
       at-zero j l m = st .same (λ p. 0) (λ p x y. omega arith) j l m
 
@@ -99,11 +104,12 @@ module _ {S : Tables} (P : Policy S) where
   pub bound-exact : (t i q r : ℕ) → 0 < r → i + r ≤ S .n
       → (pos t ≤ℤ coast-bound S (P .limit) i q r) ↔ ((j : ℕ) → i ≤ j → j < i + r → Fits (t + span (λ p. S .worst p q) i j) j q)
   unfolding coast-bound
-  bound-exact t i q r some room = rw (le-ltb (S .n - i) r (omega arith))
-      ( (λ h j a b. time-less t (P .limit j q) (span (λ p. S .worst p q) i j) .0
-          (time-at-most t (f j) .1 (least-all f t 0 i (r - 1) (time-at-most t (least-of f i (r - 1)) .0 h) j a (omega arith))))
-      , (λ h. time-at-most t (least-of f i (r - 1)) .1 (all-least f t 0 i (r - 1)
-          (λ j a b. time-at-most t (f j) .0 (time-less t (P .limit j q) (span (λ p. S .worst p q) i j) .1 (h j a (omega arith))))))  )
+  bound-exact t i q r some room = rw (le-ltb (S .n - i) r (omega arith)) (
+    (λ h j a b. time-less t (P .limit j q) (span (λ p. S .worst p q) i j) .0
+        (time-at-most t (f j) .1 (least-all f t 0 i (r - 1) (time-at-most t (least-of f i (r - 1)) .0 h) j a (omega arith)))),
+    (λ h. time-at-most t (least-of f i (r - 1)) .1 (all-least f t 0 i (r - 1)
+        (λ j a b. time-at-most t (f j) .0 (time-less t (P .limit j q) (span (λ p. S .worst p q) i j) .1 (h j a (omega arith)))))),
+  )
     where
       f : ℕ → ℤ
       f j = P .limit j q -ℤ pos (span (λ p. S .worst p q) i j)

@@ -27,7 +27,7 @@ module _ {S : Tables} (cap : ℕ) (some-coast : 0 < cap) (P : Policy S) where
   one-qualifies : {t i q : ℕ} → i < S .n → Safe S t i 0 → Gives (plan-of P) t i q → Qualifies cap (plan-of P) t i q 1
   one-qualifies {t} {i} {q} l s g = bounded-qualifies P (omega arith) some-coast (omega arith) (record {
     under = λ j a b. subst (λ (x : ℕ). Fits P (t + span (λ p. S .worst p q) i x) x q) (le-antisymm a (omega arith))
-      (sooner _ t (P .limit i q) (omega arith) (gives-fits P l s g));
+        (sooner _ t (P .limit i q) (omega arith) (gives-fits P l s g));
     above = λ j a b c f. g .none-above (suc q) (le-refl _) c (subst (λ (x : ℕ). Fits P t x (suc q)) (le-antisymm (omega arith) a) f);
   })
 
@@ -48,9 +48,13 @@ module _ {S : Tables} (cap : ℕ) (some-coast : 0 < cap) (P : Policy S) where
         → (j : ℕ) → i ≤ j → j ≤ i + r → clock t₀ d j ≤ clock t₀ d i + span (λ p. S .worst p q) i j
     unfolding sum
     along {i} {q} {r} top room b w j l = le-ind (λ (m : ℕ). m ≤ i + r → clock t₀ d m ≤ clock t₀ d i + span (λ p. S .worst p q) i m)
-      (λ h. omega arith)
-      (λ m k ih h. omega (arith, ih (omega arith), sum-longer (λ p. S .worst p q) i m k
-        , w m k h (between P top room b (clock t₀ d m) m k h (omega (arith, sum-longer d i m k)) (ih (omega arith))))) j l
+        (λ h. omega arith)
+        (λ m k ih h. omega (
+          arith,
+          ih (omega arith),
+          sum-longer (λ p. S .worst p q) i m k,
+          w m k h (between P top room b (clock t₀ d m) m k h (omega (arith, sum-longer d i m k)) (ih (omega arith))),
+        )) j l
 
     along-gives : {i q r : ℕ} → q < S .levels → i + r ≤ S .n → Bounded P (clock t₀ d i) i q r → Slow i q r
         → (j : ℕ) → i ≤ j → j < i + r → Gives (plan-of P) (clock t₀ d j) j q
@@ -62,8 +66,8 @@ module _ {S : Tables} (cap : ℕ) (some-coast : 0 < cap) (P : Policy S) where
         → (k x : ℕ) → i ≤ k → k < i + r → k + x ≡ i + r → Bounded P (clock t₀ d k) k q x
     rest {i} {q} {r} top room b w k x l m e = record {
       under = λ j a c. sooner _ _ (P .limit j q)
-        (omega (arith, along top room b w k l (omega arith), sum-longer (λ p. S .worst p q) i k l, sum-longer (λ p. S .worst p q) k j a))
-        (b .under j (omega arith) (omega arith));
+          (omega (arith, along top room b w k l (omega arith), sum-longer (λ p. S .worst p q) i k l, sum-longer (λ p. S .worst p q) k j a))
+          (b .under j (omega arith) (omega arith));
       above = λ j a c h f. b .above j (omega arith) (omega arith) h (sooner _ _ (P .limit j (suc q)) (omega (arith, sum-longer d i k l)) f);
     }
 
@@ -72,9 +76,11 @@ module _ {S : Tables} (cap : ℕ) (some-coast : 0 < cap) (P : Policy S) where
         → ((j : ℕ) → j < S .n → d j ≤ S .worst j (got j)) → Safe S (clock t₀ d i) i 0 → Safe S (clock t₀ d k) k 0
     unfolding sum
     safe-on got i k l room g w s = le-ind (λ (m : ℕ). m ≤ k → Safe S (clock t₀ d m) m 0) (λ h. s)
-      (λ m a ih h x b c. omega (arith
-        , step-safe P (clock t₀ d m) (d m) m (got m) (omega arith) (g m a h .level) (gives-fits P (omega arith) (ih (omega arith)) (g m a h)) (w m (omega arith)) x b c))
-      k l (le-refl k)
+        (λ m a ih h x b c. omega (
+          arith,
+          step-safe P (clock t₀ d m) (d m) m (got m) (omega arith) (g m a h .level) (gives-fits P (omega arith) (ih (omega arith)) (g m a h)) (w m (omega arith)) x b c,
+        ))
+        k l (le-refl k)
 
     module _ (got : ℕ → ℕ) (within : (j : ℕ) → j < S .n → d j ≤ S .worst j (got j)) where
       -- Each action gets the level that a manager asked before every action would give.
@@ -86,10 +92,12 @@ module _ {S : Tables} (cap : ℕ) (some-coast : 0 < cap) (P : Policy S) where
         where
           Q : Qualifies cap (plan-of P) (clock t₀ d i) i q r
           Q = grants-qualifies l s g gr
+
           here : (x : ℕ) → i ≤ x → x < i + r → Gives (plan-of P) (clock t₀ d x) x (got x)
           here x b c = subst (λ (y : ℕ). Gives (plan-of P) (clock t₀ d x) x y) (sym (same x b c))
-            (along-gives (g .level) (Q .room) (qualifies-bounded P Q)
+              (along-gives (g .level) (Q .room) (qualifies-bounded P Q)
               (λ y u v _. subst (λ (z : ℕ). d y ≤ S .worst y z) (same y u v) (within y (omega (arith, Q .room)))) x b c)
+
           go : Dec (j < i + r) → (i + r ≤ j → Gives (plan-of P) (clock t₀ d j) j (got j)) → Gives (plan-of P) (clock t₀ d j) j (got j)
           go (yes c) ih = here j a c
           go (no c) ih = ih (omega arith)
@@ -99,10 +107,11 @@ module _ {S : Tables} (cap : ℕ) (some-coast : 0 < cap) (P : Policy S) where
       cycle-way (Cycle.over e) s = Way.over e
       cycle-way (Cycle.decide {i = i} q r l g gr same cycle) s = Way.decide r coast
           (cycle-way cycle (safe-on got i (i + r) (omega arith) (Q .room)
-            (λ j a b. same-levels (Cycle.decide q r l g gr same cycle) s j a (omega (arith, Q .room))) within s))
+          (λ j a b. same-levels (Cycle.decide q r l g gr same cycle) s j a (omega (arith, Q .room))) within s))
         where
           Q : Qualifies cap (plan-of P) (clock t₀ d i) i q r
           Q = grants-qualifies l s g gr
+
           coast : Coast cap P (clock t₀ d i) i r
           coast = record {
             level = q;
@@ -119,10 +128,11 @@ module _ {S : Tables} (cap : ℕ) (some-coast : 0 < cap) (P : Policy S) where
             → (x : ℕ) → i + x ≡ k + r → Qualifies cap (plan-of P) (clock t₀ d i) i q x
         overtaken {k} {r} {i} {q} c a b g x e = bounded-qualifies P (omega arith) (omega (arith, c .most)) (omega (arith, c .room))
             (subst (λ (y : ℕ). Bounded P (clock t₀ d i) i y x) (gives-one (plan-of P) (along-gives (c .decided .level) (c .room) bounded slow i a b) g)
-              (rest (c .decided .level) (c .room) bounded slow i x a b e))
+            (rest (c .decided .level) (c .room) bounded slow i x a b e))
           where
             bounded : Bounded P (clock t₀ d k) k (c .level) r
             bounded = steady-bounded P (c .room) (safe-at k (omega (arith, c .room))) (c .steady)
+
             slow : Slow k (c .level) r
             slow j u v h = subst (λ (z : ℕ). d j ≤ S .worst j z) (gives-one (plan-of P) (gives j (omega (arith, c .room))) h) (within j (omega (arith, c .room)))
 
@@ -151,7 +161,9 @@ module _ {S : Tables} (cap : ℕ) (some-coast : 0 < cap) (P : Policy S) where
     where
       start : Safe S (clock t₀ d 0) 0 0
       start k a b = omega (arith, begins k a b)
+
       asked : (j : ℕ) → j < S .n → Gives (plan-of P) (clock t₀ d j) j (got j)
       asked j l = same-levels t₀ d got within cycle start j zero-le l
+
       safe-at : (j : ℕ) → j ≤ S .n → Safe S (clock t₀ d j) j 0
       safe-at j l = safe-on t₀ d got 0 j zero-le l (λ x a b. asked x (omega arith)) within start

@@ -58,8 +58,11 @@ module _ (cap : ℕ) (P : Plan) where
     pub clock-is : (i : ℕ) → before cap P w d t i .clock ≡ clock t (took cap P w d t) i
     unfolding before begun step ended sum
     clock-is zero = omega arith
-    clock-is (suc i) = omega (arith, clock-is i
-      , ap (λ (p : ℕ). d p (given cap P (before cap P w d t i) .level)) (position-is i))
+    clock-is (suc i) = omega (
+      arith,
+      clock-is i,
+      ap (λ (p : ℕ). d p (given cap P (before cap P w d t i) .level)) (position-is i),
+    )
 
     pub n-is : (i : ℕ) → before cap P w d t i .n ≡ P .n
     unfolding before begun step ended
@@ -93,7 +96,7 @@ module _ {S : Tables} (cap : ℕ) (some-coast : 0 < cap) (some-level : 0 < S .le
   unfolding at before step ended
   none-over i l = slow (at i .clock) (given cap (plan-of P) (at i) .clock) (given-same cap (plan-of P) (at i) .clock)
       (subst (λ (p : ℕ). d p (given cap (plan-of P) (at i) .level) ≤ S .worst p (given cap (plan-of P) (at i) .level))
-        (sym (position-is cap (plan-of P) (S .worst) d t i)) (within i l))
+      (sym (position-is cap (plan-of P) (S .worst) d t i)) (within i l))
     where
       slow : {w e : ℕ} (c c′ : ℕ) → c′ ≡ c → e ≤ w → ltb w (c + e - c′) ≡ false
       slow {w} {e} c c′ same h = le-ltb w (c + e - c′) (omega arith)
@@ -128,43 +131,60 @@ module _ {S : Tables} (cap : ℕ) (some-coast : 0 < cap) (some-level : 0 < S .le
     where
       l : i < S .n
       l = omega arith
+
       Q : Plan
       Q = plan-of P
+
       c : ℕ
       c = at i .clock
+
       position : at i .position ≡ i
       position = position-is cap Q (S .worst) d t i
+
       time : c ≡ clock t takes i
       time = clock-is cap Q (S .worst) d t i
+
       go : (x : ℕ) → at i .left ≡ x → To-come (suc i) (got i) (at (suc i) .left) → To-come i (at i .level) x
-      go zero h next = (suc (next .0), omega (arith, next .1, ap (λ (s : Run). s .decisions) made)
-          , Steps.decide q (left-granted cap Q (clock t takes i) i q) l
+      go zero h next = (
+        suc (next .0),
+        omega (arith, next .1, ap (λ (s : Run). s .decisions) made),
+        Steps.decide q (left-granted cap Q (clock t takes i) i q) l
             (level-given-gives Q (clock t takes i) i some-level)
             (left-granted-grants Q (clock t takes i) i q cap some-coast l)
             level-is
-            (subst (λ (y : ℕ). Steps cap P t takes got (suc i) q y (next .0)) left-is (subst (λ (y : ℕ). Steps cap P t takes got (suc i) y (at (suc i) .left) (next .0)) level-is (next .2))))
+            (subst (λ (y : ℕ). Steps cap P t takes got (suc i) q y (next .0)) left-is (subst (λ (y : ℕ). Steps cap P t takes got (suc i) y (at (suc i) .left) (next .0)) level-is (next .2))),
+      )
         where
           made : given cap Q (at i) ≡ decide cap Q (at i)
           made = given-decided cap Q (at i) h
+
           q : ℕ
           q = level-given Q (clock t takes i) i
+
           q-is : level-given Q c (at i .position) ≡ q
           q-is = ap (λ (y : ℕ). level-given Q y (at i .position)) time ∙ ap (level-given Q (clock t takes i)) position
+
           level-is : got i ≡ q
           level-is = ap (λ (s : Run). s .level) made ∙ q-is
+
           left-is : at (suc i) .left ≡ left-granted cap Q (clock t takes i) i q
           left-is = next-left i l ∙ ap (λ (s : Run). s .left) made
-            ∙ ap (λ (y : ℕ). left-granted cap Q y (at i .position) (level-given Q c (at i .position))) time
-            ∙ ap (λ (y : ℕ). left-granted cap Q (clock t takes i) y (level-given Q c (at i .position))) position
-            ∙ ap (left-granted cap Q (clock t takes i) i) q-is
-      go (suc x) h next = (next .0, omega (arith, next .1, ap (λ (s : Run). s .decisions) made)
-          , Steps.coast l level-is
-            (subst (λ (y : ℕ). Steps cap P t takes got (suc i) (at i .level) y (next .0)) left-is (subst (λ (y : ℕ). Steps cap P t takes got (suc i) y (at (suc i) .left) (next .0)) level-is (next .2))))
+              ∙ ap (λ (y : ℕ). left-granted cap Q y (at i .position) (level-given Q c (at i .position))) time
+              ∙ ap (λ (y : ℕ). left-granted cap Q (clock t takes i) y (level-given Q c (at i .position))) position
+              ∙ ap (left-granted cap Q (clock t takes i) i) q-is
+      go (suc x) h next = (
+        next .0,
+        omega (arith, next .1, ap (λ (s : Run). s .decisions) made),
+        Steps.coast l level-is
+            (subst (λ (y : ℕ). Steps cap P t takes got (suc i) (at i .level) y (next .0)) left-is (subst (λ (y : ℕ). Steps cap P t takes got (suc i) y (at (suc i) .left) (next .0)) level-is (next .2))),
+      )
         where
           made : given cap Q (at i) ≡ coast (at i)
           made = given-coasted cap Q (at i) x h
+
           level-is : got i ≡ at i .level
           level-is = ap (λ (s : Run). s .level) made
+
           left-is : at (suc i) .left ≡ x
           left-is = let less : at i .left - 1 ≡ x = omega arith in next-left i l ∙ ap (λ (s : Run). s .left) made ∙ less
 
@@ -175,7 +195,7 @@ module _ {S : Tables} (cap : ℕ) (some-coast : 0 < cap) (some-level : 0 < S .le
       where
         go : To-come 0 0 0 → Kept cap P t takes got (at (S .n) .decisions)
         go c = subst (λ (m : ℕ). Kept cap P t takes got m) (omega (arith, c .1))
-          (cycle-kept cap some-coast P t takes got (c .0) begins within (steps-cycle cap P t takes got (suc (S .n)) (omega arith) (c .2)))
+            (cycle-kept cap some-coast P t takes got (c .0) begins within (steps-cycle cap P t takes got (suc (S .n)) (omega arith) (c .2)))
 
     safe-at : (i : ℕ) → i ≤ S .n → Safe S (clock t takes i) i 0
     unfolding got takes sum
@@ -185,7 +205,7 @@ module _ {S : Tables} (cap : ℕ) (some-coast : 0 < cap) (some-level : 0 < S .le
     level-fits : (i : ℕ) → i < S .n → fits (plan-of P) (at i .clock) (at i .position) ≡ true
     unfolding at takes fits
     level-fits i l = rw (clock-is cap (plan-of P) (S .worst) d t i, position-is cap (plan-of P) (S .worst) d t i)
-      (passed _ (gives-fits P l (safe-at i (omega arith)) (level-given-gives (plan-of P) (clock t takes i) i some-level) .le))
+        (passed _ (gives-fits P l (safe-at i (omega arith)) (level-given-gives (plan-of P) (clock t takes i) i some-level) .le))
 
     next-late : (i : ℕ) → i < S .n → at (suc i) .late ≡ at i .late
     unfolding at before step ended given

@@ -42,16 +42,18 @@ in-range a b m (negsuc n) u v lo hi = omega arith
 
 module _ (S : Tables) (sound : Sound S) (small : Small S) (i q : ℕ) (m : q < S .levels) where
   mixed-cap : (j k : ℕ) → j ≤ k → k < S .n → mixed S j k q ≤ 1073741760
-  mixed-cap j k a b = bounds-mixed S sound j k q 1073741760 a b m (λ x c e. omega (arith
-    , span-cap (λ p. S .average p q) 16777215 j x c (λ p u v. omega (arith, sound .ordered p q (omega arith) m, small .time p q (omega arith) m))
-    , small .time x q (omega arith) m
-    , span-cap (λ p. S .worst p 0) 16777215 (suc x) (suc k) (omega arith) (λ p u v. small .time p 0 (omega arith) (sound .some-level))
-    , small .few))
+  mixed-cap j k a b = bounds-mixed S sound j k q 1073741760 a b m (λ x c e. omega (
+    arith,
+    span-cap (λ p. S .average p q) 16777215 j x c (λ p u v. omega (arith, sound .ordered p q (omega arith) m, small .time p q (omega arith) m)),
+    small .time x q (omega arith) m,
+    span-cap (λ p. S .worst p 0) 16777215 (suc x) (suc k) (omega arith) (λ p u v. small .time p 0 (omega arith) (sound .some-level)),
+    small .few,
+  ))
 
   pub limit-range : i < S .n → mag (limit S i q) < 1073741824
   limit-range l = in-range 1073741824 1073741760 1073741824 (limit S i q) (omega arith) (omega arith)
-    (limit-at-most S i q l 0 1073741760 .1 (λ k a b. omega (arith, mixed-later S 1073741760 i k q, mixed-cap i k a b)))
-    (λ h. omega (arith, limit-at-most S i q l 1073741824 0 .0 h i (le-refl i) l, small .due i l))
+      (limit-at-most S i q l 0 1073741760 .1 (λ k a b. omega (arith, mixed-later S 1073741760 i k q, mixed-cap i k a b)))
+      (λ h. omega (arith, limit-at-most S i q l 1073741824 0 .0 h i (le-refl i) l, small .due i l))
 
   pub bound-range : (r : ℕ) → 0 < r → r ≤ 16 → i + r ≤ S .n → mag (coast-bound S (limit S) i q r) < 2147483647
   unfolding coast-bound
@@ -60,18 +62,24 @@ module _ (S : Tables) (sound : Sound S) (small : Small S) (i q : ℕ) (m : q < S
     where
       f : ℕ → ℤ
       f j = limit S j q -ℤ pos (span (λ p. S .worst p q) i j)
+
       low : AtMost 0 1325399985 (least-of f i (r - 1))
       low = all-least f 0 1325399985 i (r - 1) (λ j a b. at-most-less 0 1325399985 (limit S j q) (span (λ p. S .worst p q) i j) .1
-        (limit-at-most S j q (omega arith) (0 + span (λ p. S .worst p q) i j) 1325399985 .1 (λ k c e. omega (arith
-          , mixed-later S 1325399985 j k q
-          , mixed-cap j k c e
-          , span-cap (λ p. S .worst p q) 16777215 i j a (λ p u v. small .time p q (omega arith) m)))))
+          (limit-at-most S j q (omega arith) (0 + span (λ p. S .worst p q) i j) 1325399985 .1 (λ k c e. omega (
+            arith,
+            mixed-later S 1325399985 j k q,
+            mixed-cap j k c e,
+            span-cap (λ p. S .worst p q) 16777215 i j a (λ p u v. small .time p q (omega arith) m),
+          ))))
+
       high : AtMost 1073741824 0 (least-of f i (r - 1)) → ⊥
-      high h = omega (arith
-        , limit-at-most S i q (omega arith) (1073741824 + span (λ p. S .worst p q) i i) 0 .0
-          (at-most-less 1073741824 0 (limit S i q) (span (λ p. S .worst p q) i i) .0 (least-all f 1073741824 0 i (r - 1) h i (le-refl i) (omega arith)))
-          i (le-refl i) (omega arith)
-        , small .due i (omega arith))
+      high h = omega (
+        arith,
+        limit-at-most S i q (omega arith) (1073741824 + span (λ p. S .worst p q) i i) 0 .0
+            (at-most-less 1073741824 0 (limit S i q) (span (λ p. S .worst p q) i i) .0 (least-all f 1073741824 0 i (r - 1) h i (le-refl i) (omega arith)))
+            i (le-refl i) (omega arith),
+        small .due i (omega arith),
+      )
 
 -- what is in such a range is not the absent entry
 pub not-absent : (z : ℤ) → mag z < 2147483647 → z ≢ absent

@@ -69,9 +69,10 @@ pub sooner : (s t : ℕ) (z : ℤ) → s ≤ t → pos t ≤ℤ z → pos s ≤�
 sooner s t z l h = time-at-most s z .1 (at-most-sooner s t 0 z l (time-at-most t z .0 h))
 
 pub time-less : (t : ℕ) (z : ℤ) (c : ℕ) → (pos t ≤ℤ (z -ℤ pos c)) ↔ (pos (t + c) ≤ℤ z)
-time-less t z c =
-    ( (λ h. time-at-most (t + c) z .1 (at-most-less t 0 z c .0 (time-at-most t (z -ℤ pos c) .0 h)))
-    , (λ h. time-at-most t (z -ℤ pos c) .1 (at-most-less t 0 z c .1 (time-at-most (t + c) z .0 h))) )
+time-less t z c = (
+  (λ h. time-at-most (t + c) z .1 (at-most-less t 0 z c .0 (time-at-most t (z -ℤ pos c) .0 h))),
+  (λ h. time-at-most t (z -ℤ pos c) .1 (at-most-less t 0 z c .1 (time-at-most (t + c) z .0 h))),
+)
 
 -- ---- the least of some
 

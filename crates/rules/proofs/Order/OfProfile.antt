@@ -1,6 +1,6 @@
 -- The order of a profile: computed, settled by the rules, and best.
 use Prim.Native.Nat.{ℕ, _+_, _≤_, _<_}
-use mathlib.Core.Path.{_≡_, _∙_}
+use mathlib.Core.Path.{_≡_, sym, _∙_}
 use mathlib.Core.Logic.{_↔_}
 use mathlib.Core.Bool.{true, Bool-discrete}
 use native.Mathlib.Decide.{decLe, map-dec}
@@ -8,7 +8,7 @@ use Rattle.rules.specs.Image.{Profile, has, due}
 use Rattle.rules.specs.Order.{Order, Permitted, Loop, Urgency, ends, Meets, Before, TheOrder, FitFrom}
 use Rattle.rules.proofs.Sums.{each?}
 use Rattle.rules.proofs.Order.Best.{by-urgency-permitted, best}
-use Rattle.rules.proofs.Order.Unique.{one-urgency, same-urgency, one-order}
+use Rattle.rules.proofs.Order.Unique.{one-urgency, same-urgency, same-order, one-order}
 use Rattle.rules.proofs.Order.Loops.{no-loop}
 use Rattle.rules.proofs.Order.Passes.{spread, passes, passes-urgency}
 use Rattle.rules.proofs.Order.Greedy
@@ -51,6 +51,15 @@ module _ (F : Profile) (loopless : Loop (F .n) (Before F) → ⊥) where
   the-order-at : (k : ℕ) → the-order .at k ≡ action-at F k
   unfolding the-order action-at
   the-order-at = Greedy.the-order-at (F .n) (Before F) (before? F) (urgency-of F) loopless
+
+  -- Any order that has these actions is the order of F.
+  pub as-computed : (p : Order (F .n)) → ((k : ℕ) → k < F .n → p .at k ≡ action-at F k) → TheOrder F p
+  unfolding the-order-is
+  as-computed p same = record {
+    urgency = urgency-of F;
+    urgent = urgency-is;
+    by-urgency = same-order (F .n) (Before F) (urgency-of F) the-order p (λ k l. the-order-at k ∙ sym (same k l)) (the-order-is .by-urgency);
+  }
 
 -- ---- settled
 

@@ -1,6 +1,6 @@
 -- The rules settle every urgency, and the order by urgency.
 use Prim.Native.Nat.{ℕ, zero, suc, _≤_, _<_}
-use mathlib.Core.Path.{_≡_, ap, sym, _∙_}
+use mathlib.Core.Path.{_≡_, ap, sym, subst, _∙_}
 use mathlib.Core.Logic.{_⊎_, inl, inr}
 use native.Mathlib.Nat.{le-refl, le-antisymm, lt-of-not-le, not-suc-le-zero}
 use native.Mathlib.Decide.{decLe}
@@ -51,6 +51,14 @@ module _ (n : ℕ) (before : ℕ → ℕ → Type 0) where
       later : Dec (k ≤ o .pos a) → k ≤ o .pos a
       later (yes h) = h
       later (no h) = omega (arith, same-pos p o k l (turned o p k g) a (r .present) (lt-of-not-le h), r .waits)
+
+  -- only the actions at the n positions matter
+  pub same-order : (U : ℕ → ℕ) (o p : Order n) → Agree o p n → ByUrgency n before U o → ByUrgency n before U p
+  same-order U o p g u = record {
+    ready = λ k l. subst (Ready n before p k) (g k l) (ready-too p o k (o .at k) (omega arith) (λ j h. sym (g j (omega arith))) (u .ready k l));
+    least = λ k a l r. omega (arith, ap U (g k l), u .least k a l (ready-too o p k a (omega arith) (λ j h. g j (omega arith)) r));
+    lowest = λ k a l r e. omega (arith, g k l, u .lowest k a l (ready-too o p k a (omega arith) (λ j h. g j (omega arith)) r) (ap U (g k l) ∙ e));
+  }
 
   module _ (U : ℕ → ℕ) where
     -- Where two orders by urgency have agreed so far, what is next in p is ready in o too.

@@ -1,0 +1,3 @@
+-- The laws of the speed reading.
+pub mod Quotient
+pub mod Reading
