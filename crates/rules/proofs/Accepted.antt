@@ -1,22 +1,20 @@
 -- Of a profile that is not refused: its tables obey the rule and the ranges, refusal 9 is 0 above limit (0, 0), and demand 3 holds.
 -- Assumes nothing.
-use Prim.Native.Nat.{ℕ, zero, suc, _+_, _*_, _≤_, _<_, zero-le}
-use mathlib.Core.Path.{_≡_, refl, sym, subst}
+use Prim.Native.Nat.{ℕ, suc, _≤_, _<_, zero-le}
 use mathlib.Core.Bool.{Bool, true, false, cond}
 use mathlib.Core.List.{List}
-use mathlib.Core.Logic.{_⊎_, inl, inr, _↔_}
+use mathlib.Core.Logic.{inl, inr, _↔_}
 use native.Mathlib.Nat.{le-refl, le-trans}
-use native.Mathlib.Decide.{decLe, le-ind}
+use native.Mathlib.Decide.{le-ind}
 use native.Mathlib.Omega.{arith}
 use lib.Dec.{eqb}
 use lib.IntN.{pos}
-use lib.ListN.{getD}
 use lib.Signed.{_≤ℤ_}
 use Rattle.rules.specs.Words.{sum}
-use Rattle.rules.specs.Image.{Profile, due, be, average-of, worst-of, profile}
-use Rattle.rules.specs.Order.{Order, Meets, Before, TheOrder, FitFrom, Fit}
+use Rattle.rules.specs.Image.{Profile, due, profile}
+use Rattle.rules.specs.Order.{Order, Meets, TheOrder, FitFrom, Fit}
 use Rattle.rules.specs.Limits.{Tables, tables, limit}
-use Rattle.rules.specs.Refusals.{Count, Range, TimeOut, Falls, Table, Looped, Unfit, Accepted}
+use Rattle.rules.specs.Refusals.{Count, Range, TimeOut, Falls, Table, Unfit, Accepted}
 use Rattle.rules.specs.Demand.{Safe, Policy, WithinWorst, DemandThree}
 use Rattle.rules.proofs.Sums.{sum-longer}
 use Rattle.rules.proofs.Refusals.{accepted-sound}

@@ -1,6 +1,6 @@
 -- The run calls: records stay in range, and asking and reporting through a whole cycle is the dry run. Assumes nothing.
 use Prim.Native.Nat.{ℕ, zero, suc, _+_, _-_, _*_, _≤_, _<_, min}
-use mathlib.Core.Path.{_≡_, refl, ap, sym, subst, _∙_}
+use mathlib.Core.Path.{_≡_, refl, ap, sym, _∙_}
 use mathlib.Core.Bool.{Bool, true, false, not, cond, _&&_, _||_, true≢false}
 use mathlib.Core.List.{List}
 use mathlib.Core.Logic.{_≢_}
@@ -15,8 +15,8 @@ use Rattle.rules.specs.Words.{every, one-if}
 use Rattle.rules.specs.Limits.{Plan}
 use Rattle.rules.specs.Refusals.{first}
 use Rattle.rules.specs.Run.{Run, in-range, begun, decide, coast, fits, decides, given, ended, qualifies, left-granted, level-given, lent, Next, Answer, ask-refusal, ask, report-refusal, report}
-use Rattle.rules.specs.Dry.{step, before, took, cell}
-use Rattle.rules.proofs.Tests.{pass, passed, and-true, Last, last-is}
+use Rattle.rules.specs.Dry.{step, before, cell}
+use Rattle.rules.proofs.Tests.{pass, passed, and-true, last-is}
 use Rattle.rules.proofs.Demand.Record.{Same, given-same, n-is, levels-is, position-is}
 
 -- ---- the ranges, as facts

@@ -1,22 +1,22 @@
 -- The worked cases hold. Each is computed from the definitions, the order by the tests below. Assumes nothing.
-use Prim.Native.Nat.{ℕ, zero, suc, _+_, _-_, _*_, _/_, _%_, _^_, _≤_, _<_}
+use Prim.Native.Nat.{ℕ, suc, _-_, _/_, _%_, _^_, _≤_, _<_}
 use mathlib.Core.Path.{_≡_, refl, ap, sym, subst, _∙_}
 use mathlib.Core.Bool.{Bool, true, false, not, cond, _&&_, _||_, true≢false}
 use mathlib.Core.List.{List, [], _∷_}
-use mathlib.Core.Logic.{_⊎_, inl, inr, _↔_, _≢_}
+use mathlib.Core.Logic.{_⊎_, inl, inr, _↔_}
 use native.Mathlib.Nat.{le-trans, div-eq-of-lt}
 use native.Mathlib.Omega.{arith}
 use borrow.Author.Tests.{eqb-true}
 use lib.Dec.{leb, ltb, eqb, leb→le, ltb→lt}
 use lib.Ieee.{div, ofInt, round}
-use lib.IntN.{ℤ, pos}
+use lib.IntN.{pos}
 use lib.ListN.{length, getD}
 use lib.Pow.{pow-mono}
 use lib.Signed.{leZ, _≤ℤ_}
 use Rattle.rules.specs.Words.{all-pass, last-passing, sum, greatest-of, least-of, cat}
 use Rattle.rules.specs.Image.{Profile, has, due, header, version, actions, levels, cycle, header-spare, record-bytes, record-at, image-bytes, mask-of, deadline-of, spare-of, average-of, worst-of, profile, header-of, level-image, record-image, image}
-use Rattle.rules.specs.Order.{Order, Permitted, Loop, Before, TheOrder, Fit}
-use Rattle.rules.specs.Limits.{tables, margin, mixed, limit, coast-bound, Plan, planned, Gives, Late}
+use Rattle.rules.specs.Order.{Order, TheOrder, Fit}
+use Rattle.rules.specs.Limits.{tables, margin, mixed, limit, coast-bound, Plan, Gives, Late}
 use Rattle.rules.specs.Refusals.{_when_, First, Unfit, image-checks, Count, Falls, Table, Short, Version, Length, Spare, Range}
 use Rattle.rules.specs.Run.{level-given, fits, qualifies, left-granted, begun, decides, given, ended}
 use Rattle.rules.specs.Dry.{step, before}

@@ -7,7 +7,6 @@ use lib.IntN.{ℤ, pos}
 use lib.Signed.{_≤ℤ_}
 use Rattle.rules.specs.Words.{sum, span}
 use Rattle.rules.specs.Limits.{Tables, safe, Plan, plan-by, Gives}
-use Rattle.rules.specs.Run.{Run}
 use Rattle.rules.specs.Dry.{before, level-of, took}
 
 -- ---- any policy

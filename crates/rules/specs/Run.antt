@@ -10,7 +10,7 @@ use lib.Signed.{leZ, _≤ℤ_}
 use lib.ListN.{length, getD}
 use Rattle.rules.specs.Words.{last-passing, all-pass, every, one-if}
 use Rattle.rules.specs.Limits.{Plan}
-use Rattle.rules.specs.Refusals.{Test, _if_, first}
+use Rattle.rules.specs.Refusals.{_if_, first}
 
 -- ---- a decision
 

@@ -1,6 +1,6 @@
 -- The words that the other files use: sums, the least and the greatest of some numbers, tables row by row, the first test that holds.
 use Prim.Native.Nat.{ℕ, zero, suc, _+_, _-_, max}
-use mathlib.Core.Bool.{Bool, true, false, cond, _&&_}
+use mathlib.Core.Bool.{Bool, true, cond, _&&_}
 use mathlib.Core.List.{List, [], _∷_, _++_}
 use lib.IntN.{ℤ}
 use lib.Signed.{leZ}

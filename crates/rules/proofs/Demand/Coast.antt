@@ -1,18 +1,16 @@
 -- Over any policy: one step keeps the worst times fitting, and the rules' test for a coast is exactly that its level cannot differ.
 -- Assumes nothing.
-use Prim.Native.Nat.{ℕ, zero, suc, _+_, _-_, _≤_, _<_}
+use Prim.Native.Nat.{ℕ, suc, _+_, _-_, _≤_, _<_}
 use mathlib.Core.Path.{_≡_, refl, sym, subst}
-use mathlib.Core.Bool.{true, false, cond}
 use mathlib.Core.Logic.{_⊎_, inl, inr, _↔_}
 use native.Mathlib.Nat.{le-refl}
 use native.Mathlib.Decide.{le-ind}
 use native.Mathlib.Omega.{arith}
 use borrow.Author.Tests.{le-ltb}
-use lib.Dec.{ltb}
 use lib.IntN.{ℤ, pos, _-ℤ_}
 use lib.Signed.{_≤ℤ_}
 use Rattle.rules.specs.Words.{sum, span, least-of}
-use Rattle.rules.specs.Limits.{Tables, safe, Gives, absent, coast-bound}
+use Rattle.rules.specs.Limits.{Tables, Gives, coast-bound}
 use Rattle.rules.specs.Run.{Qualifies}
 use Rattle.rules.specs.Demand.{Safe, Policy, plan-of, Steady}
 use Rattle.rules.proofs.Sums.{sum-longer, sum-none, span-less}

@@ -1,7 +1,7 @@
 -- A cycle by whole coasts, each granted by the rules: every action gets the asked manager's level, no deadline is missed, and no way of
 -- coasting that cannot differ from that manager decides fewer times. Over any policy, any cap on the coast and any start that fits.
 -- Assumes nothing.
-use Prim.Native.Nat.{ℕ, zero, suc, _+_, _-_, _≤_, _<_, zero-le, suc-le-suc}
+use Prim.Native.Nat.{ℕ, suc, _+_, _-_, _≤_, _<_, zero-le, suc-le-suc}
 use mathlib.Core.Path.{_≡_, sym, subst}
 use mathlib.Core.Logic.{_⊎_, inl, inr}
 use native.Mathlib.Nat.{le-refl, le-antisymm}
@@ -116,7 +116,7 @@ module _ {S : Tables} (cap : ℕ) (some-coast : 0 < cap) (P : Policy S) where
           coast = record {
             level = q;
             some = Q .some;
-            most = Q .most;
+            most = omega (arith, Q .most);
             room = Q .room;
             decided = g;
             steady = bounded-steady P (g .level) (Q .room) (qualifies-bounded P Q);

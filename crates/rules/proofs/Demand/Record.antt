@@ -2,24 +2,25 @@
 -- fits. Assumes nothing.
 use Prim.Native.Nat.{ℕ, zero, suc, _+_, _-_, _≤_, _<_, zero-le}
 use mathlib.Core.Path.{_≡_, refl, ap, sym, subst, _∙_}
-use mathlib.Core.Bool.{Bool, true, false, not, cond, _||_}
-use mathlib.Core.Logic.{_⊎_, inl, inr}
+use mathlib.Core.Bool.{Bool, true, false, not, cond, _&&_, _||_}
 use native.Mathlib.Nat.{le-refl}
 use native.Mathlib.Omega.{arith}
 use borrow.Author.Tests.{le-ltb}
 use lib.Dec.{eqb, ltb, eqb·suc-zero}
-use lib.IntN.{pos}
-use lib.Signed.{leZ, _≤ℤ_}
-use Rattle.rules.specs.Words.{sum, span}
-use Rattle.rules.specs.Limits.{Tables, Plan, Gives}
-use Rattle.rules.specs.Run.{Grants, level-given, fits, left-granted, Run, begun, decide, coast, decides, given, ended}
-use Rattle.rules.specs.Dry.{step, before, level-of, took}
+use Rattle.rules.specs.Words.{sum, one-if}
+use Rattle.rules.specs.Limits.{Tables, Plan}
+use Rattle.rules.specs.Run.{level-given, fits, left-granted, Run, begun, decide, coast, decides, given, ended}
+use Rattle.rules.specs.Dry.{step, before, level-of, took, decided}
 use Rattle.rules.specs.Demand.{Safe, Policy, plan-of, clock, Kept, WithinWorst, DemandThree}
 use Rattle.rules.proofs.Tests.{passed}
 use Rattle.rules.proofs.Demand.Asked.{level-given-gives, left-granted-grants}
 use Rattle.rules.proofs.Demand.Coast.{gives-fits}
 use Rattle.rules.proofs.Demand.Fewest.{safe-on, cycle-kept}
 use Rattle.rules.proofs.Demand.Steps.{Steps, steps-cycle}
+
+or-false : (b : Bool) → b || false ≡ b
+or-false true = refl
+or-false false = refl
 
 -- ---- one step, by fields, over any tables
 
@@ -74,11 +75,77 @@ module _ (cap : ℕ) (P : Plan) where
     levels-is zero = refl
     levels-is (suc i) = given-same (before cap P w d t i) .levels ∙ levels-is i
 
--- ---- a cycle within worst
+    -- The record counts decisions: the number of positions at which one was made.
+    given-decisions : (r : Run) → given cap P r .decisions ≡ r .decisions + one-if (decides r)
+    unfolding given
+    given-decisions r = by (decides r)
+      where
+        by : (b : Bool) → cond b (decide cap P r) (coast r) .decisions ≡ r .decisions + one-if b
+        by true = omega arith
+        by false = omega arith
 
-or-false : (b : Bool) → b || false ≡ b
-or-false true = refl
-or-false false = refl
+    pub decisions-are : (i : ℕ) → before cap P w d t i .decisions ≡ sum i (λ j. one-if (decided cap P w d t j))
+    unfolding before begun step ended sum
+    decisions-are zero = refl
+    decisions-are (suc i) = omega (arith, given-decisions (before cap P w d t i), decisions-are i)
+
+    -- what position i took is above its worst time
+    abbrev pub over : ℕ → Bool
+    over i = ltb (w i (level-of cap P w d t i)) (took cap P w d t i)
+
+    over-is : (i : ℕ) → let r = before cap P w d t i in let q = given cap P r .level in
+        ltb (w (r .position) q) (r .clock + d (r .position) q - given cap P r .clock) ≡ over i
+    unfolding before step ended
+    over-is i =
+        let r = before cap P w d t i in
+        let q = given cap P r .level in
+        ap (λ (p : ℕ). ltb (w p q) (r .clock + d p q - given cap P r .clock)) (position-is i)
+        ∙ ap (ltb (w i q)) (left-over (r .clock) (given cap P r .clock) (d i q) (given-same r .clock))
+      where
+        left-over : (c c′ x : ℕ) → c′ ≡ c → c + x - c′ ≡ x
+        left-over c c′ x e = omega arith
+
+    -- An overrun sets its mark, which stays, and cancels the rest of the coast: the next action is decided.
+    pub overrun-is : (i : ℕ) → before cap P w d t (suc i) .overrun ≡ before cap P w d t i .overrun || over i
+    unfolding before step ended
+    overrun-is i =
+        ap (λ (b : Bool). given cap P (before cap P w d t i) .overrun || b) (over-is i)
+        ∙ ap (λ (b : Bool). b || over i) (given-same (before cap P w d t i) .overrun)
+
+    pub overrun-cancels : (i : ℕ) → over i ≡ true → decided cap P w d t (suc i) ≡ true
+    unfolding before step ended decides
+    overrun-cancels i h = ap (λ (b : Bool). eqb (cond b 0 (given cap P (before cap P w d t i) .left)) 0) (over-is i ∙ h)
+
+    -- Without one a coast runs on: what is left goes down by 1, and the level stays.
+    pub coast-runs-on : (i x : ℕ) → before cap P w d t i .left ≡ suc x → over i ≡ false
+        → (before cap P w d t (suc i) .left ≡ x) × (before cap P w d t (suc i) .level ≡ before cap P w d t i .level)
+    unfolding before step ended
+    coast-runs-on i x e h =
+        let made = given-coasted (before cap P w d t i) x e in
+        let less : before cap P w d t i .left - 1 ≡ x = omega arith in (
+          ap (λ (b : Bool). cond b 0 (given cap P (before cap P w d t i) .left)) (over-is i ∙ h) ∙ ap (λ (s : Run). s .left) made ∙ less,
+          ap (λ (s : Run). s .level) made,
+        )
+
+    -- The late mark is set by a decision at which no level fits, never in a coast, and stays.
+    given-late : (r : Run) → given cap P r .late ≡ r .late || (decides r && not (fits P (r .clock) (r .position)))
+    unfolding given
+    given-late r = by (decides r)
+      where
+        by : (b : Bool) → cond b (decide cap P r) (coast r) .late ≡ r .late || (b && not (fits P (r .clock) (r .position)))
+        by true = refl
+        by false = sym (or-false (r .late))
+
+    pub late-is : (i : ℕ) → before cap P w d t (suc i) .late
+        ≡ before cap P w d t i .late || (decided cap P w d t i && not (fits P (clock t (took cap P w d t) i) i))
+    unfolding before step ended
+    late-is i =
+        let r = before cap P w d t i in
+        given-late r
+        ∙ ap (λ (c : ℕ). r .late || (decides r && not (fits P c (r .position)))) (clock-is i)
+        ∙ ap (λ (p : ℕ). r .late || (decides r && not (fits P (clock t (took cap P w d t) i) p))) (position-is i)
+
+-- ---- a cycle within worst
 
 module _ {S : Tables} (cap : ℕ) (some-coast : 0 < cap) (some-level : 0 < S .levels) (P : Policy S) (t : ℕ) (d : ℕ → ℕ → ℕ) (within : WithinWorst cap P t d) where
   at : ℕ → Run
@@ -93,13 +160,8 @@ module _ {S : Tables} (cap : ℕ) (some-coast : 0 < cap) (some-level : 0 < S .le
   -- within worst nothing overruns
   none-over : (i : ℕ) → i < S .n → let q = given cap (plan-of P) (at i) .level in
       ltb (S .worst (at i .position) q) (at i .clock + d (at i .position) q - given cap (plan-of P) (at i) .clock) ≡ false
-  unfolding at before step ended
-  none-over i l = slow (at i .clock) (given cap (plan-of P) (at i) .clock) (given-same cap (plan-of P) (at i) .clock)
-      (subst (λ (p : ℕ). d p (given cap (plan-of P) (at i) .level) ≤ S .worst p (given cap (plan-of P) (at i) .level))
-      (sym (position-is cap (plan-of P) (S .worst) d t i)) (within i l))
-    where
-      slow : {w e : ℕ} (c c′ : ℕ) → c′ ≡ c → e ≤ w → ltb w (c + e - c′) ≡ false
-      slow {w} {e} c c′ same h = le-ltb w (c + e - c′) (omega arith)
+  unfolding at
+  none-over i l = over-is cap (plan-of P) (S .worst) d t i ∙ le-ltb (S .worst i (level-of cap (plan-of P) (S .worst) d t i)) (took cap (plan-of P) (S .worst) d t i) (within i l)
 
   next-left : (i : ℕ) → i < S .n → at (suc i) .left ≡ given cap (plan-of P) (at i) .left
   unfolding at before step ended

@@ -1,7 +1,6 @@
 -- Limits and coast bounds fit in 32 bits with a sign, and none is the absent entry. Assumes nothing.
 use Prim.Native.Nat.{ℕ, suc, _+_, _-_, _*_, _≤_, _<_}
 use mathlib.Core.Path.{_≡_, ap, _∙_}
-use mathlib.Core.Bool.{false}
 use mathlib.Core.Logic.{_≢_}
 use native.Mathlib.Nat.{le-refl, suc-mul}
 use native.Mathlib.Decide.{le-ind}
@@ -10,11 +9,11 @@ use borrow.Author.Tests.{le-ltb}
 use lib.IntN.{ℤ, pos, negsuc, _-ℤ_}
 use lib.Signed.{mag}
 use Rattle.rules.specs.Words.{sum, span, least-of}
-use Rattle.rules.specs.Limits.{Tables, safe, mixed, limit, absent, coast-bound}
+use Rattle.rules.specs.Limits.{Tables, mixed, limit, absent, coast-bound}
 use Rattle.rules.proofs.Sums.{sum-longer}
 use Rattle.rules.proofs.Limits.Signed.{AtMost, at-most-less, least-all, all-least}
 use Rattle.rules.proofs.Limits.Mixed.{Sound, bounds-mixed}
-use Rattle.rules.proofs.Limits.Rows.{later, mixed-later, limit-at-most}
+use Rattle.rules.proofs.Limits.Rows.{mixed-later, limit-at-most}
 
 -- the ranges of a profile, by position
 pub record Small (S : Tables) : Type 0 where

@@ -6,7 +6,7 @@ use native.Mathlib.Nat.{le-refl, le-antisymm}
 use native.Mathlib.Decide.{decLe}
 use native.Mathlib.Omega.{arith}
 use lib.IntN.{ℤ, pos, _-ℤ_}
-use Rattle.rules.specs.Words.{sum, span, minZ, least-of}
+use Rattle.rules.specs.Words.{sum, span, minZ}
 use Rattle.rules.specs.Limits.{Tables, safe, mixed, margin, limit}
 use Rattle.rules.proofs.Sums.{sum-longer}
 use Rattle.rules.proofs.Limits.Signed.{AtMost, at-most-min, at-most-less, settled, least-all, all-least}

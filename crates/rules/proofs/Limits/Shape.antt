@@ -1,13 +1,12 @@
 -- What t at most the limit says in ℕ; how limits lie along the levels and along the order; the mixed policy is a policy. Assumes nothing.
-use Prim.Native.Nat.{ℕ, suc, _+_, _≤_, _<_}
-use mathlib.Core.Path.{_≡_}
+use Prim.Native.Nat.{ℕ, suc, _≤_, _<_}
 use mathlib.Core.Logic.{_↔_}
 use native.Mathlib.Omega.{arith}
-use lib.IntN.{ℤ, pos}
+use lib.IntN.{pos}
 use lib.Signed.{_≤ℤ_}
-use Rattle.rules.specs.Limits.{Tables, mixed, limit}
+use Rattle.rules.specs.Limits.{Tables, limit}
 use Rattle.rules.specs.Demand.{Policy}
-use Rattle.rules.proofs.Limits.Signed.{AtMost, time-at-most, at-most-order}
+use Rattle.rules.proofs.Limits.Signed.{time-at-most, at-most-order}
 use Rattle.rules.proofs.Limits.Mixed.{Sound, AtMostLimit, mixed-lower, mixed-safe, mixed-passes}
 use Rattle.rules.proofs.Limits.Rows.{later, sound-later, mixed-later, limit-at-most, limit-row}
 
