@@ -13,15 +13,12 @@ use lib.Dec.{eqb, lit<}
 use Rattle.rules.specs.Words.{sum}
 use Rattle.rules.specs.Image.{Profile, due, profile}
 use Rattle.rules.specs.Refusals.{Ground, _when_, First, Count, Range, TimeOut, Falls, Table, Looped, Unfit, Tight}
-use Rattle.rules.specs.Refresh.{records, open-of, action-of, level-of, duration-of, measures, counted, summed, unmeasured, measured, raised, new-average, refreshed, Trace, Name, Duration, FirstFault, refresh-call}
+use Rattle.rules.specs.Refresh.{records, open-of, action-of, level-of, duration-of, measures, counted, summed, unmeasured, measured, raised, new-average, refreshed, Trace, Name, Duration, Fault, FirstFault, refresh-call}
 use Rattle.rules.proofs.Differences.{not-above}
 use Rattle.rules.proofs.Terms.{sum-within}
 use Rattle.rules.proofs.Refusals.{None, first-none, Sound, accepted-parts}
 
 -- ---- the first record at fault
-
-abbrev pub Fault : Profile → List ℕ → ℕ → Type 0
-Fault F trace r = Name F trace r ⊎ Duration F trace r
 
 abbrev pub NoFault : Profile → List ℕ → Type 0
 NoFault F trace = (r : ℕ) → r < records trace → Fault F trace r → ⊥

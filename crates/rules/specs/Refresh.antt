@@ -89,10 +89,12 @@ Name F trace r = (F .n ≤ action-of trace r) ⊎ (F .levels ≤ level-of trace 
 abbrev pub Duration : Profile → List ℕ → ℕ → Type 0
 Duration F trace r = F .worst (action-of trace r) (level-of trace r) < duration-of trace r
 
--- the first record at fault is r
+-- Record r is at fault, and it is the first that is.
+abbrev pub Fault : Profile → List ℕ → ℕ → Type 0
+Fault F trace r = Name F trace r ⊎ Duration F trace r
+
 abbrev pub FirstFault : Profile → List ℕ → ℕ → Type 0
-FirstFault F trace r =
-    (r < records trace) × ((Name F trace r ⊎ Duration F trace r) × ((e : ℕ) → e < r → (Name F trace e ⊎ Duration F trace e) → ⊥))
+FirstFault F trace r = (r < records trace) × (Fault F trace r × ((e : ℕ) → e < r → Fault F trace e → ⊥))
 
 abbrev pub refresh-call : List ℕ → List ℕ → List (ℕ × ℕ) → List Ground
 refresh-call s trace rooms =
