@@ -6,3 +6,4 @@ pub mod Passes
 pub mod Stepwise
 pub mod Greedy
 pub mod OfProfile
+pub mod Alike

@@ -1,0 +1,7 @@
+pub mod Lists
+pub mod Spread
+pub mod Picking
+pub mod Placing
+pub mod Ending
+pub mod Judging
+pub mod Closing

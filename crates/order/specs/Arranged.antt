@@ -1,0 +1,38 @@
+-- The actions in order, by 64-bit sets: done has the actions done so far.
+use Prim.Native.Nat.{ℕ, _≤_, _<_}
+use mathlib.Core.Path.{_≡_}
+use mathlib.Core.Bool.{true, false}
+use mathlib.Core.Logic.{_↔_}
+use mathlib.Core.List.{List}
+use lib.ListN.{getD}
+use Rattle.rules.specs.Image.{has}
+use Rattle.rules.specs.Order.{Order, Loop, ByUrgency}
+use Rattle.sets.specs.Sets.{Subset}
+use Rattle.order.specs.Lent.{before}
+
+-- Action a is ready: it is not done yet, and all its predecessors are.
+pub record Ready (n : ℕ) (masks : List ℕ) (done a : ℕ) : Type 0 where
+  pub present : a < n
+  pub waits : has done a ≡ false
+  pub free : Subset (getD masks a 0) done
+
+-- r has the actions that are ready, and no other.
+pub record ReadySet (n : ℕ) (masks : List ℕ) (done r : ℕ) : Type 0 where
+  pub only : (a : ℕ) → has r a ≡ true → Ready n masks done a
+  pub each : (a : ℕ) → Ready n masks done a → has r a ≡ true
+
+-- Of the members of s action a is next: the one of least urgency, ties to the lowest number.
+pub record Next (u : List ℕ) (s a : ℕ) : Type 0 where
+  pub member : has s a ≡ true
+  pub least : (b : ℕ) → has s b ≡ true → getD u a 0 ≤ getD u b 0
+  pub lowest : (b : ℕ) → has s b ≡ true → getD u a 0 ≡ getD u b 0 → a ≤ b
+
+-- the list has the actions in the order o
+abbrev pub Lists : {n : ℕ} → List ℕ → Order n → Type 0
+Lists {n} l o = (k : ℕ) → k < n → getD l k 0 ≡ o .at k
+
+-- The list has k actions in order, by the urgencies u: all of them, and fewer exactly when the masks contain a loop.
+pub record Placed (n : ℕ) (masks u : List ℕ) (k : ℕ) (l : List ℕ) : Type 0 where
+  pub most : k ≤ n
+  pub looped : (k < n) ↔ Loop n (before masks)
+  pub whole : k ≡ n → (o : Order n) × ByUrgency n (before masks) (λ a. getD u a 0) o × Lists l o

@@ -1,0 +1,283 @@
+// The order of actions on lent slices: the masks and deadlines by action, the level 0 worst time of action a at a * stride.
+// A deadline of 0 stands for the cycle.
+
+use sets::all_below;
+use sets::count;
+use sets::lowest;
+use sets::member;
+use sets::subset;
+use sets::with;
+use sets::without;
+ghost use mathlib.Core.Path.{_≡_};
+ghost use mathlib.Core.Bool.{true, cond};
+ghost use mathlib.Core.List.{List, []};
+ghost use Prim.Native.Nat.{ℕ, _+_, _≤_, _<_};
+ghost use lib.Dec.{eqb};
+ghost use lib.ListN.{length, getD};
+ghost use Rattle.rules.specs.Image.{has, due};
+ghost use Rattle.order.specs.Lent.{lent, Masked, Timed};
+ghost use Rattle.order.specs.Arranged.{Ready, ReadySet, Next, Placed};
+ghost use Rattle.order.specs.Judged.{TellsFit, Verdict};
+ghost use Rattle.order.specs.Looped.{Rows, FirstLooped};
+ghost use Rattle.order.specs.Spread.{HandedOn, Passed, Urgent};
+
+// ---- urgency
+
+// A deadline as it counts.
+fn due(deadline: u32, cycle: u32) -> u32
+    ensures { λ r. ⌜ r ≡ cond (eqb deadline 0) cycle deadline ⌝ }
+{
+    if deadline == 0 { cycle } else { deadline }
+}
+
+// The deadline of each action.
+fn dues(deadlines: &[u32], cycle: u32, n: usize) -> [u32; 64]
+    requires { ⌜ (n ≤ 64) × (n ≤ length (now deadlines)) ⌝ }
+    ensures long { λ r. ⌜ length r ≡ 64 ⌝ }
+    ensures each { λ r. ⌜ ((a : ℕ) → a < n → getD r a 0 ≡ due (lent n cycle [] (now (deadlines .entry)) [] 0) a) ⌝ }
+{
+    let mut u = [0u32; 64];
+    let mut a: usize = 0;
+    while a < n {
+        u[a] = due(deadlines[a], cycle);
+        a += 1;
+    }
+    u
+}
+
+// Makes each member of the mask of a at least as urgent as a. Answers whether one above a became more urgent.
+fn hand_on(mask: u64, a: usize, u: &mut [u32; 64]) -> bool
+    requires { ⌜ (a < 64) × (length (now u) ≡ 64) ⌝ }
+    ensures { λ r. ⌜ HandedOn (has mask) a (now (u .entry)) (now (u .exit)) r ⌝ }
+{
+    let x = u[a];
+    let mut late = false;
+    let mut t = mask;
+    while t != 0 {
+        let b = lowest(t);
+        if x < u[b] {
+            u[b] = x;
+            if a < b {
+                late = true;
+            }
+        }
+        t = without(t, b);
+    }
+    late
+}
+
+// One pass from the last action to the first. What an action got before its turn it hands on at its turn, so another pass is needed
+// only where an action became more urgent after its turn.
+fn pass(masks: &[u64], n: usize, u: &mut [u32; 64]) -> bool
+    requires { ⌜ (n ≤ 64) × (n ≤ length (now masks)) × (length (now u) ≡ 64) ⌝ }
+    ensures { λ r. ⌜ Passed n 0 (now (masks .entry)) (now (u .entry)) (now (u .exit)) r ⌝ }
+{
+    let mut again = false;
+    let mut a = n;
+    while 0 < a {
+        a -= 1;
+        if hand_on(masks[a], a, u) {
+            again = true;
+        }
+    }
+    again
+}
+
+// The urgency of each action.
+pub fn urgencies(masks: &[u64], deadlines: &[u32], cycle: u32, n: usize) -> [u32; 64]
+    requires { ⌜ (n ≤ 64) × (n ≤ length (now masks)) × (n ≤ length (now deadlines)) ⌝ }
+    ensures { λ r. ⌜ Urgent (lent n cycle (now (masks .entry)) (now (deadlines .entry)) [] 0) r ⌝ }
+{
+    let mut u = dues(deadlines, cycle, n);
+    let mut again = true;
+    while again {
+        again = pass(masks, n, &mut u);
+    }
+    u
+}
+
+// ---- order
+
+// The ready actions, some of which are known: an action that is ready stays so until it is done.
+fn ready(masks: &[u64], n: usize, done: u64, known: u64) -> u64
+    requires { ⌜ Masked n (now masks) × ((a : ℕ) → has known a ≡ true → Ready n (now masks) done a) ⌝ }
+    ensures { λ r. ⌜ ReadySet n (now (masks .entry)) done r ⌝ }
+{
+    let mut r = known;
+    let mut t = all_below(n) & !(done | known);
+    while t != 0 {
+        let a = lowest(t);
+        if subset(masks[a], done) {
+            r = with(r, a);
+        }
+        t = without(t, a);
+    }
+    r
+}
+
+// The ready action of least urgency, the lowest of several.
+fn next(urgency: &[u32; 64], ready: u64) -> usize
+    requires { ⌜ 0 < ready ⌝ }
+    ensures { λ r. ⌜ Next (now (urgency .entry)) ready r ⌝ }
+{
+    let mut best = lowest(ready);
+    let mut t = without(ready, best);
+    while t != 0 {
+        let a = lowest(t);
+        if urgency[a] < urgency[best] {
+            best = a;
+        }
+        t = without(t, a);
+    }
+    best
+}
+
+// Actions in order, and how many.
+pub struct Arranged {
+    pub placed: usize,
+    pub order: [u8; 64],
+}
+
+// The actions in order by urgency, as far as the masks allow.
+pub fn arrange(masks: &[u64], urgency: &[u32; 64], n: usize) -> Arranged
+    requires { ⌜ Masked n (now masks) ⌝ }
+    ensures { λ r. ⌜ Placed n (now (masks .entry)) (now (urgency .entry)) (r .placed) (r .order) ⌝ }
+{
+    let mut order = [0u8; 64];
+    let mut done: u64 = 0;
+    let mut free: u64 = 0;
+    let mut k: usize = 0;
+    while k < n {
+        free = ready(masks, n, done, free);
+        if free == 0 {
+            return Arranged { placed: k, order };
+        }
+        let a = next(urgency, free);
+        order[k] = a as u8;
+        free = without(free, a);
+        done = with(done, a);
+        k = count(done) as usize;
+    }
+    Arranged { placed: k, order }
+}
+
+// ---- refusals 8 and 9
+
+// Whether every deadline is met at level 0 worst times, the actions one after another as `order` says.
+pub fn fit(
+    order: &[u8; 64],
+    deadlines: &[u32],
+    cycle: u32,
+    worst: &[u32],
+    stride: usize,
+    n: usize,
+) -> bool
+    requires { ⌜ (n ≤ 64) × Timed n (now deadlines) (now worst) stride × ((k : ℕ) → k < n → getD (now order) k 0 < n) ⌝ }
+    ensures { λ r. ⌜ ((masks : List ℕ) → TellsFit (lent n cycle masks (now (deadlines .entry)) (now (worst .entry)) stride) (now (order .entry)) r) ⌝ }
+{
+    let mut end: u32 = 0;
+    let mut k: usize = 0;
+    while k < n {
+        let a = order[k] as usize;
+        end += worst[a * stride];
+        if due(deadlines[a], cycle) < end {
+            return false;
+        }
+        k += 1;
+    }
+    true
+}
+
+// A refusal, 0 for none, and the actions in order.
+pub struct Judged {
+    pub refusal: u32,
+    pub order: [u8; 64],
+}
+
+// 8 where the masks contain a loop, else 9 where no permitted order meets all deadlines at level 0 worst times.
+pub fn judge(
+    masks: &[u64],
+    deadlines: &[u32],
+    cycle: u32,
+    worst: &[u32],
+    stride: usize,
+    n: usize,
+) -> Judged
+    requires { ⌜ Masked n (now masks) × Timed n (now deadlines) (now worst) stride ⌝ }
+    ensures { λ r. ⌜ Verdict (lent n cycle (now (masks .entry)) (now (deadlines .entry)) (now (worst .entry)) stride) (r .refusal) (r .order) ⌝ }
+{
+    let urgency = urgencies(masks, deadlines, cycle, n);
+    let arranged = arrange(masks, &urgency, n);
+    let order = arranged.order;
+    if arranged.placed < n {
+        return Judged { refusal: 8, order };
+    }
+    if fit(&order, deadlines, cycle, worst, stride, n) {
+        Judged { refusal: 0, order }
+    } else {
+        Judged { refusal: 9, order }
+    }
+}
+
+// ---- loops
+
+// The masks of the n actions.
+fn copied(masks: &[u64], n: usize) -> [u64; 64]
+    requires { ⌜ (n ≤ 64) × (n ≤ length (now masks)) ⌝ }
+    ensures long { λ r. ⌜ length r ≡ 64 ⌝ }
+    ensures each { λ r. ⌜ ((a : ℕ) → a < n → getD r a 0 ≡ getD (now (masks .entry)) a 0) ⌝ }
+{
+    let mut all = [0u64; 64];
+    let mut a: usize = 0;
+    while a < n {
+        all[a] = masks[a];
+        a += 1;
+    }
+    all
+}
+
+// Where k comes before an action, so does all that comes before k.
+fn through(all: &mut [u64; 64], n: usize, k: usize)
+    requires { ⌜ (n ≤ 64) × (k < n) ⌝ }
+    ensures { λ _. ⌜ ((masks : List ℕ) → Rows masks n k (now (all .entry)) → Rows masks n (k + 1) (now (all .exit))) ⌝ }
+{
+    let far = all[k];
+    let mut b: usize = 0;
+    while b < n {
+        let near = all[b];
+        if member(near, k) {
+            all[b] = near | far;
+        }
+        b += 1;
+    }
+}
+
+// For each action the set of those that it must follow.
+fn closed(masks: &[u64], n: usize) -> [u64; 64]
+    requires { ⌜ (n ≤ 64) × (n ≤ length (now masks)) ⌝ }
+    ensures { λ r. ⌜ Rows (now (masks .entry)) n n r ⌝ }
+{
+    let mut all = copied(masks, n);
+    let mut k: usize = 0;
+    while k < n {
+        through(&mut all, n, k);
+        k += 1;
+    }
+    all
+}
+
+// The lowest action on a loop, n where there is none.
+pub fn first_looped(masks: &[u64], n: usize) -> usize
+    requires { ⌜ (n ≤ 64) × (n ≤ length (now masks)) ⌝ }
+    ensures { λ r. ⌜ FirstLooped n (now (masks .entry)) r ⌝ }
+{
+    let all = closed(masks, n);
+    let mut a: usize = 0;
+    while a < n {
+        if member(all[a], a) {
+            return a;
+        }
+        a += 1;
+    }
+    n
+}
