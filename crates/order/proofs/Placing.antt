@@ -35,13 +35,10 @@ module _ {n : ℕ} {masks : List ℕ} (x : Masked n masks) {done a : ℕ} where
 
 -- the first j actions of a list, before and after a store at k
 earlier-set : (l : List ℕ) (k v j : ℕ) → j ≤ k → (a : ℕ) → Earlier (λ i. getD l i 0) j a ↔ Earlier (λ i. getD (set l k v) i 0) j a
-earlier-set l k v j m a = (λ e. (e .0, e .1, same e ∙ e .2), λ e. (e .0, e .1, sym (other e) ∙ e .2))
+earlier-set l k v j m a = (λ e. (e .0, e .1, same (e .0) (e .1) ∙ e .2), λ e. (e .0, e .1, sym (same (e .0) (e .1)) ∙ e .2))
   where
-    same : (e : Earlier (λ i. getD l i 0) j a) → getD (set l k v) (e .0) 0 ≡ getD l (e .0) 0
-    same e = getD-set-other l k (e .0) v 0 (omega (arith, e .1))
-
-    other : (e : Earlier (λ i. getD (set l k v) i 0) j a) → getD (set l k v) (e .0) 0 ≡ getD l (e .0) 0
-    other e = getD-set-other l k (e .0) v 0 (omega (arith, e .1))
+    same : (i : ℕ) → i < j → getD (set l k v) i 0 ≡ getD l i 0
+    same i h = getD-set-other l k i v 0 (omega arith)
 
 -- ---- one action more
 

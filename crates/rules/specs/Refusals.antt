@@ -4,6 +4,7 @@ use mathlib.Core.Path.{_≡_}
 use mathlib.Core.Bool.{Bool, true, cond}
 use mathlib.Core.List.{List, [], _∷_, _++_}
 use mathlib.Core.Logic.{_⊎_, _≢_}
+use lib.Dec.{eqb}
 use lib.ListN.{length}
 use Rattle.rules.specs.Image.{Profile, has, version, header-spare, spare-of, image-bytes, profile}
 use Rattle.rules.specs.Order.{Loop, Before, Fit}
@@ -103,6 +104,10 @@ abbrev pub Accepted : List ℕ → Type 0
 Accepted s = First (image-checks s) 0
 
 -- ---- the calls' own
+
+-- A refusal leaves every lent slice untouched: what is there after a call is the new without a refusal, the old with one.
+abbrev pub kept {ℓ} : {A : Type ℓ} → ℕ → A → A → A
+kept refusal new old = cond (eqb refusal 0) new old
 
 -- 17 Room: a lent slice shorter than needed. Each pair is a slice's length and what is needed of it.
 abbrev pub Tight : List (ℕ × ℕ) → Type 0

@@ -1,0 +1,47 @@
+-- What the whole check answers, part by part.
+use mathlib.Core.Path.{_≡_, ap}
+use mathlib.Core.List.{List, _++_}
+use mathlib.Core.Logic.{_≢_}
+use Prim.Native.Nat.{ℕ}
+use Rattle.rules.specs.Refusals.{Ground, First, image-checks}
+use Rattle.rules.proofs.Refusals.{Numbered, first-one, first-goes-on, accepted-sound}
+use Rattle.image.specs.declared.Checked.{Checked}
+use Rattle.image.specs.declared.Refusal.{Refusal}
+use Rattle.image.specs.Checks.{Blank, Found, Answers, Judged}
+use Rattle.image.specs.Reading.{HasRecords}
+use Rattle.image.proofs.Checks.{has-records}
+
+-- a refused image
+pub refused-answers : {row : List Ground} {s : List ℕ} {r : Checked} (f : Refusal) → First row (f .number) → f .number ≢ 0
+    → (r .refusal ≡ f) × Blank r → Answers row s r
+refused-answers {row} f p some (e, blank) = record {
+  number = rw e p;
+  refused = λ _. blank;
+  accepted = λ z. absurd (some (rw e at z));
+}
+
+-- an accepted one
+pub accepted-answers : {row : List Ground} {s : List ℕ} {r : Checked} → First row 0 → r .refusal .number ≡ 0 → Found s r → Answers row s r
+accepted-answers p none found = record {
+  number = rw none p;
+  refused = λ some. absurd (some none);
+  accepted = λ _. found;
+}
+
+-- what the rest answers after a row that gives none
+pub answers-on : (row rest : List Ground) {s : List ℕ} {r : Checked} → Numbered row → First row 0 → Answers rest s r → Answers (row ++ rest) s r
+answers-on row rest m none a = record {
+  number = first-goes-on row rest _ m none (a .number);
+  refused = a .refused;
+  accepted = a .accepted;
+}
+
+-- the records of an accepted image are there, to be read by what the check answers
+pub accepted-records : {s : List ℕ} {r : Checked} → Judged s r → r .refusal .number ≡ 0 → HasRecords s (r .levels) (r .n)
+accepted-records {s} a none =
+    let sound = accepted-sound s .0 (rw none at (a .number)) in
+    has-records s (a .accepted none .n) (a .accepted none .levels) (sound .not-count) (sound .not-length)
+
+-- The contract of the check settles its answer.
+pub check-settled : (s : List ℕ) (r t : Refusal) → First (image-checks s) (r .number) → First (image-checks s) (t .number) → r ≡ t
+check-settled s r t p q = ap (λ (k : ℕ). record { number = k }) (first-one (image-checks s) (r .number) (t .number) p q)

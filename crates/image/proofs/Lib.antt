@@ -1,0 +1,5 @@
+pub mod Reading
+pub mod Faults
+pub mod Checks
+pub mod Ordering
+pub mod Answers

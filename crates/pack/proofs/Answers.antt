@@ -1,0 +1,35 @@
+-- What a yes or a no says. Assumes nothing.
+use mathlib.Core.Path.{_≡_, refl}
+use mathlib.Core.Bool.{Bool, true, false, false≢true}
+use mathlib.Core.Logic.{_⊎_, inl, inr, _↔_}
+use Prim.Native.Nat.{ℕ, _<_}
+use lib.Dec.{ltb}
+use borrow.Author.Tests.{ltb-true, lt-ltb}
+use Rattle.rules.proofs.Tests.{not-both}
+
+pub said-yes : {P : Type 0} → P → (true ≡ true) ↔ P
+said-yes p = ((λ e. p), (λ q. refl))
+
+pub said-no : {P : Type 0} → (P → ⊥) → (false ≡ true) ↔ P
+said-no f = ((λ e. absurd (false≢true e)), (λ p. absurd (f p)))
+
+pub refuted : {P : Type 0} {b : Bool} → (b ≡ true) ↔ P → b ≡ false → P → ⊥
+refuted says e p = not-both (says .1 p) e
+
+pub less-says : (a b : ℕ) → (ltb a b ≡ true) ↔ (a < b)
+less-says a b = (ltb-true a b, lt-ltb a b)
+
+-- what does not hold adds nothing to an answer
+pub or-else : {P Q : Type 0} {b : Bool} → (P → ⊥) → (b ≡ true) ↔ Q → (b ≡ true) ↔ (P ⊎ Q)
+or-else {P} {Q} {b} never says = ((λ e. inr (says .0 e)), back)
+  where
+    back : P ⊎ Q → b ≡ true
+    back (inl p) = absurd (never p)
+    back (inr q) = says .1 q
+
+pub or-nothing : {P : Type 0} {b : Bool} → (b ≡ true) ↔ P → (b ≡ true) ↔ (P ⊎ ⊥)
+or-nothing {P} {b} says = ((λ e. inl (says .0 e)), back)
+  where
+    back : P ⊎ ⊥ → b ≡ true
+    back (inl p) = says .1 p
+    back (inr q) = absurd q

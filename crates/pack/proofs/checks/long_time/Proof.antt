@@ -1,0 +1,88 @@
+-- The loop has found no time above the longest below level q. Assumes nothing.
+use Prim.Native.Nat.{ℕ, _-_, _≤_, _<_}
+use mathlib.Core.Logic.{inl, inr, ⊎-elim}
+use native.Mathlib.Omega.{arith}
+use borrow.Author.Needs.{needs}
+use borrow.Author.Count.{below-none, below-more}
+use Rattle.pack.specs.Faults.{times}
+use Rattle.pack.proofs.Answers.{said-yes, said-no}
+use Rattle.pack.proofs.Levels.{LongAt}
+use Rattle.pack.proofs.checks.long_time.Statement.{statement}
+use Rattle.pack.proofs.checks.long_time.Tie as tie
+
+abbrev Inv-loop : tie.InvT-loop
+Inv-loop averages worst levels a row q₀ q =
+    (q ≤ levels) × ((k : ℕ) → k < q → LongAt (times levels averages a) (times levels worst a) k → ⊥)
+
+abbrev μ-loop : tie.MeasureT-loop
+μ-loop averages worst levels a row q₀ q = levels - q
+
+mul-row : tie.Need-mul-row Inv-loop μ-loop
+mul-row c = search needs
+
+loop-holds : tie.Need-loop-holds Inv-loop μ-loop
+loop-holds c = (search needs, below-none _)
+
+add-if1 : tie.Need-add-if1 Inv-loop μ-loop
+add-if1 c = search needs
+
+mul-if1 : tie.Need-mul-if1 Inv-loop μ-loop
+mul-if1 c = search needs
+
+shared-slice-read-if1 : tie.Need-shared-slice-read-if1 Inv-loop μ-loop
+shared-slice-read-if1 c = search needs
+
+returns : tie.Need-returns Inv-loop μ-loop
+returns c =
+    let p = c .before .before in
+    said-yes (p .before .loop .q, p .loop-test .taken, inl (c .if1 .taken))
+
+add-if2 : tie.Need-add-if2 Inv-loop μ-loop
+add-if2 c = search needs
+
+mul-if2 : tie.Need-mul-if2 Inv-loop μ-loop
+mul-if2 c = search needs
+
+shared-slice-read-if2 : tie.Need-shared-slice-read-if2 Inv-loop μ-loop
+shared-slice-read-if2 c = search needs
+
+returns-2 : tie.Need-returns-2 Inv-loop μ-loop
+returns-2 c =
+    let p = c .before .before .before .before in
+    said-yes (p .before .loop .q, p .loop-test .taken, inr (c .if2 .taken))
+
+add-q : tie.Need-add-q Inv-loop μ-loop
+add-q c = search needs
+
+loop-less : tie.Need-loop-less Inv-loop μ-loop
+loop-less c = search needs
+
+loop-again : tie.Need-loop-again Inv-loop μ-loop
+loop-again c = (
+  search needs,
+  below-more _ _ (c .before .before .before .before .before .loop .inv .1) (⊎-elim (λ h. omega arith) (λ h. omega arith)),
+)
+
+returns-3 : tie.Need-returns-3 Inv-loop μ-loop
+returns-3 c = said-no (λ f. c .before .loop .inv .1 (f .0) (omega arith) (f .2))
+
+pub long-time-spec : {M : Type 1} → statement M
+long-time-spec =
+    tie.close
+    (tie.spec
+    Inv-loop
+    μ-loop
+    mul-row
+    loop-holds
+    add-if1
+    mul-if1
+    shared-slice-read-if1
+    returns
+    add-if2
+    mul-if2
+    shared-slice-read-if2
+    returns-2
+    add-q
+    loop-less
+    loop-again
+    returns-3)

@@ -1,0 +1,19 @@
+-- `ratio::quotient` meets its contract: a number of 32 bits is a float. Assumes nothing.
+use borrow.Author.Needs.{needs}
+use lib.Ieee.{div}
+use Rattle.rules.specs.Speed.{quotient}
+use Rattle.ratio.proofs.quotient.Statement.{statement}
+use Rattle.ratio.proofs.quotient.Tie as tie
+
+int-to-float-result : tie.Need-int-to-float-result
+int-to-float-result c = search needs
+
+int-to-float-result-2 : tie.Need-int-to-float-result-2
+int-to-float-result-2 c = search needs
+
+returns : tie.Need-returns
+unfolding div quotient
+returns c = search needs
+
+pub quotient-spec : {M : Type 1} → statement M
+quotient-spec = tie.close (tie.spec int-to-float-result int-to-float-result-2 returns)

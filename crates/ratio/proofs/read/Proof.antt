@@ -1,0 +1,36 @@
+-- `ratio::read` meets its contract: room is above 0 exactly if margin and t together are below the deadline. Assumes nothing.
+use mathlib.Core.Path.{ap, sym, _∙_}
+use borrow.Author.Needs.{needs}
+use borrow.Author.Tests.{lt-ltb, le-ltb}
+use Rattle.rules.specs.Speed.{ratio}
+use Rattle.rules.proofs.Speed.Reading.{reading-unsigned}
+use Rattle.ratio.specs.Ratio.{gives}
+use Rattle.ratio.proofs.read.Statement.{statement}
+use Rattle.ratio.proofs.read.Tie as tie
+
+add-if1 : tie.Need-add-if1
+add-if1 c = search needs
+
+add-quotient : tie.Need-add-quotient
+add-quotient c = search needs
+
+sub-quotient : tie.Need-sub-quotient
+sub-quotient c = search needs
+
+quotient-requires : tie.Need-quotient-requires
+quotient-requires c κs = search needs
+
+returns : tie.Need-returns
+returns c =
+    let a = c .before .before .args in
+    ap gives
+    (ap ratio (c .quotient .ensures)
+    ∙ sym (reading-unsigned (a .average) (a .deadline) (a .margin) (a .t) ∙ rw (lt-ltb _ _ (c .before .if1 .taken))))
+
+returns-2 : tie.Need-returns-2
+returns-2 c =
+    let a = c .before .args in
+    ap gives (sym (reading-unsigned (a .average) (a .deadline) (a .margin) (a .t) ∙ rw (le-ltb _ _ (c .if1 .left))))
+
+pub read-spec : {M : Type 1} → statement M
+read-spec = tie.close (tie.spec add-if1 add-quotient sub-quotient quotient-requires returns returns-2)

@@ -1,0 +1,4 @@
+pub mod Signed
+pub mod Limits
+pub mod Coast
+pub mod Planned

@@ -1,0 +1,51 @@
+-- The lesser of two numbers and a difference: how large they can be, and which of the two is the lesser. Assumes nothing.
+use Prim.Native.Nat.{ℕ, zero, suc, _+_, _-_, _≤_, _<_}
+use mathlib.Core.Path.{_≡_}
+use mathlib.Core.Bool.{Bool, true, false, cond}
+use native.Mathlib.Omega.{arith}
+use lib.Dec.{ltb}
+use lib.IntN.{ℤ, pos, negsuc, subℕ, _-ℤ_}
+use lib.Signed.{leZ, mag}
+use mir.Syntax.{w32}
+use mir.Val.{toZ, ofZ}
+use mir.Facts.{toZ-ofZ}
+use Rattle.rules.specs.Words.{minZ}
+use Rattle.rules.proofs.Limits.Signed.{AtMost, at-most-min, settled}
+
+-- ---- how large
+
+mag-cond : (t : Bool) (a b : ℤ) (m : ℕ) → mag a ≤ m → mag b ≤ m → mag (cond t a b) ≤ m
+mag-cond true a b m h k = h
+mag-cond false a b m h k = k
+
+pub mag-lesser : (a b : ℤ) (m : ℕ) → mag a ≤ m → mag b ≤ m → mag (minZ a b) ≤ m
+mag-lesser a b = mag-cond (leZ a b) a b
+
+mag-sub : (a b : ℕ) → mag (subℕ a b) ≤ a + (b - 1)
+mag-sub a b = mag-cond (ltb a b) (negsuc (b - suc a)) (pos (a - b)) (a + (b - 1)) (omega arith) (omega arith)
+
+pub mag-less : (z : ℤ) (c : ℕ) → mag (z -ℤ pos c) ≤ mag z + c
+mag-less (pos n) zero = omega arith
+mag-less (pos n) (suc c) = omega (arith, mag-sub n (suc c))
+mag-less (negsuc n) zero = omega (arith, mag-sub 0 (suc n))
+mag-less (negsuc n) (suc c) = omega arith
+
+-- a number in range is what its 32 bits say
+pub as-is : (z : ℤ) → mag z < 2147483648 → toZ w32 (ofZ w32 z) ≡ z
+as-is z h = toZ-ofZ (record { sfits = h })
+
+-- ---- which is the lesser
+
+pub lesser-left : (a b : ℤ) → ((t c : ℕ) → AtMost t c a → AtMost t c b) → minZ a b ≡ a
+lesser-left a b h = settled (minZ a b) a (λ t c. ((λ m. at-most-min t c a b .0 m .0), (λ m. at-most-min t c a b .1 (m, h t c m))))
+
+pub lesser-right : (a b : ℤ) → ((t c : ℕ) → AtMost t c b → AtMost t c a) → minZ a b ≡ b
+lesser-right a b h = settled (minZ a b) b (λ t c. ((λ m. at-most-min t c a b .0 m .1), (λ m. at-most-min t c a b .1 (h t c m, m))))
+
+-- nothing in range is above the greatest number
+pub lesser-top : (m : ℕ) (z : ℤ) → mag z ≤ m → minZ (pos m) z ≡ z
+lesser-top m z h = lesser-right (pos m) z (λ t c. top z h t c)
+  where
+    top : (z : ℤ) → mag z ≤ m → (t c : ℕ) → AtMost t c z → AtMost t c (pos m)
+    top (pos n) h t c a = omega arith
+    top (negsuc n) h t c a = omega arith

@@ -1,0 +1,25 @@
+-- The difference is within the range of 32 bits with a sign. Assumes nothing.
+use native.Mathlib.Omega.{arith}
+use borrow.Author.Needs.{needs}
+use lib.IntN.{pos, _-ℤ_}
+use mir.Syntax.{w32}
+use mir.Val.{SFits}
+use mir.Facts.{toZ-ofZ, toZ-pos}
+use Rattle.rows.proofs.Signed.{mag-less}
+use Rattle.rows.proofs.minus.Statement.{statement}
+use Rattle.rows.proofs.minus.Tie as tie
+
+fits : (c : tie.Start) → SFits w32 (c .args .limit -ℤ pos (c .args .time))
+fits c = record { sfits = omega (arith, mag-less (c .args .limit) (c .args .time)) }
+
+cast-result : tie.Need-cast-result
+cast-result c = search needs
+
+sub-result : tie.Need-sub-result
+sub-result c = rw (toZ-ofZ (c .fits .limit), toZ-pos w32 {n = c .args .time} (omega arith)) (fits c)
+
+returns : tie.Need-returns
+returns c = rw (toZ-ofZ (c .fits .limit), toZ-pos w32 {n = c .args .time} (omega arith)) (toZ-ofZ (fits c))
+
+pub minus-spec : {M : Type 1} → statement M
+minus-spec = tie.close (tie.spec cast-result sub-result returns)

@@ -1,0 +1,42 @@
+-- Limits by rows of eight: the row at a position from the row after it.
+use Prim.Native.Nat.{ℕ, _≤_, _<_}
+use mathlib.Core.List.{List}
+use lib.IntN.{ℤ, pos, _-ℤ_}
+use lib.ListN.{getD, replicate}
+use lib.Signed.{mag}
+use Rattle.rules.specs.Words.{minZ, tab}
+use Rattle.fields.specs.Fields.{splice}
+
+-- A limit by the limits after it, `first` at level 0 and `after` at its own level: the lesser of min (deadline, first) - worst and
+-- after - average.
+abbrev pub limit-of : ℕ → ℤ → ℤ → ℕ → ℕ → ℤ
+limit-of deadline first after worst average = minZ (minZ (pos deadline) first -ℤ pos worst) (after -ℤ pos average)
+
+-- the same by the row after it, at each level
+abbrev pub limits-of : List ℤ → List ℕ → List ℕ → ℕ → ℕ → ℤ
+limits-of next averages worsts deadline q =
+    limit-of deadline (getD next 0 (pos 0)) (getD next q (pos 0)) (getD worsts q 0) (getD averages q 0)
+
+-- a row of eight: f at each level, then 0
+unfoldable pub eight : (ℕ → ℤ) → ℕ → List ℤ
+eight f levels = splice (replicate 8 (pos 0)) 0 (tab f levels)
+
+abbrev pub row-of : List ℤ → List ℕ → List ℕ → ℕ → ℕ → List ℤ
+row-of next averages worsts deadline levels = eight (limits-of next averages worsts deadline) levels
+
+-- the row after the last position: the latest deadline, which no limit is above
+abbrev pub after-last : List ℤ
+after-last = replicate 8 (pos 1073741823)
+
+-- ---- numbers so small that every difference fits in 32 bits with a sign
+
+pub record SmallLimit (deadline : ℕ) (first after : ℤ) (worst average : ℕ) : Type 0 where
+  pub due : deadline ≤ 1073741823
+  pub first-near : mag first < 1073741824
+  pub after-near : mag after < 1073741824
+  pub worst-short : worst ≤ 16777215
+  pub average-short : average ≤ 16777215
+
+pub record SmallRow (next : List ℤ) (averages worsts : List ℕ) (deadline levels : ℕ) : Type 0 where
+  pub most : levels ≤ 8
+  pub each : (q : ℕ) → q < levels → SmallLimit deadline (getD next 0 (pos 0)) (getD next q (pos 0)) (getD worsts q 0) (getD averages q 0)

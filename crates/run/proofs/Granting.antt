@@ -1,0 +1,108 @@
+-- The searches of a decision, turn by turn: the greatest level that fits, found from the top, and the greatest coast that qualifies, found
+-- from below. Assumes nothing.
+use Prim.Native.Nat.{ℕ, zero, suc, _+_, _-_, _*_, _≤_, min}
+use mathlib.Core.Path.{_≡_, refl, sym, ap, _∙_}
+use mathlib.Core.Bool.{Bool, true, false, not, cond, _&&_, _||_, true≢false, and-true as and-one}
+use mathlib.Core.List.{List}
+use mathlib.Core.Logic.{inr, ⊎-elim}
+use native.Mathlib.Nat.{eq-or-lt-of-le}
+use native.Mathlib.Numerals.{add-one}
+use native.Mathlib.Omega.{arith}
+use lib.Dec.{leb}
+use lib.IntN.{ℤ, pos}
+use lib.ListN.{getD}
+use lib.Signed.{leZ}
+use Rattle.rules.specs.Words.{last-passing, all-pass}
+use Rattle.rules.specs.Run.{qualifies, left-granted, lent}
+use Rattle.rules.proofs.Tests.{failed, and-true, or-true, not-true, all-pass-each}
+
+-- ---- the greatest number that passes
+
+module _ (test : ℕ → Bool) where
+  pub last-here : (m j : ℕ) → j ≡ m + 1 → test m ≡ true → last-passing test j ≡ m
+  unfolding last-passing
+  last-here m j e h = rw (e, add-one m, h)
+
+  pub last-past : (m j : ℕ) → j ≡ m + 1 → test m ≡ false → last-passing test j ≡ last-passing test m
+  unfolding last-passing
+  last-past m j e h = rw (e, add-one m, h)
+
+  -- if none from x on passes, it is below x
+  pub last-below : (x m : ℕ) → x ≤ m → ((y : ℕ) → x ≤ y → test y ≡ false) → last-passing test m ≡ last-passing test x
+  last-below x zero h none = let e : x ≡ 0 = omega arith in rw e
+  last-below x (suc m) h none =
+      ⊎-elim
+      (λ e. rw e)
+      (λ l. last-past m (suc m) (omega arith) (none m (omega arith)) ∙ last-below x m (omega arith) none)
+      (eq-or-lt-of-le h)
+
+-- ---- the coast
+
+module _ (n L : ℕ) (limits bounds : List ℤ) (t i q : ℕ) where
+  -- t is at most the limit of the level above, x positions on
+  abbrev Reached : ℕ → Bool
+  Reached x = leZ (pos t) (getD limits ((i + x) * L + suc q) (pos 0))
+
+  -- t is at most the bound of a coast of x actions and one more
+  abbrev pub Under : ℕ → Bool
+  Under x = leZ (pos t) (getD bounds ((i * L + q) * 16 + x) (pos 0))
+
+  -- one more action could not coast: there the level would rise
+  abbrev pub Rises : ℕ → Bool
+  Rises x = not (leb L (suc q)) && Reached x
+
+  -- x actions would not rise
+  pub held : ℕ → Bool
+  held x = leb L (suc q) || all-pass (λ j. not (Reached j)) x
+
+  -- x actions and one more qualify
+  pub passes : ℕ → Bool
+  passes x = qualifies (lent n L limits bounds) t i q (suc x)
+
+  passes-is : (x : ℕ) → passes x ≡ Under x && held (suc x)
+  unfolding passes held qualifies lent
+  passes-is x = let e : suc x - 1 ≡ x = omega arith in rw e
+
+  -- Coasts of up to x actions are tried: `left` is one less than the greatest that qualifies, and none of the actions would rise.
+  pub record Going (x left : ℕ) : Type 0 where
+    pub found : left ≡ last-passing passes x
+    pub holds : held x ≡ true
+
+  pub going-none : Going 0 0
+  unfolding held all-pass last-passing
+  going-none = record { found = refl; holds = or-true (leb L (suc q)) true .1 (inr refl) }
+
+  held-more : (x : ℕ) → held x ≡ true → Rises x ≡ false → held (suc x) ≡ true
+  unfolding held all-pass
+  held-more x = go (leb L (suc q)) (all-pass (λ j. not (Reached j)) x) (Reached x)
+    where
+      go : (a b z : Bool) → a || b ≡ true → not a && z ≡ false → a || (b && not z) ≡ true
+      go true b z h r = refl
+      go false b true h r = absurd (true≢false r)
+      go false true false h r = refl
+      go false false false h r = h
+
+  pub going-more : (x left left′ : ℕ) → Going x left → Rises x ≡ false
+      → left′ ≡ cond (Under x) x left → Going (x + 1) left′
+  unfolding last-passing
+  going-more x left left′ g r e =
+      let h = held-more x (g .holds) r in
+      let p = passes-is x ∙ ap (λ (b : Bool). Under x && b) h ∙ and-one (Under x) in
+      rw add-one (record { found = e ∙ rw (g .found, p); holds = h })
+
+  -- where the level would rise, no longer coast qualifies
+  too-long : (x y : ℕ) → Rises x ≡ true → x ≤ y → passes y ≡ true → ⊥
+  unfolding held
+  too-long x y r l p =
+      let rise = and-true (not (leb L (suc q))) (Reached x) .0 r in
+      ⊎-elim
+      (not-true (leb L (suc q)) .0 (rise .0))
+      (λ all. not-true (Reached x) .0 (all-pass-each (λ j. not (Reached j)) (suc y) all x (omega arith)) (rise .1))
+      (or-true (leb L (suc q)) (all-pass (λ j. not (Reached j)) (suc y)) .0 (and-true (Under y) (held (suc y)) .0 (sym (passes-is y) ∙ p) .1))
+
+  pub going-stops : (x left m : ℕ) → Going x left → Rises x ≡ true → x ≤ m → left ≡ last-passing passes m
+  going-stops x left m g r l = g .found ∙ sym (last-below passes x m l (λ y h. failed (passes y) (too-long x y r h)))
+
+  pub going-done : (left : ℕ) → left ≡ last-passing passes (min 16 (n - i)) → left ≡ left-granted 16 (lent n L limits bounds) t i q
+  unfolding left-granted passes lent
+  going-done left e = e

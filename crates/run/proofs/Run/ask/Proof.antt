@@ -1,0 +1,60 @@
+-- Refused, decided or coasted. Assumes nothing.
+use mathlib.Core.Path.{_≡_, sym, _∙_}
+use native.Mathlib.Omega.{arith}
+use borrow.Author.Needs.{needs}
+use Rattle.rules.specs.Run.{ask-refusal}
+use Rattle.run.specs.Calls.{run-of}
+use Rattle.run.proofs.Refusing.{Askable, askable}
+use Rattle.run.proofs.Turns.{ask-refuses, ask-decides, ask-coasts}
+use Rattle.run.proofs.Run.ask.Statement.{statement}
+use Rattle.run.proofs.Run.ask.Tie as tie
+
+-- after the test of the refusal
+none : (c : tie.Else1) → let a = c .before .before .before .args in 0 ≡ ask-refusal (a .order .now) (a .limits .now) (a .bounds .now) (run-of (a .self))
+none c = sym (c .if1 .left) ∙ c .before .ask-refusal .ensures
+
+ready : (c : tie.Else1) → let a = c .before .before .before .args in Askable (a .order .now) (a .limits .now) (a .bounds .now) (run-of (a .self))
+ready c = askable _ _ _ _ (none c)
+
+ask-refusal-requires : tie.Need-ask-refusal-requires
+ask-refusal-requires c κs = search needs
+
+returns : tie.Need-returns
+returns c = ask-refuses _ _ _ _ _ (c .before .ask-refusal .ensures) (c .if1 .taken)
+
+cast-position : tie.Need-cast-position
+cast-position c = search needs
+
+shared-slice-read-action : tie.Need-shared-slice-read-action
+shared-slice-read-action c = omega (arith, ready (c .before .before), ready (c .before .before) .is-open .more)
+
+cast-action : tie.Need-cast-action
+cast-action c = omega (arith, c .shared-slice-known2 .given (c .before .before .before .before .before .args .self .position))
+
+decided-requires : tie.Need-decided-requires
+decided-requires c κs = ready (c .before .before .before .before) .is-open
+
+returns-2 : tie.Need-returns-2
+returns-2 c =
+    let d = c .before .decided .ensures in
+    ask-decides _ _ _ _ (none (c .before .before .before .before .before .before)) _ _ (c .before .before .if2 .taken) (d .0) (d .1)
+
+coasted-requires : tie.Need-coasted-requires
+coasted-requires c κs = search needs
+
+returns-3 : tie.Need-returns-3
+returns-3 c = ask-coasts _ _ _ _ (none (c .before .before .before .before .before)) _ (c .before .if2 .left) (c .coasted .ensures)
+
+pub ask-spec : {M : Type 1} → statement M
+ask-spec =
+    tie.close
+    (tie.spec
+    ask-refusal-requires
+    returns
+    cast-position
+    shared-slice-read-action
+    cast-action
+    decided-requires
+    returns-2
+    coasted-requires
+    returns-3)

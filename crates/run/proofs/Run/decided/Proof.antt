@@ -1,0 +1,73 @@
+-- What the three reads of the tables give is a decision of the rules. Assumes nothing.
+use native.Mathlib.Omega.{arith}
+use borrow.Author.Needs.{needs}
+use Rattle.run.specs.Calls.{run-of}
+use Rattle.run.proofs.Turns.{opened, level-low, decided-is}
+use Rattle.run.proofs.Run.decided.Statement.{statement}
+use Rattle.run.proofs.Run.decided.Tie as tie
+
+cast-n : tie.Need-cast-n
+cast-n c = search needs
+
+cast-levels : tie.Need-cast-levels
+cast-levels c = search needs
+
+cast-position : tie.Need-cast-position
+cast-position c = search needs
+
+mul-from : tie.Need-mul-from
+mul-from c = omega (arith, opened (c .before .before .before .pre))
+
+level-given-requires : tie.Need-level-given-requires
+level-given-requires c κs = omega (arith, opened (c .before .before .before .pre), c .before .before .before .pre)
+
+add-within : tie.Need-add-within
+add-within c = let o = c .before .before .before .before .pre in omega (arith, opened o, level-low o _ _ (c .level-given .ensures))
+
+within-requires : tie.Need-within-requires
+within-requires c κs = let o = c .before .before .before .before .pre in omega (arith, opened o, level-low o _ _ (c .level-given .ensures))
+
+left-granted-requires : tie.Need-left-granted-requires
+left-granted-requires c κs =
+    let o = c .before .before .before .before .before .pre in
+    record {
+      few = opened o .ranges .few;
+      few-levels = opened o .ranges .few-levels;
+      position = o .more;
+      level = level-low o _ _ (c .before .level-given .ensures);
+      limited = o .limited;
+      bounded = o .bounded;
+    }
+
+cast-t14 : tie.Need-cast-t14
+cast-t14 c =
+    let o = c .before .before .before .before .before .before .pre in
+    omega (arith, opened o .ranges .few-levels, level-low o _ _ (c .before .before .level-given .ensures))
+
+add-t15 : tie.Need-add-t15
+add-t15 c = let o = c .before .before .before .before .before .before .before .pre in omega (arith, opened o .counted, opened o .ranges)
+
+either-requires : tie.Need-either-requires
+either-requires c κs = search needs
+
+returns : tie.Need-returns
+returns c =
+    decided-is _ _ (run-of (c .before .before .before .before .before .before .before .before .args .self)) _ _ _ _ (c .before .before .before .before .level-given .ensures) (c .before .before .before .within .ensures)
+    (c .before .before .left-granted .ensures) (c .either .ensures)
+
+pub decided-spec : {M : Type 1} → statement M
+decided-spec =
+    tie.close
+    (tie.spec
+    cast-n
+    cast-levels
+    cast-position
+    mul-from
+    level-given-requires
+    add-within
+    within-requires
+    left-granted-requires
+    cast-t14
+    add-t15
+    either-requires
+    returns)

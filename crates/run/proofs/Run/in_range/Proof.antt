@@ -1,0 +1,84 @@
+-- Each return is judged by the ranges as a whole. Assumes nothing.
+use mathlib.Core.Path.{sym, _∙_}
+use native.Mathlib.Omega.{arith}
+use borrow.Author.Needs.{needs}
+use Rattle.rules.proofs.Calls.{facts-in-range}
+use Rattle.run.proofs.Ranges.{counts, counts-in, out-of-range}
+use Rattle.run.proofs.Run.in_range.Statement.{statement}
+use Rattle.run.proofs.Run.in_range.Tie as tie
+
+start-refusal-requires : tie.Need-start-refusal-requires
+start-refusal-requires c κs = search needs
+
+returns : tie.Need-returns
+returns c = out-of-range _ (λ f. c .if1 .taken (c .before .start-refusal .ensures ∙ sym (counts-in _ _ (record {
+  some-action = f .some-action;
+  few = f .few;
+  some-level = f .some-level;
+  few-levels = f .few-levels;
+}))))
+
+returns-2 : tie.Need-returns-2
+returns-2 c = out-of-range _ (λ f. omega arith)
+
+cast-if3 : tie.Need-cast-if3
+cast-if3 c = search needs
+
+returns-3 : tie.Need-returns-3
+returns-3 c = out-of-range _ (λ f. omega arith)
+
+one-if-requires : tie.Need-one-if-requires
+one-if-requires c κs = search needs
+
+add-asked : tie.Need-add-asked
+add-asked c = omega (arith, counts _ _ (sym (c .before .before .before .before .start-refusal .ensures) ∙ c .before .before .before .if1 .left))
+
+add-if4 : tie.Need-add-if4
+add-if4 c = omega (arith, counts _ _ (sym (c .before .before .before .before .start-refusal .ensures) ∙ c .before .before .before .if1 .left))
+
+returns-4 : tie.Need-returns-4
+returns-4 c = out-of-range _ (λ f. omega arith)
+
+returns-5 : tie.Need-returns-5
+returns-5 c = out-of-range _ (λ f. omega arith)
+
+returns-6 : tie.Need-returns-6
+returns-6 c = out-of-range _ (λ f. omega arith)
+
+returns-7 : tie.Need-returns-7
+returns-7 c = out-of-range _ (λ f. omega arith)
+
+returns-8 : tie.Need-returns-8
+returns-8 c =
+    let k = counts _ _ (sym (c .before .before .before .before .before .before .before .before .before .before .before .start-refusal .ensures) ∙ c .before .before .before .before .before .before .before .before .before .before .if1 .left) in
+    sym (facts-in-range _ (record {
+      some-action = k .some-action;
+      few = k .few;
+      some-level = k .some-level;
+      few-levels = k .few-levels;
+      position = omega arith;
+      clock = omega arith;
+      running = omega arith;
+      level = omega arith;
+      left = omega arith;
+      room = omega arith;
+      decisions = omega arith;
+    }))
+
+pub in-range-spec : {M : Type 1} → statement M
+in-range-spec =
+    tie.close
+    (tie.spec
+    start-refusal-requires
+    returns
+    returns-2
+    cast-if3
+    returns-3
+    one-if-requires
+    add-asked
+    add-if4
+    returns-4
+    returns-5
+    returns-6
+    returns-7
+    returns-8)

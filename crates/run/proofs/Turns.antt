@@ -1,0 +1,96 @@
+-- What a record that may be asked gives, and what the steps of a decision and of an end make of it. Assumes nothing.
+use Prim.Native.Nat.{ℕ, _+_, _*_, _≤_, _<_}
+use mathlib.Core.Path.{_≡_, sym, ap, _∙_}
+use mathlib.Core.Bool.{Bool, true, false, not, _||_}
+use mathlib.Core.List.{List}
+use mathlib.Core.Logic.{_≢_}
+use native.Mathlib.Nat.{mul-le-mul}
+use native.Mathlib.Numerals.{add-one}
+use native.Mathlib.Omega.{arith}
+use lib.IntN.{ℤ, pos}
+use lib.ListN.{getD}
+use lib.Signed.{leZ}
+use borrow.Author.Tests.{eq-eqb, ne-eqb}
+use Rattle.rules.specs.Words.{last-passing, one-if}
+use Rattle.rules.specs.Limits.{Plan}
+use Rattle.rules.specs.Run.{Run, level-given, fits, left-granted, lent, decide, coast, decides, given, ended}
+use Rattle.rules.specs.Run.{ask-refusal, ask, report-refusal, report}
+use Rattle.rules.specs.Run.Answer.{refused, gives}
+use Rattle.rules.proofs.Tests.{last-is}
+use Rattle.rules.proofs.Calls.{InRange, in-range-facts}
+use Rattle.run.specs.Calls.{Open}
+use Rattle.run.proofs.Rows.{into, past}
+use Rattle.run.proofs.Cells.{row-fits}
+
+-- ---- a decision
+
+module _ {limits bounds : List ℤ} {r : Run} (o : Open limits bounds r) where
+  pub record Opened : Type 0 where
+    pub ranges : InRange r
+    pub row : r .position * r .levels + r .levels ≤ r .n * r .levels
+    pub few : r .n * r .levels ≤ 512
+    pub counted : r .decisions ≤ r .position
+
+  pub opened : Opened
+  opened =
+      let ranges = in-range-facts r (o .ranged) in
+      record {
+        ranges = ranges;
+        row = row-fits (r .position) (r .n) (r .levels) (o .more);
+        few = mul-le-mul (ranges .few) (ranges .few-levels);
+        counted = omega (arith, ranges .decisions, ap one-if (o .waits));
+      }
+
+  pub level-low : (level : ℕ) (test : ℕ → Bool) → level ≡ last-passing test (r .levels) → level < r .levels
+  level-low level test e = omega (arith, last-is test (r .levels) .below (opened .ranges .some-level))
+
+module _ (limits bounds : List ℤ) (r : Run) where
+  pub decided-is : (level left : ℕ) (fit late : Bool)
+      → level ≡ last-passing (λ q. leZ (pos (r .clock)) (getD limits (r .position * r .levels + q) (pos 0))) (r .levels)
+      → fit ≡ leZ (pos (r .clock)) (getD limits (r .position * r .levels + level) (pos 0))
+      → left ≡ left-granted 16 (lent (r .n) (r .levels) limits bounds) (r .clock) (r .position) level → late ≡ r .late || not fit
+      → let P = lent (r .n) (r .levels) limits bounds in
+      (record {
+        n = r .n;
+        levels = r .levels;
+        position = r .position;
+        clock = r .clock;
+        running = true;
+        level = level;
+        left = left;
+        decisions = r .decisions + 1;
+        overrun = r .overrun;
+        late = late;
+      } ≡ decide 16 P r) × (not fit ≡ not (fits P (r .clock) (r .position)))
+  unfolding level-given fits lent
+  decided-is level left fit late level-is fit-is left-is late-is = (rw (late-is, left-is, fit-is, level-is, add-one), rw (fit-is, level-is))
+
+-- ---- the answers
+
+module _ (order : List ℕ) (limits bounds : List ℤ) (r : Run) where
+  abbrev P : Plan
+  P = lent (r .n) (r .levels) limits bounds
+
+  pub ask-refuses : (k : ℕ) → k ≡ ask-refusal order limits bounds r → k ≢ 0 → refused k r ≡ ask order limits bounds r
+  unfolding ask
+  ask-refuses k e some = past _ _ _ (ne-eqb _ _ (λ z. some (e ∙ z))) (ap (λ (x : ℕ). refused x r) e)
+
+  module _ (none : 0 ≡ ask-refusal order limits bounds r) where
+    pub ask-decides : (next : Run) (late : Bool) → r .left ≡ 0 → next ≡ decide 16 P r → late ≡ not (fits P (r .clock) (r .position))
+        → gives (getD order (r .position) 0) (next .level) true late next ≡ ask order limits bounds r
+    unfolding ask given decides
+    ask-decides next late z e l = into _ _ _ (eq-eqb _ _ (sym none)) (rw (eq-eqb (r .left) 0 z, e, l))
+
+    pub ask-coasts : (next : Run) → r .left ≢ 0 → next ≡ coast r → gives (getD order (r .position) 0) (r .level) false false next ≡ ask order limits bounds r
+    unfolding ask given decides
+    ask-coasts next z e = into _ _ _ (eq-eqb _ _ (sym none)) (rw (ne-eqb (r .left) 0 z, e))
+
+module _ (worst : List ℕ) (t : ℕ) (r : Run) where
+  pub report-refuses : (k : ℕ) → k ≡ report-refusal worst t r → k ≢ 0 → record { number = k; run = r } ≡ report worst t r
+  unfolding report
+  report-refuses k e some = past _ _ _ (ne-eqb _ _ (λ z. some (e ∙ z))) (ap (λ (x : ℕ). record { number = x; run = r }) e)
+
+  pub report-ends : (next : Run) → 0 ≡ report-refusal worst t r → next ≡ ended (getD worst (r .position * r .levels + r .level) 0) t r
+      → record { number = 0; run = next } ≡ report worst t r
+  unfolding report
+  report-ends next none e = into _ _ _ (eq-eqb _ _ (sym none)) (ap (λ (x : Run). record { number = 0; run = x }) e)

@@ -1,0 +1,341 @@
+// The run record and its calls: start, ask and report. Each call takes the record and hands the next one back.
+ghost use mathlib.Core.Path.{_≡_};
+ghost use mathlib.Core.Bool.{not, cond, _||_};
+ghost use Prim.Native.Nat.{_+_, _*_, _<_, _≤_};
+ghost use Rattle.rules.specs.Words.{one-if};
+ghost use Rattle.rules.specs.Run.{in-range, begun, coast, decide, ended, fits, lent, start-refusal, start, ask-refusal, ask, report-refusal, report};
+ghost use Rattle.run.specs.Calls.{run-of, answer-of, next-of, start-of, Open};
+
+pub mod decision;
+
+// The fields and their ranges are `in-range` of the rules.
+#[repr(C)]
+pub struct Run {
+    pub n: u32,
+    pub levels: u32,
+    pub position: u32,
+    pub clock: u32,
+    pub running: bool,
+    pub level: u32,
+    pub left: u32,
+    pub decisions: u32,
+    pub overrun: bool,
+    pub late: bool,
+}
+
+// What a start answers: the record begun, and the number of the refusal, 0 for none.
+#[repr(C)]
+pub struct Started {
+    pub run: Run,
+    pub refusal: u32,
+}
+
+pub enum Answer {
+    Refused(u32),
+    Given {
+        action: u32,
+        level: u32,
+        decided: bool,
+        late: bool,
+    },
+}
+
+// What an asking answers, with the next record.
+pub struct Asked {
+    pub run: Run,
+    pub answer: Answer,
+}
+
+// What a report answers: the next record, and the number of the refusal, 0 for none.
+#[repr(C)]
+pub struct Reported {
+    pub run: Run,
+    pub refusal: u32,
+}
+
+// A decision made: the record with the action running, and whether no level fits.
+pub struct Decided {
+    pub run: Run,
+    pub late: bool,
+}
+
+fn one_if(b: bool) -> u32
+    ensures { λ r. ⌜ (r ≡ one-if b) × (r ≤ 1) ⌝ }
+{
+    if b { 1 } else { 0 }
+}
+
+fn either(a: bool, b: bool) -> bool
+    ensures { λ r. ⌜ r ≡ a || b ⌝ }
+{
+    if a { true } else { b }
+}
+
+fn unless(b: bool, x: u32) -> u32
+    ensures { λ r. ⌜ r ≡ cond b 0 x ⌝ }
+{
+    if b { 0 } else { x }
+}
+
+// A start sets n and L, all else 0 or no.
+pub fn begun(n: u32, levels: u32) -> Run
+    ensures { λ r. ⌜ run-of r ≡ begun n levels 0 ⌝ }
+{
+    Run {
+        n: n,
+        levels: levels,
+        position: 0,
+        clock: 0,
+        running: false,
+        level: 0,
+        left: 0,
+        decisions: 0,
+        overrun: false,
+        late: false,
+    }
+}
+
+fn start_refusal(n: u32, levels: u32) -> u32
+    ensures { λ r. ⌜ r ≡ start-refusal n levels ⌝ }
+{
+    if n < 1 {
+        return 3;
+    }
+    if rules::MOST_ACTIONS < n as usize {
+        return 3;
+    }
+    if levels < 1 {
+        return 3;
+    }
+    if rules::MOST_LEVELS < levels as usize {
+        return 3;
+    }
+    0
+}
+
+impl Run {
+    // A refused start gives a record of zero actions, on which each later call answers 11.
+    pub fn start(n: u32, levels: u32) -> Started
+        ensures { λ r. ⌜ start-of r ≡ start n levels ⌝ }
+    {
+        let refusal = start_refusal(n, levels);
+        if refusal != 0 {
+            return Started {
+                run: begun(0, 0),
+                refusal: refusal,
+            };
+        }
+        Started {
+            run: begun(n, levels),
+            refusal: 0,
+        }
+    }
+
+    // Whether each field is in its range. Positions and coasts too long are told apart first, so that their sums do not wrap.
+    fn in_range(self) -> bool
+        ensures { λ r. ⌜ r ≡ in-range (run-of self) ⌝ }
+    {
+        let n = self.n;
+        let levels = self.levels;
+        let position = self.position;
+        let left = self.left;
+        if start_refusal(n, levels) != 0 {
+            return false;
+        }
+        if n < position {
+            return false;
+        }
+        if rules::LONGEST_COAST <= left as usize {
+            return false;
+        }
+        let asked = position + one_if(self.running);
+        if n < left + asked {
+            return false;
+        }
+        if levels <= self.level {
+            return false;
+        }
+        if rules::LAST_CLOCK < self.clock {
+            return false;
+        }
+        if asked < self.decisions {
+            return false;
+        }
+        true
+    }
+
+    // A decision here and now takes the level given, leaves r - 1 to coast, counts, and sets the late mark where no level fits.
+    pub fn decided(self, limits: &[i32], bounds: &[i32]) -> Decided
+        requires { ⌜ Open (now limits) (now bounds) (run-of self) ⌝ }
+        ensures run { λ r. ⌜ run-of (r .run) ≡ decide 16 (lent (self .n) (self .levels) (now (limits .entry)) (now (bounds .entry))) (run-of self) ⌝ }
+        ensures late { λ r. ⌜ r .late ≡ not (fits (lent (self .n) (self .levels) (now (limits .entry)) (now (bounds .entry))) (self .clock) (self .position)) ⌝ }
+    {
+        let n = self.n as usize;
+        let levels = self.levels as usize;
+        let position = self.position as usize;
+        let t = self.clock;
+        let from = position * levels;
+        let level = decision::level_given(limits, from, levels, t);
+        let late = !decision::within(limits, from + level, t);
+        let left = decision::left_granted(limits, bounds, n, levels, position, level, t);
+        Decided {
+            run: Run {
+                n: self.n,
+                levels: self.levels,
+                position: self.position,
+                clock: t,
+                running: true,
+                level: level as u32,
+                left: left,
+                decisions: self.decisions + 1,
+                overrun: self.overrun,
+                late: either(self.late, late),
+            },
+            late: late,
+        }
+    }
+
+    // A coasted asking gives the same level undecided and lowers what is left by 1.
+    pub fn coasted(self) -> Run
+        requires { ⌜ 0 < self .left ⌝ }
+        ensures { λ r. ⌜ run-of r ≡ coast (run-of self) ⌝ }
+    {
+        Run {
+            n: self.n,
+            levels: self.levels,
+            position: self.position,
+            clock: self.clock,
+            running: true,
+            level: self.level,
+            left: self.left - 1,
+            decisions: self.decisions,
+            overrun: self.overrun,
+            late: self.late,
+        }
+    }
+
+    // The action's end at a clock, where its worst time at its level is `worst`: a longer duration sets the overrun mark and cancels the rest of
+    // the coast.
+    pub fn ended(self, worst: u32, clock: u32) -> Run
+        requires { ⌜ (self .position < 64) × (self .clock ≤ clock) ⌝ }
+        ensures { λ r. ⌜ run-of r ≡ ended worst clock (run-of self) ⌝ }
+    {
+        let over = worst < clock - self.clock;
+        Run {
+            n: self.n,
+            levels: self.levels,
+            position: self.position + 1,
+            clock: clock,
+            running: false,
+            level: self.level,
+            left: unless(over, self.left),
+            decisions: self.decisions,
+            overrun: either(self.overrun, over),
+            late: self.late,
+        }
+    }
+
+    // Fields out of range 11, room 17, an action runs 11, all done 10.
+    fn ask_refusal(self, order: &[u8], limits: &[i32], bounds: &[i32]) -> u32
+        ensures { λ r. ⌜ r ≡ ask-refusal (now (order .entry)) (now (limits .entry)) (now (bounds .entry)) (run-of self) ⌝ }
+    {
+        if !self.in_range() {
+            return 11;
+        }
+        let n = self.n as usize;
+        let cells = n * self.levels as usize;
+        if order.len() < n {
+            return 17;
+        }
+        if limits.len() < cells {
+            return 17;
+        }
+        if bounds.len() < cells * rules::LONGEST_COAST {
+            return 17;
+        }
+        if self.running {
+            return 11;
+        }
+        if self.position == self.n {
+            return 10;
+        }
+        0
+    }
+
+    // Asking takes no clock and sets the action running. A refusal gives back the record.
+    pub fn ask(self, order: &[u8], limits: &[i32], bounds: &[i32]) -> Asked
+        ensures { λ r. ⌜ answer-of r ≡ ask (now (order .entry)) (now (limits .entry)) (now (bounds .entry)) (run-of self) ⌝ }
+    {
+        let refusal = self.ask_refusal(order, limits, bounds);
+        if refusal != 0 {
+            return Asked {
+                run: self,
+                answer: Answer::Refused(refusal),
+            };
+        }
+        let position = self.position as usize;
+        let action = order[position] as u32;
+        if self.left == 0 {
+            let made = self.decided(limits, bounds);
+            let run = made.run;
+            return Asked {
+                run: run,
+                answer: Answer::Given {
+                    action: action,
+                    level: run.level,
+                    decided: true,
+                    late: made.late,
+                },
+            };
+        }
+        Asked {
+            run: self.coasted(),
+            answer: Answer::Given {
+                action: action,
+                level: self.level,
+                decided: false,
+                late: false,
+            },
+        }
+    }
+
+    // Fields out of range 11, room 17, none runs 11, back 12, above the clock limit 13.
+    fn report_refusal(self, clock: u32, worst: &[u32]) -> u32
+        ensures { λ r. ⌜ r ≡ report-refusal (now (worst .entry)) clock (run-of self) ⌝ }
+    {
+        if !self.in_range() {
+            return 11;
+        }
+        if worst.len() < self.n as usize * self.levels as usize {
+            return 17;
+        }
+        if !self.running {
+            return 11;
+        }
+        if clock < self.clock {
+            return 12;
+        }
+        if rules::LAST_CLOCK < clock {
+            return 13;
+        }
+        0
+    }
+
+    // The end of the running action, by the clock since the cycle began. A refusal gives back the record.
+    pub fn report(self, clock: u32, worst: &[u32]) -> Reported
+        ensures { λ r. ⌜ next-of r ≡ report (now (worst .entry)) clock (run-of self) ⌝ }
+    {
+        let refusal = self.report_refusal(clock, worst);
+        if refusal != 0 {
+            return Reported {
+                run: self,
+                refusal: refusal,
+            };
+        }
+        let at = (self.position * self.levels + self.level) as usize;
+        Reported {
+            run: self.ended(worst[at], clock),
+            refusal: 0,
+        }
+    }
+}

@@ -1,0 +1,5 @@
+pub mod Same
+pub mod Written
+pub mod Again
+pub mod RoundTrip
+pub mod Accepts

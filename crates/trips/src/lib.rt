@@ -1,0 +1,1 @@
+// Reading and writing undo each other: laws alone, in proofs/.

@@ -1,0 +1,104 @@
+-- A turn stores the next average and the next worst time of the row. Assumes nothing.
+use mathlib.Core.Path.{_≡_}
+use Prim.Native.Nat.{_-_, _≤_}
+use native.Mathlib.Omega.{arith}
+use lib.ListN.{length, length-set}
+use borrow.Author.Needs.{needs}
+use Rattle.rules.specs.Words.{tab}
+use Rattle.rules.specs.Image.{average-of, worst-of}
+use Rattle.fields.specs.Fields.{splice}
+use Rattle.fields.proofs.Cats.{cat-none, cat-done}
+use Rattle.fields.proofs.Tabs.{tab-more}
+use Rattle.unpack.proofs.unpack_row.Statement.{statement}
+use Rattle.unpack.proofs.unpack_row.Tie as tie
+
+abbrev Inv-loop : tie.InvT-loop
+Inv-loop image levels a averages₀ worst₀ row q₀ averages worst q =
+    (q ≤ levels)
+    × (length averages ≡ length averages₀)
+    × (length worst ≡ length worst₀)
+    × (averages ≡ splice averages₀ row (tab (average-of image a) q))
+    × (worst ≡ splice worst₀ row (tab (worst-of image a) q))
+
+abbrev μ-loop : tie.MeasureT-loop
+μ-loop image levels a averages₀ worst₀ row q₀ averages worst q = levels - q
+
+mul-row : tie.Need-mul-row Inv-loop μ-loop
+mul-row c = search needs
+
+loop-holds : tie.Need-loop-holds Inv-loop μ-loop
+loop-holds c = (search needs, search needs, search needs, cat-none _ _ _, cat-none _ _ _)
+
+average-at-requires : tie.Need-average-at-requires Inv-loop μ-loop
+average-at-requires c κs = search needs
+
+add-averages : tie.Need-add-averages Inv-loop μ-loop
+add-averages c = search needs
+
+mul-averages : tie.Need-mul-averages Inv-loop μ-loop
+mul-averages c = search needs
+
+slice-write-averages : tie.Need-slice-write-averages Inv-loop μ-loop
+slice-write-averages c = search needs
+
+worst-at-requires : tie.Need-worst-at-requires Inv-loop μ-loop
+worst-at-requires c κs = search needs
+
+add-worst : tie.Need-add-worst Inv-loop μ-loop
+add-worst c = search needs
+
+mul-worst : tie.Need-mul-worst Inv-loop μ-loop
+mul-worst c = search needs
+
+slice-write-worst : tie.Need-slice-write-worst Inv-loop μ-loop
+slice-write-worst c = search needs
+
+add-q : tie.Need-add-q Inv-loop μ-loop
+add-q c = search needs
+
+loop-less : tie.Need-loop-less Inv-loop μ-loop
+loop-less c = search needs
+
+loop-again : tie.Need-loop-again Inv-loop μ-loop
+loop-again c =
+    let p = c .before .before .before in (
+      search needs,
+      simp length-set (omega arith),
+      simp length-set (omega arith),
+      tab-more _ _ _ _ (p .loop .q) (omega arith) (omega arith) (omega arith) (c .before .average-at .ensures) (p .loop .inv .3),
+      tab-more _ _ _ _ (p .loop .q) (omega arith) (omega arith) (omega arith) (c .worst-at .ensures) (p .loop .inv .4),
+    )
+
+same-length : tie.Need-same-length Inv-loop μ-loop
+same-length c = search needs
+
+same-length-2 : tie.Need-same-length-2 Inv-loop μ-loop
+same-length-2 c = search needs
+
+returns : tie.Need-returns Inv-loop μ-loop
+returns c =
+    let p = c .before .loop in
+    (cat-done _ _ _ (p .q) _ (omega arith) (p .inv .3), cat-done _ _ _ (p .q) _ (omega arith) (p .inv .4))
+
+pub unpack-row-spec : {M : Type 1} → statement M
+unpack-row-spec =
+    tie.close
+    (tie.spec
+    Inv-loop
+    μ-loop
+    mul-row
+    loop-holds
+    average-at-requires
+    add-averages
+    mul-averages
+    slice-write-averages
+    worst-at-requires
+    add-worst
+    mul-worst
+    slice-write-worst
+    add-q
+    loop-less
+    loop-again
+    same-length
+    same-length-2
+    returns)
