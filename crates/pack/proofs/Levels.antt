@@ -3,7 +3,7 @@ use Prim.Native.Nat.{ℕ, zero, suc, _<_}
 use mathlib.Core.Logic.{_⊎_, inl, inr}
 use native.Mathlib.Nat.{not-suc-le-zero}
 use Rattle.rules.specs.Refusals.{Falls}
-use Rattle.pack.specs.Faults.{Disordered}
+use Rattle.image.specs.Faults.{RowBreaks}
 
 -- the time at the level before q; 0 where there is none
 abbrev pub prior : (ℕ → ℕ) → ℕ → ℕ
@@ -23,12 +23,12 @@ module _ (average worst : ℕ → ℕ) where
   abbrev pub DisorderedAt : ℕ → Type 0
   DisorderedAt q = (worst q < average q) ⊎ ((average q < prior average q) ⊎ (worst q < prior worst q))
 
-  pub disordered-at : (L q : ℕ) → q < L → DisorderedAt q → Disordered average worst L
+  pub disordered-at : (L q : ℕ) → q < L → DisorderedAt q → RowBreaks L average worst
   disordered-at L q h (inl f) = inl (q, h, f)
   disordered-at L q h (inr (inl f)) = inr (inl (falls-at average L q h f))
   disordered-at L q h (inr (inr f)) = inr (inr (falls-at worst L q h f))
 
-  pub ordered : (L : ℕ) → ((q : ℕ) → q < L → DisorderedAt q → ⊥) → Disordered average worst L → ⊥
+  pub ordered : (L : ℕ) → ((q : ℕ) → q < L → DisorderedAt q → ⊥) → RowBreaks L average worst → ⊥
   ordered L none (inl f) = none (f .0) (f .1) (inl (f .2))
   ordered L none (inr (inl f)) = none (suc (f .0)) (f .1) (inr (inl (f .2)))
   ordered L none (inr (inr f)) = none (suc (f .0)) (f .1) (inr (inr (f .2)))

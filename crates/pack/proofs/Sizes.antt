@@ -2,24 +2,16 @@
 use Prim.Native.Nat.{ℕ, _+_, _*_, _≤_}
 use mathlib.Core.Path.{_≡_}
 use mathlib.Core.List.{List}
-use mathlib.Core.Logic.{inl, inr}
 use native.Mathlib.Nat.{mul-le-mul, mul-le-mul-right}
 use native.Mathlib.Omega.{arith}
 use lib.ListN.{length, length-append}
 use Rattle.rules.specs.Image.{Profile, bytes, record-bytes, record-at, image-bytes, level-image, record-image, image}
-use Rattle.rules.specs.Refusals.{CountsOut}
 use Rattle.fields.proofs.Bytes.{length-bytes}
 use Rattle.fields.proofs.Cats.{length-cat}
 use Rattle.fields.proofs.Strides.{stride-more}
 use Rattle.pack.specs.Writing.{Roomy}
 
 -- ---- within the ranges of n and L
-
-pub counts-in : (n L : ℕ) → 1 ≤ n → n ≤ 64 → 1 ≤ L → L ≤ 8 → CountsOut n L → ⊥
-counts-in n L a b c d (inl h) = omega arith
-counts-in n L a b c d (inr (inl h)) = omega arith
-counts-in n L a b c d (inr (inr (inl h))) = omega arith
-counts-in n L a b c d (inr (inr (inr h))) = omega arith
 
 pub few-entries : (n L : ℕ) → n ≤ 64 → L ≤ 8 → n * L ≤ 512
 few-entries n L h l = mul-le-mul h l

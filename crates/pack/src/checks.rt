@@ -1,37 +1,16 @@
-// The refusals 3, 17, 6 and 7 of lent tables. A check of the actions answers the lowest one at fault, n if none is.
+// The refusals 17, 6 and 7 of lent tables. A check of the actions answers the lowest one at fault, n if none is.
 
 ghost use mathlib.Core.Path.{_≡_};
 ghost use mathlib.Core.Bool.{true};
-ghost use mathlib.Core.Logic.{_↔_, _⊎_};
+ghost use mathlib.Core.Logic.{_↔_};
 ghost use Prim.Native.Nat.{_+_, _*_, _≤_, _<_};
 ghost use lib.ListN.{length};
 ghost use Rattle.rules.specs.Image.{of-tables};
-ghost use Rattle.rules.specs.Refusals.{CountsOut, Tight};
-ghost use Rattle.pack.specs.Faults.{times, LongTime, Disordered, RangeFault, LowestFault};
+ghost use Rattle.rules.specs.Refusals.{Tight};
+ghost use Rattle.pack.specs.Faults.{times, LongTime, RangeFault};
+ghost use Rattle.image.specs.Faults.{LowestFault, RowBreaks};
 ghost use Rattle.pack.specs.Writing.{rooms, Roomy};
 use crate::packing;
-
-// Refusal 3: whether n, L or the cycle is outside its range.
-pub fn count(n: usize, levels: usize, cycle: u32) -> bool
-    ensures { λ r. ⌜ (r ≡ true) ↔ (CountsOut n levels ⊎ ((cycle < 1) ⊎ (1073741823 < cycle))) ⌝ }
-{
-    if n < 1 {
-        return true;
-    }
-    if rules::MOST_ACTIONS < n {
-        return true;
-    }
-    if levels < 1 {
-        return true;
-    }
-    if rules::MOST_LEVELS < levels {
-        return true;
-    }
-    if cycle < 1 {
-        return true;
-    }
-    rules::LAST_CLOCK < cycle
-}
 
 // Refusal 17: whether a lent slice is shorter than needed; `room` is the length of the image.
 pub fn tight(
@@ -84,7 +63,7 @@ fn long_time(averages: &[u32], worst: &[u32], levels: usize, a: usize) -> bool
 // Whether an average of action a is above its worst time, or a time of it falls with the level.
 fn disordered(averages: &[u32], worst: &[u32], levels: usize, a: usize) -> bool
     requires { ⌜ (a * levels + levels ≤ length (now averages)) × (a * levels + levels ≤ length (now worst)) ⌝ }
-    ensures { λ r. ⌜ (r ≡ true) ↔ Disordered (times levels (now (averages .entry)) a) (times levels (now (worst .entry)) a) levels ⌝ }
+    ensures { λ r. ⌜ (r ≡ true) ↔ RowBreaks levels (times levels (now (averages .entry)) a) (times levels (now (worst .entry)) a) ⌝ }
 {
     let row = a * levels;
     // The times at the level before. Level 0 has none, and no time is below 0.
@@ -121,8 +100,8 @@ pub fn range(
     worst: &[u32],
 ) -> usize
     requires { ⌜ Roomy n levels (now masks) (now deadlines) (now averages) (now worst) ⌝ }
-    ensures { λ r. ⌜ LowestFault n
-        (RangeFault (of-tables n levels cycle (now (masks .entry)) (now (deadlines .entry)) (now (averages .entry)) (now (worst .entry)))) r ⌝ }
+    ensures { λ r. ⌜ LowestFault
+        (RangeFault (of-tables n levels cycle (now (masks .entry)) (now (deadlines .entry)) (now (averages .entry)) (now (worst .entry)))) n r ⌝ }
 {
     let mut a = 0;
     while a < n {
@@ -143,8 +122,8 @@ pub fn range(
 // Refusal 7: an average above its worst time, a time that falls with the level.
 pub fn table(n: usize, levels: usize, averages: &[u32], worst: &[u32]) -> usize
     requires { ⌜ (n * levels ≤ length (now averages)) × (n * levels ≤ length (now worst)) ⌝ }
-    ensures { λ r. ⌜ LowestFault n
-        (λ a. Disordered (times levels (now (averages .entry)) a) (times levels (now (worst .entry)) a) levels) r ⌝ }
+    ensures { λ r. ⌜ LowestFault
+        (λ a. RowBreaks levels (times levels (now (averages .entry)) a) (times levels (now (worst .entry)) a)) n r ⌝ }
 {
     let mut a = 0;
     while a < n {

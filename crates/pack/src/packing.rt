@@ -1,4 +1,5 @@
 // The bytes of an image: the header, then the records, action 0 first.
+use image::read::record_at;
 
 ghost use mathlib.Core.Path.{_≡_};
 ghost use mathlib.Core.List.{[], _++_};
@@ -8,14 +9,6 @@ ghost use Rattle.rules.specs.Words.{cat};
 ghost use Rattle.rules.specs.Image.{bytes, header-bytes, record-at, image-bytes, of-tables, header-of, level-image, record-image, image as image-of};
 ghost use Rattle.fields.specs.Fields.{splice};
 ghost use Rattle.pack.specs.Writing.{Roomy, of-records};
-
-// The byte at which the record of action a starts.
-pub fn record_at(levels: usize, a: usize) -> usize
-    requires { ⌜ (levels ≤ 8) × (a ≤ 64) ⌝ }
-    ensures { λ r. ⌜ r ≡ record-at levels a ⌝ }
-{
-    6 + a * (12 + 6 * levels)
-}
 
 // An image ends where a record after its last one would start.
 pub fn image_bytes(n: usize, levels: usize) -> usize

@@ -43,7 +43,7 @@ past-6 c = past-17 (c .before .before .before)
 
 not-3 : (c : tie.Else1) → Count (F (past-3 c)) → ⊥
 unfolding of-tables
-not-3 c = refuted (c .before .count .ensures) (c .if1 .left)
+not-3 c = refuted (c .before .count-out .ensures) (c .if1 .left)
 
 not-17 : (c : tie.Else2) → Tight (Rooms (past-17 c)) → ⊥
 not-17 c = refuted (c .before .tight .ensures) (c .if2 .left)
@@ -75,12 +75,12 @@ room c =
 
 -- ---- the needs
 
-count-requires : tie.Need-count-requires
-count-requires c κs = search needs
+count-out-requires : tie.Need-count-out-requires
+count-out-requires c κs = search needs
 
 returns : tie.Need-returns
 unfolding of-tables
-returns c = inl (c .before .count .ensures .0 (c .if1 .taken), refl)
+returns c = inl (c .before .count-out .ensures .0 (c .if1 .taken), refl)
 
 tight-requires : tie.Need-tight-requires
 tight-requires c κs = (counts c .0, counts c .2)
@@ -126,7 +126,7 @@ pub refusal-spec : {M : Type 1} → statement M
 refusal-spec =
     tie.close
     (tie.spec
-    count-requires
+    count-out-requires
     returns
     tight-requires
     returns-2

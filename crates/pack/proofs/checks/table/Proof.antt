@@ -4,7 +4,8 @@ use native.Mathlib.Omega.{arith}
 use borrow.Author.Needs.{needs}
 use borrow.Author.Count.{below-none, below-more}
 use Rattle.fields.proofs.Strides.{stride-fits}
-use Rattle.pack.specs.Faults.{times, Disordered}
+use Rattle.image.specs.Faults.{RowBreaks}
+use Rattle.pack.specs.Faults.{times}
 use Rattle.pack.proofs.Answers.{refuted}
 use Rattle.pack.proofs.Faults.{found, none-found}
 use Rattle.pack.proofs.checks.table.Statement.{statement}
@@ -12,7 +13,7 @@ use Rattle.pack.proofs.checks.table.Tie as tie
 
 abbrev Inv-loop : tie.InvT-loop
 Inv-loop n levels averages worst a₀ a =
-    (a ≤ n) × ((k : ℕ) → k < a → Disordered (times levels averages k) (times levels worst k) levels → ⊥)
+    (a ≤ n) × ((k : ℕ) → k < a → RowBreaks levels (times levels averages k) (times levels worst k) → ⊥)
 
 abbrev μ-loop : tie.MeasureT-loop
 μ-loop n levels averages worst a₀ a = n - a
