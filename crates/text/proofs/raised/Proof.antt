@@ -1,0 +1,56 @@
+-- The sum of a 32-bit number and 2 ^ 31 is not negative and below 2 ^ 32. Assumes nothing.
+use Prim.Native.Nat.{ℕ, suc, _+_, _-_, _<_, _^_}
+use mathlib.Core.Path.{_≡_, sym, subst}
+use native.Mathlib.Omega.{arith}
+use borrow.Author.Needs.{needs}
+use borrow.Author.Tests.{le-ltb}
+use lib.Dec.{T}
+use lib.IntN.{ℤ, pos, negsuc, natAbs, _+ℤ_}
+use lib.Signed.{mag, nonNeg}
+use mir.Syntax.{w32, w64}
+use mir.Val.{SFits}
+use mir.Facts.{toZ-ofZ, sfits-widen}
+use Rattle.text.proofs.raised.Statement.{statement}
+use Rattle.text.proofs.raised.Tie as tie
+
+record Above (w : ℤ) : Type 0 where
+  size : mag w < 4294967296
+  sign : T (nonNeg w)
+  whole : natAbs w < 4294967296
+
+above : (z : ℤ) → mag z < 2147483648 → Above (z +ℤ pos 2147483648)
+above (pos n) h = record { size = omega arith; sign = tt; whole = omega arith }
+above (negsuc n) h = subst Above (sym is) (record { size = omega arith; sign = tt; whole = omega arith })
+  where
+    is : negsuc n +ℤ pos 2147483648 ≡ pos (2147483648 - suc n)
+    is = rw (le-ltb 2147483648 (suc n) h)
+
+module _ (c : tie.Start) where
+  in32 : SFits w32 (c .args .z)
+  in32 = c .fits .z
+
+  in64 : SFits w64 (c .args .z)
+  in64 = sfits-widen tt (c .fits .z)
+
+  high : Above (c .args .z +ℤ pos 2147483648)
+  high = above (c .args .z) (c .fits .z .sfits)
+
+  sum : SFits w64 (c .args .z +ℤ pos 2147483648)
+  sum = record { sfits = omega (arith, high .size) }
+
+cast-result : tie.Need-cast-result
+cast-result c = rw (toZ-ofZ (in32 c)) (in64 c)
+
+add-result : tie.Need-add-result
+add-result c = rw (toZ-ofZ (in32 c), toZ-ofZ (in64 c)) (sum c)
+
+cast-result-2 : tie.Need-cast-result-2
+cast-result-2 c =
+    rw (toZ-ofZ (in32 c), toZ-ofZ (in64 c), toZ-ofZ (sum c))
+    (high c .sign, record { fits = omega (arith, high c .whole) })
+
+returns : tie.Need-returns
+returns c = search needs
+
+pub raised-spec : {M : Type 1} → statement M
+raised-spec = tie.close (tie.spec cast-result add-result cast-result-2 returns)
