@@ -1,0 +1,60 @@
+-- Assumes nothing.
+use borrow.Author.Needs.{needs}
+use Prim.Native.Nat.{_≤_, _-_}
+use mathlib.Core.Path.{_≡_}
+use lib.ListN.{length}
+use native.Mathlib.Omega.{arith}
+use Rattle.fields.proofs.Strides.{stride-fits}
+use Rattle.print.proofs.put_positions.Statement.{statement}
+use Rattle.print.proofs.put_positions.Tie as tie
+use Rattle.print.proofs.put_positions.Reads as reads
+use Rattle.print.proofs.put_positions.Lts as lts
+use Rattle.print.proofs.put_position.Reads as put-position-reads
+
+abbrev Inv-loop : tie.InvT-loop
+Inv-loop out₀ at order limits n levels to₀ i₀ out to i = (i ≤ n) × (length out ≡ length out₀) × (to ≤ length out₀)
+
+abbrev μ-loop : tie.MeasureT-loop
+μ-loop out₀ at order limits n levels to₀ i₀ out to i = n - i
+
+loop-holds : tie.Need-loop-holds Inv-loop μ-loop
+loop-holds c = search needs
+
+shared-slice-read-put-position : tie.Need-shared-slice-read-put-position Inv-loop μ-loop
+shared-slice-read-put-position c = search needs
+
+put-position-requires : tie.Need-put-position-requires Inv-loop μ-loop
+put-position-requires c κs =
+    let x = c .before .before .before .before .before .before .args in
+    let fits = stride-fits (c .before .before .before .loop .i) (x .n) (x .levels) (omega arith) in
+    (omega arith, omega arith, omega arith, omega arith)
+
+add-i : tie.Need-add-i Inv-loop μ-loop
+add-i c = search needs
+
+loop-less : tie.Need-loop-less Inv-loop μ-loop
+loop-less c = search needs
+
+loop-again : tie.Need-loop-again Inv-loop μ-loop
+loop-again c = search needs
+
+same-length : tie.Need-same-length Inv-loop μ-loop
+same-length c = search needs
+
+returns : tie.Need-returns Inv-loop μ-loop
+returns c = search needs
+
+pub put-positions-spec : {M : Type 1} → statement M
+put-positions-spec =
+    tie.close
+    (tie.spec
+    Inv-loop
+    μ-loop
+    loop-holds
+    shared-slice-read-put-position
+    put-position-requires
+    add-i
+    loop-less
+    loop-again
+    same-length
+    returns)

@@ -1,0 +1,65 @@
+// What the programs print. A refusal is one line, `refused` and the number.
+use text::put_byte;
+use text::put_bytes;
+use text::put_number;
+use text::put_signed;
+ghost use Prim.Native.Nat.{_+_, _*_, _≤_, _<_};
+ghost use lib.ListN.{length};
+
+fn put_refusal(out: &mut [u8], number: u32) -> usize
+    ensures { λ r. ⌜ r ≤ length (now (out .entry)) ⌝ }
+{
+    let at = put_bytes(&mut *out, 0, b"refused ");
+    let end = put_number(&mut *out, at, number);
+    put_byte(out, end, b'\n')
+}
+
+// A number and the space or line end after it.
+fn put_field(out: &mut [u8], at: usize, n: u32, after: u8) -> usize
+    requires { ⌜ at ≤ length (now out) ⌝ }
+    ensures { λ r. ⌜ r ≤ length (now (out .entry)) ⌝ }
+{
+    let end = put_number(&mut *out, at, n);
+    put_byte(out, end, after)
+}
+
+// ---- the plan
+
+// The limits of a position, each after a space.
+fn put_limits(out: &mut [u8], at: usize, limits: &[i32], from: usize, levels: usize) -> usize
+    requires { ⌜ (at ≤ length (now out)) × (from + levels ≤ length (now limits)) ⌝ }
+    ensures { λ r. ⌜ r ≤ length (now (out .entry)) ⌝ }
+{
+    let mut to = at;
+    let mut q = 0;
+    while q < levels {
+        let end = put_byte(&mut *out, to, b' ');
+        to = put_signed(&mut *out, end, limits[from + q]);
+        q += 1;
+    }
+    to
+}
+
+// Position, action and limits by level.
+fn put_position(out: &mut [u8], at: usize, i: usize, action: u8, limits: &[i32], levels: usize) -> usize
+    requires { ⌜ (at ≤ length (now out)) × (i < 64) × (levels ≤ 8) × (i * levels + levels ≤ length (now limits)) ⌝ }
+    ensures { λ r. ⌜ r ≤ length (now (out .entry)) ⌝ }
+{
+    let next = put_field(&mut *out, at, i as u32, b' ');
+    let end = put_number(&mut *out, next, action as u32);
+    let last = put_limits(&mut *out, end, limits, i * levels, levels);
+    put_byte(out, last, b'\n')
+}
+
+fn put_positions(out: &mut [u8], at: usize, order: &[u8], limits: &[i32], n: usize, levels: usize) -> usize
+    requires { ⌜ (at ≤ length (now out)) × (n ≤ 64) × (levels ≤ 8) × (n ≤ length (now order)) × (n * levels ≤ length (now limits)) ⌝ }
+    ensures { λ r. ⌜ r ≤ length (now (out .entry)) ⌝ }
+{
+    let mut to = at;
+    let mut i = 0;
+    while i < n {
+        to = put_position(&mut *out, to, i, order[i], limits, levels);
+        i += 1;
+    }
+    to
+}

@@ -1,0 +1,622 @@
+#include "fast.h"
+
+#include <string.h>
+
+enum {
+    SHORT = 1,
+    VERSION,
+    COUNT,
+    LENGTH,
+    SPARE,
+    RANGE,
+    TABLE,
+    LOOP,
+    UNFIT,
+    FINISHED,
+    TURN,
+    BACK,
+    CLOCK,
+    TRACE,
+    NAME,
+    DURATION,
+    ROOM,
+    READING
+};
+
+#define LAST_CLOCK 1073741823u
+#define LAST_TIME 16777215u
+#define COAST 16u
+#define RECORDS 65535u
+#define ABSENT INT32_MIN
+
+#if __BYTE_ORDER__ != __ORDER_LITTLE_ENDIAN__
+#error "bytes are swapped on every read and write of an image"
+#endif
+
+/* ---- Bytes, high byte first ---- */
+
+static inline uint64_t get64(const uint8_t *at) {
+    uint64_t word;
+    memcpy(&word, at, sizeof word);
+    return __builtin_bswap64(word);
+}
+
+static inline uint32_t get32(const uint8_t *at) {
+    uint32_t word;
+    memcpy(&word, at, sizeof word);
+    return __builtin_bswap32(word);
+}
+
+static inline void put64(uint8_t *at, uint64_t word) {
+    word = __builtin_bswap64(word);
+    memcpy(at, &word, sizeof word);
+}
+
+static inline void put32(uint8_t *at, uint32_t word) {
+    word = __builtin_bswap32(word);
+    memcpy(at, &word, sizeof word);
+}
+
+/* ---- Sizes and records ---- */
+
+/* Sizes of an image whose length is right; stride is the bytes of a record. */
+typedef struct {
+    uint32_t n, levels, cycle, stride;
+} shape;
+
+static inline bool shape_fits(uint32_t n, uint32_t levels) { return n - 1 < 64 && levels - 1 < 8; }
+
+static inline bool make_shape(shape *s, uint32_t n, uint32_t levels, uint32_t cycle) {
+    *s = (shape){n, levels, cycle, 12 + 6 * levels};
+    return shape_fits(n, levels) && cycle - 1 < LAST_CLOCK;
+}
+
+static inline size_t shape_bytes(const shape *s) { return 6 + (size_t)s->n * s->stride; }
+
+static inline uint64_t present(uint32_t n) { return UINT64_MAX >> (64 - n); }
+
+static inline const uint8_t *record_of(const shape *s, const uint8_t *image, uint32_t action) {
+    return image + 6 + (size_t)action * s->stride;
+}
+
+/* The deadline that counts, from the word that holds it. */
+static inline uint32_t deadline_of(const shape *s, uint32_t word) {
+    uint32_t written = word >> 2;
+    return written ? written : s->cycle;
+}
+
+/* An average and a worst time in the halves of a word, so that both are compared by one subtraction. */
+static inline uint64_t make_pair(uint32_t average, uint32_t worst) { return (uint64_t)average << 32 | worst; }
+static inline uint32_t average_in(uint64_t pair) { return (uint32_t)(pair >> 32); }
+static inline uint32_t worst_in(uint64_t pair) { return (uint32_t)pair; }
+
+/* The pair in the last six of eight bytes. */
+static inline uint64_t get_pair(const uint8_t *at) {
+    uint64_t word = get64(at);
+    return (word & UINT64_C(0xffffff000000)) << 8 | (word & LAST_TIME);
+}
+
+static inline uint64_t pair_of(const uint8_t *record, uint32_t level) { return get_pair(record + 10 + 6 * level); }
+
+/* The highest bit of each half. */
+#define GUARD (UINT64_C(1) << 63 | UINT64_C(1) << 31)
+
+/* A guard bit is lost where a time is below that of the level before, or the worst time below the average. */
+static inline uint64_t kept(uint64_t pair, uint64_t before) {
+    uint64_t guarded = pair | GUARD;
+    return (guarded - before) & (guarded - (pair >> 32));
+}
+
+/* ---- Order ---- */
+
+/* What the order reads, by action: deadlines that count, worst times of level 0. */
+typedef struct {
+    uint64_t masks[64];
+    uint32_t deadlines[64];
+    uint32_t worst[64];
+} actions;
+
+static inline uint32_t take_lowest(uint64_t *set) {
+    uint32_t lowest = (uint32_t)__builtin_ctzll(*set);
+    *set &= *set - 1;
+    return lowest;
+}
+
+static inline uint32_t highest(uint64_t set) { return 63u - (uint32_t)__builtin_clzll(set); }
+
+/* Ascending (Shell's way: short, and quick for so few). */
+static void sort_keys(uint64_t *keys, uint32_t n) {
+    static const uint32_t gaps[] = {23, 10, 4, 1};
+    for (uint32_t g = 0; g < 4; g++) {
+        uint32_t gap = gaps[g];
+        for (uint32_t i = gap; i < n; i++) {
+            uint64_t key = keys[i];
+            uint32_t at = i;
+            for (; at >= gap && keys[at - gap] > key; at -= gap) keys[at] = keys[at - gap];
+            keys[at] = key;
+        }
+    }
+}
+
+/* The actions by urgency, then number. */
+static void rank_actions(const actions *of, uint32_t n, bool same_deadlines, uint8_t *by_rank) {
+    if (same_deadlines) {
+        for (uint32_t a = 0; a < n; a++) by_rank[a] = (uint8_t)a;
+        return;
+    }
+    uint64_t keys[64];
+    for (uint32_t a = 0; a < n; a++) keys[a] = (uint64_t)of->deadlines[a] << 6 | a;
+    sort_keys(keys, n);
+    /* Deadlines from the least up: those of one deadline and all before them that have no lesser one. */
+    uint64_t left = present(n);
+    uint32_t at = 0, rank = 0;
+    while (left) {
+        uint64_t deadline = keys[at] >> 6, front = 0;
+        while (at < n && keys[at] >> 6 == deadline) front |= UINT64_C(1) << (keys[at++] & 63);
+        front &= left;
+        uint64_t group = front;
+        while (front) {
+            uint64_t new = of->masks[take_lowest(&front)] & left & ~group;
+            group |= new;
+            front |= new;
+        }
+        left &= ~group;
+        while (group) by_rank[rank++] = (uint8_t)take_lowest(&group);
+    }
+}
+
+/* The order by urgency. An action that is not ready waits with one of its predecessors still to be done. */
+static uint32_t by_urgency(const actions *of, uint32_t n, bool same_deadlines, uint8_t *order) {
+    uint8_t by_rank[64], rank[64];
+    uint64_t waiting[64] = {0}, ready = 0, done = 0;
+    rank_actions(of, n, same_deadlines, by_rank);
+    for (uint32_t place = 0; place < n; place++) rank[by_rank[place]] = (uint8_t)place;
+    for (uint32_t a = 0; a < n; a++) {
+        uint64_t mask = of->masks[a];
+        if (mask)
+            waiting[highest(mask)] |= UINT64_C(1) << a;
+        else
+            ready |= UINT64_C(1) << rank[a];
+    }
+    uint32_t clock = 0;
+    bool unfit = false;
+    for (uint32_t i = 0; i < n; i++) {
+        if (!ready) return LOOP;
+        uint32_t action = by_rank[take_lowest(&ready)];
+        order[i] = (uint8_t)action;
+        done |= UINT64_C(1) << action;
+        clock += of->worst[action];
+        unfit |= clock > of->deadlines[action];
+        for (uint64_t freed = waiting[action]; freed;) {
+            uint32_t a = take_lowest(&freed);
+            uint64_t rest = of->masks[a] & ~done;
+            if (rest) {
+                /* Any will do; one that changes from step to step is seldom the next again. */
+                uint32_t turn = i * 29 % 64;
+                uint64_t turned = rest >> turn | rest << (-turn & 63);
+                waiting[((uint32_t)__builtin_ctzll(turned) + turn) % 64] |= UINT64_C(1) << a;
+            } else {
+                ready |= UINT64_C(1) << rank[a];
+            }
+        }
+    }
+    return unfit ? UNFIT : 0;
+}
+
+/* Refusals 8 and 9. With one deadline and predecessors of lower numbers only, the order is that of the numbers. */
+static uint32_t arrange(const actions *of, uint32_t n, uint8_t *order) {
+    uint32_t differ = 0, end = 0;
+    uint64_t later = 0;
+    for (uint32_t a = 0; a < n; a++) {
+        differ |= of->deadlines[a] ^ of->deadlines[0];
+        later |= of->masks[a] >> a;
+        end += of->worst[a];
+    }
+    if (differ || later) return by_urgency(of, n, !differ, order);
+    for (uint32_t a = 0; a < n; a++) order[a] = (uint8_t)a;
+    return end > of->deadlines[0] ? UNFIT : 0;
+}
+
+/* ---- Image ---- */
+
+/* Refusals 1 to 4. */
+static uint32_t image_shape(const uint8_t *image, size_t length, shape *s) {
+    if (length < 6) return SHORT;
+    uint32_t head = get32(image);
+    if (head >> 28 != 1) return VERSION;
+    uint32_t cycle = (head & 0x1ffff) << 13 | (uint32_t)image[4] << 5 | image[5] >> 3;
+    if (!make_shape(s, head >> 21 & 127, head >> 17 & 15, cycle)) return COUNT;
+    return length == shape_bytes(s) ? 0 : LENGTH;
+}
+
+/* Refusals 1 to 9; the shape and the order (room for 64) of an accepted image. */
+static uint32_t examine(const uint8_t *image, size_t length, shape *s, uint8_t *order) {
+    uint32_t refusal = image_shape(image, length, s);
+    if (refusal) return refusal;
+    actions of;
+    uint64_t absent = ~present(s->n), strangers = 0;
+    uint32_t spare = image[5] & 7;
+    uint64_t table = GUARD;
+    bool range = false;
+    const uint8_t *record = image + 6;
+    for (uint32_t a = 0; a < s->n; a++, record += s->stride) {
+        uint64_t mask = get64(record), before = 0;
+        uint32_t word = get32(record + 8);
+        strangers |= mask & absent;
+        spare |= word & 3;
+        range |= word >> 2 > s->cycle;
+        of.masks[a] = mask;
+        of.deadlines[a] = deadline_of(s, word);
+        of.worst[a] = worst_in(pair_of(record, 0));
+        for (const uint8_t *at = record + 10, *end = record + s->stride - 2; at < end; at += 6) {
+            uint64_t pair = get_pair(at);
+            table &= kept(pair, before);
+            before = pair;
+        }
+    }
+    if (spare) return SPARE;
+    if (range || strangers) return RANGE;
+    if ((table & GUARD) != GUARD) return TABLE;
+    return arrange(&of, s->n, order);
+}
+
+uint32_t fast_check(const uint8_t *image, size_t length, fast_counts *counts) {
+    shape s;
+    uint8_t order[64];
+    uint32_t refusal = examine(image, length, &s, order);
+    if (!refusal) *counts = (fast_counts){s.n, s.levels, s.cycle};
+    return refusal;
+}
+
+uint32_t fast_read(const uint8_t *image, size_t length, uint64_t *restrict masks, size_t masks_room,
+                   uint32_t *restrict deadlines, size_t deadlines_room, uint32_t *restrict averages,
+                   size_t averages_room, uint32_t *restrict worst, size_t worst_room, fast_counts *counts) {
+    shape s;
+    uint8_t order[64];
+    uint32_t refusal = examine(image, length, &s, order);
+    if (refusal) return refusal;
+    size_t cells = (size_t)s.n * s.levels;
+    if (masks_room < s.n || deadlines_room < s.n || averages_room < cells || worst_room < cells) return ROOM;
+    const uint8_t *record = image + 6;
+    for (uint32_t a = 0; a < s.n; a++, record += s.stride) {
+        masks[a] = get64(record);
+        deadlines[a] = get32(record + 8) >> 2;
+        for (const uint8_t *at = record + 10, *end = record + s.stride - 2; at < end; at += 6) {
+            uint64_t pair = get_pair(at);
+            *averages++ = average_in(pair);
+            *worst++ = worst_in(pair);
+        }
+    }
+    *counts = (fast_counts){s.n, s.levels, s.cycle};
+    return 0;
+}
+
+/* Refusals 6 to 9 of a writing. */
+static uint32_t judge(const shape *s, const uint64_t *masks, const uint32_t *deadlines, const uint32_t *averages,
+                      const uint32_t *worst) {
+    actions of;
+    uint8_t order[64];
+    uint64_t absent = ~present(s->n), strangers = 0;
+    uint64_t table = GUARD;
+    uint32_t times = 0;
+    bool range = false;
+    for (uint32_t a = 0; a < s->n; a++) {
+        strangers |= masks[a] & absent;
+        range |= deadlines[a] > s->cycle;
+        of.masks[a] = masks[a];
+        of.deadlines[a] = deadlines[a] ? deadlines[a] : s->cycle;
+        of.worst[a] = *worst;
+        uint64_t before = 0;
+        for (uint32_t q = 0; q < s->levels; q++) {
+            uint64_t pair = make_pair(*averages, *worst);
+            times |= *averages++ | *worst++;
+            table &= kept(pair, before);
+            before = pair;
+        }
+    }
+    if (range || strangers || times > LAST_TIME) return RANGE;
+    if ((table & GUARD) != GUARD) return TABLE;
+    return arrange(&of, s->n, order);
+}
+
+uint32_t fast_write(uint32_t n, uint32_t levels, uint32_t cycle, const uint64_t *restrict masks, size_t masks_room,
+                    const uint32_t *restrict deadlines, size_t deadlines_room, const uint32_t *restrict averages,
+                    size_t averages_room, const uint32_t *restrict worst, size_t worst_room, uint8_t *restrict image,
+                    size_t room, size_t *written) {
+    shape s;
+    if (!make_shape(&s, n, levels, cycle)) return COUNT;
+    size_t cells = (size_t)n * levels, bytes = shape_bytes(&s);
+    if (masks_room < n || deadlines_room < n || averages_room < cells || worst_room < cells || room < bytes)
+        return ROOM;
+    uint32_t refusal = judge(&s, masks, deadlines, averages, worst);
+    if (refusal) return refusal;
+    put32(image, UINT32_C(1) << 28 | n << 21 | levels << 17 | cycle >> 13);
+    image[4] = (uint8_t)(cycle >> 5);
+    image[5] = (uint8_t)(cycle << 3);
+    uint8_t *at = image + 6;
+    for (uint32_t a = 0; a < n; a++) {
+        put64(at, masks[a]);
+        put32(at + 8, deadlines[a] << 2);
+        at += 12;
+        for (uint32_t q = 0; q < levels; q++, at += 6) {
+            uint64_t pair = (uint64_t)*averages++ << 24 | *worst++;
+            put32(at, (uint32_t)(pair >> 16));
+            at[4] = (uint8_t)(pair >> 8);
+            at[5] = (uint8_t)pair;
+        }
+    }
+    *written = bytes;
+    return 0;
+}
+
+uint32_t fast_lookup(const uint8_t *image, size_t length, uint32_t action, const uint8_t **part, size_t *part_length) {
+    shape s;
+    uint8_t order[64];
+    uint32_t refusal = examine(image, length, &s, order);
+    if (!refusal && action >= s.n) refusal = NAME;
+    *part = refusal ? image : record_of(&s, image, action);
+    *part_length = refusal ? 0 : s.stride;
+    return refusal;
+}
+
+/* ---- Planner ---- */
+
+/* Four bounds at once. */
+typedef int32_t four __attribute__((vector_size(16)));
+
+static inline four get4(const int32_t *at) {
+    four lanes;
+    memcpy(&lanes, at, sizeof lanes);
+    return lanes;
+}
+
+/* bound(i,q,r) = min(limit(i,q), bound(i+1,q,r-1) - worst(i,q)), from the same level's row at the next position. */
+static inline void coast_row(int32_t limit, int32_t worst, const int32_t *after, int32_t *bounds) {
+    static const uint32_t starts[4] = {0, 4, 8, 11};
+    four least = {limit, limit, limit, limit}, less = {worst, worst, worst, worst};
+    four absent = {ABSENT, ABSENT, ABSENT, ABSENT};
+    bounds[0] = limit;
+    for (uint32_t part = 0; part < 4; part++) {
+        four next = get4(after + starts[part]), gone = next == absent;
+        /* An absent bound stays as it is: nothing is taken from it, and the limit is never below it. */
+        four through = next - (less & ~gone), lower = through < least;
+        four bound = (through & lower) | (least & ~lower);
+        memcpy(bounds + 1 + starts[part], &bound, sizeof bound);
+    }
+}
+
+static void last_coast_row(int32_t limit, int32_t *bounds) {
+    bounds[0] = limit;
+    for (uint32_t r = 1; r < COAST; r++) bounds[r] = ABSENT;
+}
+
+uint32_t fast_plan(const uint8_t *image, size_t length, uint8_t *restrict order, size_t order_room,
+                   int32_t *restrict limits, size_t limits_room, uint32_t *restrict worst, size_t worst_room,
+                   int32_t *restrict coasts, size_t coasts_room, fast_counts *counts) {
+    shape s;
+    uint8_t arranged[64];
+    uint32_t refusal = examine(image, length, &s, arranged);
+    if (refusal) return refusal;
+    uint32_t levels = s.levels;
+    size_t cells = (size_t)s.n * levels;
+    if (order_room < s.n || limits_room < cells || worst_room < cells || coasts_room < cells * COAST) return ROOM;
+    memcpy(order, arranged, s.n);
+
+    /* limit(i,q) = min(min(deadline(i), limit(i+1,0)) - worst(i,q), limit(i+1,q) - average(i,q)); none past the end. */
+    int32_t after[8];
+    for (uint32_t q = 0; q < 8; q++) after[q] = INT32_MAX;
+    for (uint32_t i = s.n; i-- > 0;) {
+        const uint8_t *record = record_of(&s, image, arranged[i]);
+        int32_t latest = (int32_t)deadline_of(&s, get32(record + 8));
+        if (after[0] < latest) latest = after[0];
+        const uint8_t *at = record + 10;
+        size_t row = (size_t)i * levels;
+        for (uint32_t q = 0; q < levels; q++, at += 6) {
+            uint64_t pair = get_pair(at);
+            int32_t longest = (int32_t)worst_in(pair);
+            int32_t limit = latest - longest, by_average = after[q] - (int32_t)average_in(pair);
+            if (by_average < limit) limit = by_average;
+            after[q] = limit;
+            limits[row + q] = limit;
+            worst[row + q] = (uint32_t)longest;
+            int32_t *bounds = coasts + (row + q) * COAST;
+            if (i + 1 < s.n)
+                coast_row(limit, longest, bounds + levels * COAST, bounds);
+            else
+                last_coast_row(limit, bounds);
+        }
+    }
+    *counts = (fast_counts){s.n, levels, s.cycle};
+    return 0;
+}
+
+/* ---- Run ---- */
+
+static inline bool in_range(const fast_run *run) {
+    /* 64-bit sums: any field may hold any value. */
+    uint64_t reached = (uint64_t)run->position + run->running;
+    return shape_fits(run->n, run->levels) && reached <= run->n && run->clock <= LAST_CLOCK &&
+           run->level < run->levels && run->coast_left <= 15 && run->coast_left + reached <= run->n &&
+           run->decisions <= reached;
+}
+
+typedef struct {
+    uint32_t level, grant;
+    bool late;
+} decision;
+
+/* Limits and coast bounds from a position on, of `rows` positions in all. */
+static inline decision decide(uint32_t levels, uint32_t rows, const int32_t *limits, const int32_t *coasts, uint32_t clock) {
+    int32_t t = (int32_t)clock;
+    decision d = {levels, 1, false};
+    while (d.level > 0 && t > limits[d.level - 1]) d.level--;
+    d.late = d.level == 0;
+    d.level -= !d.late;
+    const int32_t *bounds = coasts + d.level * COAST;
+    uint32_t most = rows < COAST ? rows : COAST;
+    if (d.level + 1 == levels) {
+        while (most > 1 && t > bounds[most - 1]) most--;
+        d.grant = most;
+    } else {
+        /* Up to the first position whose next level fits. */
+        const int32_t *above = limits + d.level + 1;
+        for (uint32_t r = 0; r < most && t > *above; r++, above += levels)
+            if (t <= bounds[r]) d.grant = r + 1;
+    }
+    return d;
+}
+
+uint32_t fast_start(fast_run *run, uint32_t n, uint32_t levels) {
+    if (!shape_fits(n, levels)) {
+        *run = (fast_run){0};
+        return COUNT;
+    }
+    *run = (fast_run){.n = n, .levels = levels};
+    return 0;
+}
+
+uint32_t fast_ask(fast_run *run, const uint8_t *order, size_t order_room, const int32_t *limits, size_t limits_room,
+                  const int32_t *coasts, size_t coasts_room, fast_asked *asked) {
+    if (!in_range(run)) return TURN;
+    size_t cells = (size_t)run->n * run->levels;
+    if (order_room < run->n || limits_room < cells || coasts_room < cells * COAST) return ROOM;
+    if (run->running) return TURN;
+    if (run->position == run->n) return FINISHED;
+    uint32_t action = order[run->position];
+    run->running = true;
+    if (run->coast_left > 0) {
+        run->coast_left--;
+        *asked = (fast_asked){action, run->level, false, false};
+        return 0;
+    }
+    size_t row = (size_t)run->position * run->levels;
+    decision d = decide(run->levels, run->n - run->position, limits + row, coasts + row * COAST, run->clock);
+    run->level = d.level;
+    run->coast_left = d.grant - 1;
+    run->decisions++;
+    run->late |= d.late;
+    *asked = (fast_asked){action, d.level, true, d.late};
+    return 0;
+}
+
+uint32_t fast_report(fast_run *run, uint32_t clock, const uint32_t *worst, size_t worst_room) {
+    if (!in_range(run)) return TURN;
+    if (worst_room < (size_t)run->n * run->levels) return ROOM;
+    if (!run->running) return TURN;
+    if (clock < run->clock) return BACK;
+    if (clock > LAST_CLOCK) return CLOCK;
+    if (clock - run->clock > worst[(size_t)run->position * run->levels + run->level]) {
+        run->overrun = true;
+        run->coast_left = 0;
+    }
+    run->position++;
+    run->clock = clock;
+    run->running = false;
+    return 0;
+}
+
+uint32_t fast_dry_run(uint32_t n, uint32_t levels, const int32_t *limits, size_t limits_room, const uint32_t *worst,
+                      size_t worst_room, const int32_t *coasts, size_t coasts_room, const uint32_t *durations,
+                      size_t durations_room, uint8_t *restrict given, size_t given_room, uint8_t *restrict decided,
+                      size_t decided_room, fast_cycle *cycle) {
+    if (!shape_fits(n, levels)) return COUNT;
+    size_t cells = (size_t)n * levels;
+    if (limits_room < cells || worst_room < cells || coasts_room < cells * COAST || durations_room < cells ||
+        given_room < n || decided_room < n)
+        return ROOM;
+    uint32_t all = 0;
+    for (size_t cell = 0; cell < cells; cell++) all |= durations[cell];
+    if (all > LAST_TIME) return DURATION;
+    fast_cycle c = {0};
+    for (uint32_t i = 0; i < n;) {
+        size_t row = (size_t)i * levels;
+        decision d = decide(levels, n - i, limits + row, coasts + row * COAST, c.end);
+        c.decisions++;
+        c.late |= d.late;
+        uint8_t mark = 1;
+        /* An overrun cancels the rest of the coast. */
+        for (uint32_t left = d.grant; left > 0; left--, i++) {
+            size_t cell = (size_t)i * levels + d.level;
+            given[i] = (uint8_t)d.level;
+            decided[i] = mark;
+            mark = 0;
+            c.end += durations[cell];
+            if (durations[cell] > worst[cell]) {
+                c.overrun = true;
+                left = 1;
+            }
+        }
+    }
+    *cycle = c;
+    return 0;
+}
+
+/* ---- Speed reading ---- */
+
+uint32_t fast_reading(const uint8_t *image, size_t length, uint32_t first, uint32_t last, uint32_t level,
+                      uint32_t time, double *ratio) {
+    shape s;
+    uint8_t order[64];
+    uint32_t refusal = examine(image, length, &s, order);
+    if (refusal) return refusal;
+    if (first > last || last >= s.n || level >= s.levels) return READING;
+    if (time > LAST_CLOCK) return CLOCK;
+    /* Sums over j to k of the averages, over j+1 to k of the worst times at level 0. */
+    int32_t average = 0, tail = 0, margin = INT32_MIN;
+    for (uint32_t j = last + 1; j-- > first;) {
+        const uint8_t *record = record_of(&s, image, order[j]);
+        uint64_t pair = pair_of(record, level);
+        average += (int32_t)average_in(pair);
+        int32_t over = (int32_t)worst_in(pair) + tail - average;
+        if (over > margin) margin = over;
+        tail += (int32_t)worst_in(pair_of(record, 0));
+    }
+    uint32_t deadline = deadline_of(&s, get32(record_of(&s, image, order[last]) + 8));
+    int64_t room = (int64_t)deadline - margin - time;
+    if (room <= 0) return FAST_SPENT;
+    *ratio = (double)average / (double)room;
+    return 0;
+}
+
+/* ---- Refresh ---- */
+
+uint32_t fast_refresh(const uint8_t *image, size_t length, const uint8_t *trace, size_t trace_length,
+                      uint8_t *restrict fresh, size_t room, size_t *written) {
+    shape s;
+    uint8_t order[64];
+    uint32_t refusal = examine(image, length, &s, order);
+    if (refusal) return refusal;
+    if (trace_length % 5 != 0 || trace_length / 5 > RECORDS) return TRACE;
+    /* By action and level as a record packs them: the first duration that is too long, 0 where absent. */
+    uint32_t ceilings[512] = {0};
+    for (uint32_t a = 0; a < s.n; a++) {
+        const uint8_t *record = record_of(&s, image, a);
+        for (uint32_t q = 0; q < s.levels; q++) ceilings[a * 8 + q] = worst_in(pair_of(record, q)) + 1;
+    }
+    /* Count and sum in one word: 65,535 durations of 24 bits sum up to less than 2^40. */
+    uint64_t sums[512] = {0};
+    for (const uint8_t *record = trace, *end = trace + trace_length; record < end; record += 5) {
+        uint32_t low = get32(record + 1), duration = low & LAST_CLOCK;
+        uint32_t key = (uint32_t)(record[0] & 127) << 2 | low >> 30;
+        if (duration >= ceilings[key]) return ceilings[key] ? DURATION : NAME;
+        uint64_t open = record[0] >> 7;
+        sums[key] += open << 40 | duration * open;
+    }
+    if (room < length) return ROOM;
+    memcpy(fresh, image, length);
+    for (uint32_t a = 0; a < s.n; a++) {
+        uint8_t *at = fresh + 6 + (size_t)a * s.stride + 12;
+        uint32_t before = 0;
+        for (uint32_t q = 0; q < s.levels; q++, at += 6) {
+            uint64_t packed = sums[a * 8 + q], count = packed >> 40;
+            uint32_t average = (uint32_t)at[0] << 16 | (uint32_t)at[1] << 8 | at[2];
+            if (count) average = (uint32_t)((packed & ((UINT64_C(1) << 40) - 1)) / count);
+            if (average > before) before = average;
+            at[0] = (uint8_t)(before >> 16);
+            at[1] = (uint8_t)(before >> 8);
+            at[2] = (uint8_t)before;
+        }
+    }
+    *written = length;
+    return 0;
+}

@@ -1,0 +1,302 @@
+//! The calls of `c/fast.c`, from a shared library that is built and opened when asked for.
+
+use crate::calls::{Answer, Asked, Calls, Counts, Cycle, Reading, Run, Tables};
+use std::ffi::{c_char, c_int, c_void, CStr, CString};
+use std::os::unix::ffi::OsStrExt;
+use std::path::Path;
+use std::process::Command;
+
+extern "C" {
+    fn dlopen(path: *const c_char, flags: c_int) -> *mut c_void;
+    fn dlsym(library: *mut c_void, name: *const c_char) -> *mut c_void;
+}
+
+const RTLD_NOW: c_int = 2;
+
+/// What `fast_reading` answers where the time is spent.
+const SPENT: u32 = 255;
+
+/// Declares the table of functions with their types, and how to find them in a library.
+macro_rules! functions {
+    ($($name:ident: $kind:ty,)*) => {
+        /// The functions of `c/fast.h`, found by name.
+        pub struct C {
+            $($name: $kind,)*
+        }
+
+        impl C {
+            /// Opens a shared library built of `c/fast.c`.
+            pub fn open(path: &Path) -> Result<C, String> {
+                let name = CString::new(path.as_os_str().as_bytes()).map_err(|error| error.to_string())?;
+                // The library has no initialisers, and stays open to the end of the program.
+                let library = unsafe { dlopen(name.as_ptr(), RTLD_NOW) };
+                if library.is_null() {
+                    return Err(format!("{} does not open", path.display()));
+                }
+                Ok(C {
+                    $($name: {
+                        let found = symbol(library, concat!("fast_", stringify!($name), "\0"))?;
+                        // The types are those of the header.
+                        unsafe { std::mem::transmute::<*mut c_void, $kind>(found) }
+                    },)*
+                })
+            }
+        }
+    };
+}
+
+fn symbol(library: *mut c_void, name: &str) -> Result<*mut c_void, String> {
+    let name = CStr::from_bytes_with_nul(name.as_bytes()).map_err(|error| error.to_string())?;
+    let found = unsafe { dlsym(library, name.as_ptr()) };
+    if found.is_null() {
+        return Err(format!("no function {name:?}"));
+    }
+    Ok(found)
+}
+
+functions! {
+    check: unsafe extern "C" fn(*const u8, usize, *mut Counts) -> u32,
+    read: unsafe extern "C" fn(
+        *const u8, usize, *mut u64, usize, *mut u32, usize, *mut u32, usize, *mut u32, usize, *mut Counts,
+    ) -> u32,
+    write: unsafe extern "C" fn(
+        u32, u32, u32, *const u64, usize, *const u32, usize, *const u32, usize, *const u32, usize, *mut u8, usize, *mut usize,
+    ) -> u32,
+    lookup: unsafe extern "C" fn(*const u8, usize, u32, *mut *const u8, *mut usize) -> u32,
+    plan: unsafe extern "C" fn(
+        *const u8, usize, *mut u8, usize, *mut i32, usize, *mut u32, usize, *mut i32, usize, *mut Counts,
+    ) -> u32,
+    start: unsafe extern "C" fn(*mut Run, u32, u32) -> u32,
+    ask: unsafe extern "C" fn(*mut Run, *const u8, usize, *const i32, usize, *const i32, usize, *mut Asked) -> u32,
+    report: unsafe extern "C" fn(*mut Run, u32, *const u32, usize) -> u32,
+    dry_run: unsafe extern "C" fn(
+        u32, u32, *const i32, usize, *const u32, usize, *const i32, usize, *const u32, usize, *mut u8, usize, *mut u8, usize,
+        *mut Cycle,
+    ) -> u32,
+    reading: unsafe extern "C" fn(*const u8, usize, u32, u32, u32, u32, *mut f64) -> u32,
+    refresh: unsafe extern "C" fn(*const u8, usize, *const u8, usize, *mut u8, usize, *mut usize) -> u32,
+}
+
+fn answer<T>(number: u32, value: T) -> Answer<T> {
+    match number {
+        0 => Ok(value),
+        number => Err(number as u8),
+    }
+}
+
+impl C {
+    /// Builds `c/fast.c` into a folder with the given options and opens it. The compiler is `CC`, or gcc.
+    pub fn build(folder: &Path, name: &str, options: &[&str]) -> Result<C, String> {
+        let source = Path::new(env!("CARGO_MANIFEST_DIR")).join("c/fast.c");
+        let library = folder.join(name);
+        let compiler = std::env::var("CC").unwrap_or_else(|_| "gcc".to_string());
+        let status = Command::new(&compiler)
+            .args(["-std=c11", "-shared", "-fPIC"])
+            .args(options)
+            .arg("-o")
+            .arg(&library)
+            .arg(&source)
+            .status()
+            .map_err(|error| format!("{compiler}: {error}"))?;
+        if !status.success() {
+            return Err(format!("{compiler} does not build {}", source.display()));
+        }
+        C::open(&library)
+    }
+}
+
+// Each call hands over pointers and counts of live slices, which is all that the header asks for.
+impl Calls for C {
+    fn check(&self, image: &[u8]) -> Answer<Counts> {
+        let mut counts = Counts::default();
+        let number = unsafe { (self.check)(image.as_ptr(), image.len(), &mut counts) };
+        answer(number, counts)
+    }
+
+    fn read(
+        &self,
+        image: &[u8],
+        masks: &mut [u64],
+        deadlines: &mut [u32],
+        averages: &mut [u32],
+        worst: &mut [u32],
+    ) -> Answer<Counts> {
+        let mut counts = Counts::default();
+        let number = unsafe {
+            (self.read)(
+                image.as_ptr(),
+                image.len(),
+                masks.as_mut_ptr(),
+                masks.len(),
+                deadlines.as_mut_ptr(),
+                deadlines.len(),
+                averages.as_mut_ptr(),
+                averages.len(),
+                worst.as_mut_ptr(),
+                worst.len(),
+                &mut counts,
+            )
+        };
+        answer(number, counts)
+    }
+
+    fn write(
+        &self,
+        counts: Counts,
+        masks: &[u64],
+        deadlines: &[u32],
+        averages: &[u32],
+        worst: &[u32],
+        image: &mut [u8],
+    ) -> Answer<usize> {
+        let mut written = 0;
+        let number = unsafe {
+            (self.write)(
+                counts.n,
+                counts.levels,
+                counts.cycle,
+                masks.as_ptr(),
+                masks.len(),
+                deadlines.as_ptr(),
+                deadlines.len(),
+                averages.as_ptr(),
+                averages.len(),
+                worst.as_ptr(),
+                worst.len(),
+                image.as_mut_ptr(),
+                image.len(),
+                &mut written,
+            )
+        };
+        answer(number, written)
+    }
+
+    fn lookup<'a>(&self, image: &'a [u8], action: u32) -> &'a [u8] {
+        let (mut part, mut length) = (image.as_ptr(), 0);
+        unsafe {
+            (self.lookup)(image.as_ptr(), image.len(), action, &mut part, &mut length);
+            std::slice::from_raw_parts(part, length)
+        }
+    }
+
+    fn lookup_refusal(&self, image: &[u8], action: u32) -> u8 {
+        let (mut part, mut length) = (image.as_ptr(), 0);
+        unsafe { (self.lookup)(image.as_ptr(), image.len(), action, &mut part, &mut length) as u8 }
+    }
+
+    fn plan(
+        &self,
+        image: &[u8],
+        order: &mut [u8],
+        limits: &mut [i32],
+        worst: &mut [u32],
+        coasts: &mut [i32],
+    ) -> Answer<Counts> {
+        let mut counts = Counts::default();
+        let number = unsafe {
+            (self.plan)(
+                image.as_ptr(),
+                image.len(),
+                order.as_mut_ptr(),
+                order.len(),
+                limits.as_mut_ptr(),
+                limits.len(),
+                worst.as_mut_ptr(),
+                worst.len(),
+                coasts.as_mut_ptr(),
+                coasts.len(),
+                &mut counts,
+            )
+        };
+        answer(number, counts)
+    }
+
+    fn start(&self, n: u32, levels: u32) -> (Run, u8) {
+        let mut run = Run::default();
+        let number = unsafe { (self.start)(&mut run, n, levels) };
+        (run, number as u8)
+    }
+
+    fn ask(&self, mut run: Run, order: &[u8], limits: &[i32], coasts: &[i32]) -> (Run, Answer<Asked>) {
+        let mut asked = Asked::default();
+        let number = unsafe {
+            (self.ask)(
+                &mut run,
+                order.as_ptr(),
+                order.len(),
+                limits.as_ptr(),
+                limits.len(),
+                coasts.as_ptr(),
+                coasts.len(),
+                &mut asked,
+            )
+        };
+        (run, answer(number, asked))
+    }
+
+    fn report(&self, mut run: Run, clock: u32, worst: &[u32]) -> (Run, u8) {
+        let number = self.report_lent(&mut run, clock, worst);
+        (run, number)
+    }
+
+    fn report_lent(&self, run: &mut Run, clock: u32, worst: &[u32]) -> u8 {
+        unsafe { (self.report)(run, clock, worst.as_ptr(), worst.len()) as u8 }
+    }
+
+    fn dry_run(
+        &self,
+        n: u32,
+        levels: u32,
+        tables: Tables,
+        durations: &[u32],
+        given: &mut [u8],
+        decided: &mut [u8],
+    ) -> Answer<Cycle> {
+        let mut cycle = Cycle::default();
+        let number = unsafe {
+            (self.dry_run)(
+                n,
+                levels,
+                tables.limits.as_ptr(),
+                tables.limits.len(),
+                tables.worst.as_ptr(),
+                tables.worst.len(),
+                tables.coasts.as_ptr(),
+                tables.coasts.len(),
+                durations.as_ptr(),
+                durations.len(),
+                given.as_mut_ptr(),
+                given.len(),
+                decided.as_mut_ptr(),
+                decided.len(),
+                &mut cycle,
+            )
+        };
+        answer(number, cycle)
+    }
+
+    fn reading(&self, image: &[u8], first: u32, last: u32, level: u32, time: u32) -> Reading {
+        let mut ratio = 0.0;
+        match unsafe { (self.reading)(image.as_ptr(), image.len(), first, last, level, time, &mut ratio) } {
+            0 => Reading::Ratio(ratio),
+            SPENT => Reading::Spent,
+            number => Reading::Refused(number as u8),
+        }
+    }
+
+    fn refresh(&self, image: &[u8], trace: &[u8], fresh: &mut [u8]) -> Answer<usize> {
+        let mut written = 0;
+        let number = unsafe {
+            (self.refresh)(
+                image.as_ptr(),
+                image.len(),
+                trace.as_ptr(),
+                trace.len(),
+                fresh.as_mut_ptr(),
+                fresh.len(),
+                &mut written,
+            )
+        };
+        answer(number, written)
+    }
+}

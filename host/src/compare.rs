@@ -1,0 +1,431 @@
+//! Two implementations of the calls side by side over drawn inputs, with a tally of what was met.
+
+use crate::calls::{Answer, Asked, Calls, Counts, Reading, Run, Tables, ACTIONS, CLOCK, COAST, LEVELS};
+use crate::draw::{Draw, Size, PACES};
+use crate::reference::fields_out;
+use std::collections::BTreeMap;
+use std::fmt::{self, Debug, Display};
+
+/// How often each call gave each number, 0 for none, and how often some events were seen.
+#[derive(Clone, Debug, Default)]
+pub struct Tally {
+    numbers: BTreeMap<(&'static str, u8), u64>,
+    events: BTreeMap<String, u64>,
+}
+
+/// The numbers that each call can give.
+pub const NUMBERS: [(&str, &[u8]); 12] = [
+    ("check", &[0, 1, 2, 3, 4, 5, 6, 7, 8, 9]),
+    ("read", &[0, 1, 2, 3, 4, 5, 6, 7, 8, 9, 17]),
+    ("write", &[0, 3, 6, 7, 8, 9, 17]),
+    ("lookup", &[0, 1, 2, 3, 4, 5, 6, 7, 8, 9, 15]),
+    ("plan", &[0, 1, 2, 3, 4, 5, 6, 7, 8, 9, 17]),
+    ("start", &[0, 3]),
+    ("ask", &[0, 10, 11, 17]),
+    ("report", &[0, 11, 12, 13, 17]),
+    ("report lent", &[0, 11, 12, 13, 17]),
+    ("dry run", &[0, 3, 16, 17]),
+    ("reading", &[0, 1, 2, 3, 4, 5, 6, 7, 8, 9, 13, 18]),
+    ("refresh", &[0, 1, 2, 3, 4, 5, 6, 7, 8, 9, 14, 15, 16, 17]),
+];
+
+/// The events that a good set of inputs meets, beside every grant from 1 to 16.
+pub const EVENTS: [&str; 14] = [
+    "spent",
+    "ratio",
+    "late",
+    "coasted",
+    "overrun",
+    "no overrun",
+    "n out",
+    "L out",
+    "position out",
+    "clock out",
+    "running out",
+    "level out",
+    "coast left out",
+    "decisions out",
+];
+
+impl Tally {
+    fn number(&mut self, call: &'static str, number: u8) {
+        *self.numbers.entry((call, number)).or_default() += 1;
+    }
+
+    fn event(&mut self, event: impl Into<String>) {
+        *self.events.entry(event.into()).or_default() += 1;
+    }
+
+    /// How often a call gave a number.
+    pub fn met(&self, call: &str, number: u8) -> u64 {
+        self.numbers.iter().filter(|((name, no), _)| *name == call && *no == number).map(|(_, count)| count).sum()
+    }
+
+    /// What is in [`NUMBERS`] or [`EVENTS`] and was not met, and what was met and is not there.
+    pub fn gaps(&self) -> Vec<String> {
+        let mut gaps = Vec::new();
+        for (call, numbers) in NUMBERS {
+            gaps.extend(
+                numbers.iter().filter(|&&no| self.met(call, no) == 0).map(|no| format!("{call}: {no} not met")),
+            );
+        }
+        for &(call, no) in self.numbers.keys() {
+            if !NUMBERS.iter().any(|(name, numbers)| *name == call && numbers.contains(&no)) {
+                gaps.push(format!("{call}: {no} is none of its numbers"));
+            }
+        }
+        let grants = (1..=COAST).map(|r| format!("grant {r}"));
+        for event in EVENTS.iter().map(|event| event.to_string()).chain(grants) {
+            if !self.events.contains_key(&event) {
+                gaps.push(format!("{event} not met"));
+            }
+        }
+        gaps
+    }
+}
+
+impl Display for Tally {
+    fn fmt(&self, out: &mut fmt::Formatter) -> fmt::Result {
+        for (call, _) in NUMBERS {
+            write!(out, "{call}:")?;
+            for ((_, no), count) in self.numbers.iter().filter(|((name, _), _)| *name == call) {
+                write!(out, " {no}\u{d7}{count}")?;
+            }
+            writeln!(out)?;
+        }
+        let events: Vec<String> = self.events.iter().map(|(event, count)| format!("{event} {count}")).collect();
+        writeln!(out, "{}", events.join(", "))
+    }
+}
+
+/// Compares over `rounds` rounds from a seed. The first difference comes back as text, with its inputs.
+pub fn compare(left: &dyn Calls, right: &dyn Calls, seed: u64, rounds: usize) -> Result<Tally, String> {
+    let mut pair = Pair { left, right, draw: Draw::new(seed), tally: Tally::default() };
+    for round in 0..rounds {
+        let size = match pair.draw.between(0, 19) {
+            0 => Size::Large,
+            1 => Size::Extreme,
+            2..=9 => Size::Small,
+            _ => Size::Tiny,
+        };
+        pair.round(size).map_err(|difference| format!("seed {seed}, round {round}: {difference}"))?;
+    }
+    Ok(pair.tally)
+}
+
+struct Pair<'a> {
+    left: &'a dyn Calls,
+    right: &'a dyn Calls,
+    draw: Draw,
+    tally: Tally,
+}
+
+fn number_of<T>(answer: &Answer<T>) -> u8 {
+    answer.as_ref().err().copied().unwrap_or(0)
+}
+
+fn hex(bytes: &[u8]) -> String {
+    bytes.iter().take(6000).map(|byte| format!("{byte:02x}")).collect()
+}
+
+/// n and L if they are inside their ranges.
+fn usable(n: u32, levels: u32) -> Option<(usize, usize)> {
+    let fits = (1..=ACTIONS as u32).contains(&n) && (1..=LEVELS as u32).contains(&levels);
+    fits.then_some((n as usize, levels as usize))
+}
+
+/// Junk for a lent slice, so that what is left untouched can be seen.
+fn junk<T: From<u8> + Copy>(draw: &mut Draw, count: usize) -> Vec<T> {
+    (0..count).map(|_| T::from(draw.word() as u8)).collect()
+}
+
+impl Pair<'_> {
+    /// Runs a call on both sides; the results, which hold the lent slices too, must be equal.
+    fn same<T: PartialEq + Debug>(
+        &self,
+        call: &str,
+        input: &dyn Fn() -> String,
+        run: impl Fn(&dyn Calls) -> T,
+    ) -> Result<T, String> {
+        let (left, right) = (run(self.left), run(self.right));
+        if left != right {
+            return Err(format!("{call} differs on {}\nleft:  {left:?}\nright: {right:?}", input()));
+        }
+        Ok(left)
+    }
+
+    fn round(&mut self, size: Size) -> Result<(), String> {
+        let image = self.draw.image(size);
+        let counts = self.check(&image)?;
+        self.read(&image, counts)?;
+        self.lookup(&image, counts)?;
+        self.plan(&image, counts)?;
+        self.reading(&image, counts)?;
+        self.refresh(&image, counts)?;
+        self.write(size)?;
+        self.start()?;
+        self.single_calls()?;
+        self.foreign_dry_run()?;
+        if counts.is_some() {
+            self.cycles(&image)?;
+        }
+        Ok(())
+    }
+
+    /// The counts of an accepted image.
+    fn check(&mut self, image: &[u8]) -> Result<Option<Counts>, String> {
+        let answer = self.same("check", &|| hex(image), |calls| calls.check(image))?;
+        self.tally.number("check", number_of(&answer));
+        Ok(answer.ok())
+    }
+
+    fn read(&mut self, image: &[u8], counts: Option<Counts>) -> Result<(), String> {
+        let (n, levels) = counts.map_or((3, 2), |counts| (counts.n as usize, counts.levels as usize));
+        let rooms = [n, n, n * levels, n * levels].map(|needed| self.draw.room(needed));
+        let masks: Vec<u64> = junk(&mut self.draw, rooms[0]);
+        let [deadlines, averages, worst]: [Vec<u32>; 3] = [1, 2, 3].map(|at: usize| junk(&mut self.draw, rooms[at]));
+        let result = self.same("read", &|| format!("{} {rooms:?}", hex(image)), |calls| {
+            let mut lent = (masks.clone(), deadlines.clone(), averages.clone(), worst.clone());
+            let answer = calls.read(image, &mut lent.0, &mut lent.1, &mut lent.2, &mut lent.3);
+            (answer, lent)
+        })?;
+        self.tally.number("read", number_of(&result.0));
+        Ok(())
+    }
+
+    fn lookup(&mut self, image: &[u8], counts: Option<Counts>) -> Result<(), String> {
+        let action = self.draw.name(counts.map_or(5, |counts| counts.n - 1));
+        let number = self.same("lookup", &|| format!("{} {action}", hex(image)), |calls| {
+            let part = calls.lookup(image, action);
+            // Uncopied: the same place. An empty part has none.
+            let place = (!part.is_empty()).then_some(part.as_ptr());
+            (calls.lookup_refusal(image, action), place, part.len())
+        })?;
+        self.tally.number("lookup", number.0);
+        Ok(())
+    }
+
+    fn plan(&mut self, image: &[u8], counts: Option<Counts>) -> Result<(), String> {
+        let (n, levels) = counts.map_or((3, 2), |counts| (counts.n as usize, counts.levels as usize));
+        let rooms = [n, n * levels, n * levels, n * levels * COAST].map(|needed| self.draw.room(needed));
+        let order: Vec<u8> = junk(&mut self.draw, rooms[0]);
+        let limits: Vec<i32> = junk(&mut self.draw, rooms[1]);
+        let worst: Vec<u32> = junk(&mut self.draw, rooms[2]);
+        let coasts: Vec<i32> = junk(&mut self.draw, rooms[3]);
+        let result = self.same("plan", &|| format!("{} {rooms:?}", hex(image)), |calls| {
+            let mut lent = (order.clone(), limits.clone(), worst.clone(), coasts.clone());
+            let answer = calls.plan(image, &mut lent.0, &mut lent.1, &mut lent.2, &mut lent.3);
+            (answer, lent)
+        })?;
+        self.tally.number("plan", number_of(&result.0));
+        Ok(())
+    }
+
+    fn reading(&mut self, image: &[u8], counts: Option<Counts>) -> Result<(), String> {
+        let Counts { n, levels, cycle } = counts.unwrap_or(Counts { n: 3, levels: 2, cycle: 20 });
+        let [mut first, mut last] = [n - 1; 2].map(|most| self.draw.name(most));
+        if first > last && !self.draw.once_in(6) {
+            (first, last) = (last, first);
+        }
+        let level = self.draw.name(levels - 1);
+        let time = match self.draw.between(0, 9) {
+            0 => self.draw.pick(&[CLOCK, CLOCK + 1, u32::MAX]),
+            1 | 2 => 0,
+            _ => self.draw.between(0, cycle),
+        };
+        let reading = self.same("reading", &|| format!("{} {first} {last} {level} {time}", hex(image)), |calls| {
+            calls.reading(image, first, last, level, time)
+        })?;
+        match reading {
+            Reading::Ratio(_) => self.tally.event("ratio"),
+            Reading::Spent => self.tally.event("spent"),
+            Reading::Refused(_) => {}
+        }
+        let number = if let Reading::Refused(number) = reading { number } else { 0 };
+        self.tally.number("reading", number);
+        Ok(())
+    }
+
+    fn refresh(&mut self, image: &[u8], counts: Option<Counts>) -> Result<(), String> {
+        let trace = match counts {
+            Some(Counts { n, levels, .. }) => {
+                let cells = (n * levels) as usize;
+                let (mut masks, mut heads) = (vec![0; n as usize], vec![0; n as usize]);
+                let (mut averages, mut worst) = (vec![0; cells], vec![0; cells]);
+                self.left
+                    .read(image, &mut masks, &mut heads, &mut averages, &mut worst)
+                    .map_err(|no| no.to_string())?;
+                self.draw.trace(n, levels, &worst)
+            }
+            None => self.draw.trace(3, 2, &[4, 8, 4, 8, 4, 8]),
+        };
+        let room = self.draw.room(image.len());
+        let fresh: Vec<u8> = junk(&mut self.draw, room);
+        let result = self.same("refresh", &|| format!("{} {} {room}", hex(image), hex(&trace)), |calls| {
+            let mut lent = fresh.clone();
+            let answer = calls.refresh(image, &trace, &mut lent);
+            (answer, lent)
+        })?;
+        self.tally.number("refresh", number_of(&result.0));
+        Ok(())
+    }
+
+    fn write(&mut self, size: Size) -> Result<(), String> {
+        let mut sketch = self.draw.writing(size);
+        let counts = Counts { n: sketch.n, levels: sketch.levels, cycle: sketch.cycle };
+        let (n, levels) = (sketch.masks.len(), sketch.averages.len() / sketch.masks.len());
+        let rooms = [n, n, n * levels, n * levels].map(|needed| self.draw.room(needed));
+        sketch.masks.resize(rooms[0], 0);
+        sketch.deadlines.resize(rooms[1], 0);
+        sketch.averages.resize(rooms[2], 0);
+        sketch.worst.resize(rooms[3], 0);
+        let bytes = 6 + n * (12 + 6 * levels);
+        let room = self.draw.room(bytes);
+        let image: Vec<u8> = junk(&mut self.draw, room);
+        let result = self.same("write", &|| format!("{sketch:?} {room}"), |calls| {
+            let mut lent = image.clone();
+            let answer =
+                calls.write(counts, &sketch.masks, &sketch.deadlines, &sketch.averages, &sketch.worst, &mut lent);
+            (answer, lent)
+        })?;
+        self.tally.number("write", number_of(&result.0));
+        Ok(())
+    }
+
+    fn start(&mut self) -> Result<(), String> {
+        let (n, levels) = self.draw.shape();
+        let result = self.same("start", &|| format!("{n} {levels}"), |calls| calls.start(n, levels))?;
+        self.tally.number("start", result.1);
+        Ok(())
+    }
+
+    /// Asking and reporting on records at the edges, with tables that no planner wrote.
+    fn single_calls(&mut self) -> Result<(), String> {
+        for _ in 0..4 {
+            let n = self.draw.pick(&[1, 2, 3, 16, 17, 18, 63, 64]);
+            let levels = self.draw.between(1, LEVELS as u32);
+            let mut run = self.draw.run(n, levels);
+            if self.draw.once_in(2) {
+                run = self.draw.edged(run);
+            }
+            if let Some(field) = fields_out(run).first() {
+                self.tally.event(format!("{field} out"));
+            }
+            // Tables by the record's own counts where these are of use.
+            let (n, levels) = usable(run.n, run.levels).unwrap_or((n as usize, levels as usize));
+            let (mut limits, mut coasts) = self.draw.foreign_tables(n, levels, run.clock);
+            limits.resize(self.draw.room(n * levels), 0);
+            coasts.resize(self.draw.room(n * levels * COAST), 0);
+            let room = self.draw.room(n);
+            let order = self.draw.bytes(room);
+            let longest = self.draw.pick(&[0, 1, 5, 1000, u32::MAX]);
+            let worst = vec![longest; self.draw.room(n * levels)];
+            let clock = self.draw.clock(run, longest);
+
+            let tables = || format!("{run:?} {order:?} {limits:?} {coasts:?}");
+            let asked = self.same("ask", &tables, |calls| calls.ask(run, &order, &limits, &coasts))?;
+            self.note_asked(&asked);
+            let input = || format!("{run:?} {clock} {longest} {}", worst.len());
+            let reported = self.same("report", &input, |calls| calls.report(run, clock, &worst))?;
+            self.tally.number("report", reported.1);
+            let reported = self.same("report lent", &input, |calls| {
+                let mut lent = run;
+                let number = calls.report_lent(&mut lent, clock, &worst);
+                (lent, number)
+            })?;
+            self.tally.number("report lent", reported.1);
+        }
+        Ok(())
+    }
+
+    fn note_asked(&mut self, asked: &(Run, Answer<Asked>)) {
+        self.tally.number("ask", number_of(&asked.1));
+        if let (run, Ok(answer)) = asked {
+            if answer.decided {
+                self.tally.event(format!("grant {}", run.coast_left + 1));
+            } else {
+                self.tally.event("coasted");
+            }
+            if answer.late {
+                self.tally.event("late");
+            }
+        }
+    }
+
+    fn dry_run(&mut self, n: u32, levels: u32, tables: Tables, durations: &[u32], needed: usize) -> Result<(), String> {
+        let rooms = [needed; 2].map(|needed| self.draw.room(needed));
+        let [given, decided]: [Vec<u8>; 2] = rooms.map(|room| junk(&mut self.draw, room));
+        let input = || format!("{n} {levels} {tables:?} {durations:?} {rooms:?}");
+        let result = self.same("dry run", &input, |calls| {
+            let mut lent = (given.clone(), decided.clone());
+            let answer = calls.dry_run(n, levels, tables, durations, &mut lent.0, &mut lent.1);
+            (answer, lent)
+        })?;
+        self.tally.number("dry run", number_of(&result.0));
+        if let Ok(cycle) = result.0 {
+            self.tally.event(if cycle.overrun { "overrun" } else { "no overrun" });
+        }
+        Ok(())
+    }
+
+    /// A dry run over tables that no planner wrote.
+    fn foreign_dry_run(&mut self) -> Result<(), String> {
+        let (n, levels) = self.draw.shape();
+        let (count, width) = usable(n, levels).unwrap_or((4, 2));
+        let cells = count * width;
+        let centre = self.draw.pick(&[0, 3, 40]);
+        let (mut limits, mut coasts) = self.draw.foreign_tables(count, width, centre);
+        let mut worst: Vec<u32> = (0..cells).map(|_| self.draw.between(0, 3)).collect();
+        let pace = self.draw.pick(&PACES);
+        let mut durations = self.draw.durations(&worst, pace);
+        limits.resize(self.draw.room(cells), 0);
+        worst.resize(self.draw.room(cells), 0);
+        coasts.resize(self.draw.room(cells * COAST), 0);
+        durations.resize(self.draw.room(cells), 0);
+        let tables = Tables { limits: &limits, worst: &worst, coasts: &coasts };
+        self.dry_run(n, levels, tables, &durations, count)
+    }
+
+    /// Dry runs and whole runs over the planner's own tables.
+    fn cycles(&mut self, image: &[u8]) -> Result<(), String> {
+        const CELLS: usize = ACTIONS * LEVELS;
+        let (mut order, mut limits) = (vec![0; ACTIONS], vec![0; CELLS]);
+        let (mut worst, mut coasts) = (vec![0; CELLS], vec![0; CELLS * COAST]);
+        let planned = self.left.plan(image, &mut order, &mut limits, &mut worst, &mut coasts);
+        let Counts { n, levels, .. } = planned.map_err(|no| format!("the plan is refused: {no}"))?;
+        let cells = (n * levels) as usize;
+        for pace in PACES {
+            let durations = self.draw.durations(&worst[..cells], pace);
+            let tables = Tables { limits: &limits, worst: &worst, coasts: &coasts };
+            self.dry_run(n, levels, tables, &durations, n as usize)?;
+        }
+        self.walk(n, levels, (&order, &limits, &worst, &coasts))
+    }
+
+    /// Calls by turns until the cycle is over, with a wrong turn now and then.
+    fn walk(&mut self, n: u32, levels: u32, tables: (&[u8], &[i32], &[u32], &[i32])) -> Result<(), String> {
+        let (order, limits, worst, coasts) = tables;
+        let (mut run, _) = self.left.start(n, levels);
+        for _ in 0..2 * n + 8 {
+            let asks = run.running == self.draw.once_in(16);
+            if asks {
+                let input = || format!("{run:?} {order:?} {limits:?} {coasts:?}");
+                let asked = self.same("ask", &input, |calls| calls.ask(run, order, limits, coasts))?;
+                self.note_asked(&asked);
+                run = asked.0;
+            } else {
+                let cell = (run.position * levels + run.level) as usize;
+                let longest = worst.get(cell).copied().unwrap_or(0);
+                let clock = match self.draw.between(0, 15) {
+                    0 => self.draw.clock(run, longest),
+                    _ => run.clock + self.draw.between(0, longest),
+                };
+                let input = || format!("{run:?} {clock} {worst:?}");
+                let reported = self.same("report", &input, |calls| calls.report(run, clock, worst))?;
+                self.tally.number("report", reported.1);
+                run = reported.0;
+            }
+        }
+        Ok(())
+    }
+}

@@ -1,0 +1,645 @@
+//! Inputs from a seed: profiles small, large, extreme and damaged, durations, traces, run records and tables.
+
+use crate::calls::{Run, ACTIONS, CLOCK, COAST, LEVELS, RECORDS, TIME};
+
+/// A small generator (splitmix64): the same seed gives the same inputs everywhere.
+#[derive(Clone, Debug)]
+pub struct Draw {
+    state: u64,
+}
+
+/// Plain draws.
+impl Draw {
+    pub fn new(seed: u64) -> Draw {
+        Draw { state: seed }
+    }
+
+    pub fn word(&mut self) -> u64 {
+        self.state = self.state.wrapping_add(0x9e37_79b9_7f4a_7c15);
+        let mixed = (self.state ^ self.state >> 30).wrapping_mul(0xbf58_476d_1ce4_e5b9);
+        let mixed = (mixed ^ mixed >> 27).wrapping_mul(0x94d0_49bb_1331_11eb);
+        mixed ^ mixed >> 31
+    }
+
+    /// A number from `least` to `most`, both included.
+    pub fn between(&mut self, least: u32, most: u32) -> u32 {
+        let count = u64::from(most - least) + 1;
+        least + (self.word() % count) as u32
+    }
+
+    pub fn index(&mut self, count: usize) -> usize {
+        (self.word() % count as u64) as usize
+    }
+
+    /// True once in `of` times.
+    pub fn once_in(&mut self, of: u32) -> bool {
+        self.between(1, of) == 1
+    }
+
+    pub fn pick<T: Copy>(&mut self, from: &[T]) -> T {
+        from[self.index(from.len())]
+    }
+
+    pub fn bytes(&mut self, count: usize) -> Vec<u8> {
+        (0..count).map(|_| self.word() as u8).collect()
+    }
+
+    /// The length of a lent slice: mostly what is needed, now and then longer, seldom short.
+    pub fn room(&mut self, needed: usize) -> usize {
+        match self.between(0, 31) {
+            0 => needed.saturating_sub(1),
+            1 => self.index(needed + 1),
+            2..=11 => needed + 1 + self.index(5),
+            _ => needed,
+        }
+    }
+
+    /// 0 to n-1 in their order, backwards or mixed.
+    fn line(&mut self, n: usize) -> Vec<usize> {
+        let mut line: Vec<usize> = (0..n).collect();
+        match self.between(0, 3) {
+            0 => {}
+            1 => line.reverse(),
+            _ => {
+                for last in (1..n).rev() {
+                    line.swap(last, self.index(last + 1));
+                }
+            }
+        }
+        line
+    }
+}
+
+/// An image before packing. Every field may hold what no accepted image has.
+#[derive(Clone, Debug)]
+pub struct Sketch {
+    pub version: u32,
+    pub n: u32,
+    pub levels: u32,
+    pub cycle: u32,
+    pub spare: u32,
+    pub masks: Vec<u64>,
+    pub deadlines: Vec<u32>,
+    /// The spare bits of the records; 0 where there is no entry.
+    pub spares: Vec<u32>,
+    /// By action, then level, as many levels as there are entries for each mask.
+    pub averages: Vec<u32>,
+    pub worst: Vec<u32>,
+}
+
+impl Default for Sketch {
+    fn default() -> Sketch {
+        Sketch {
+            version: 1,
+            n: 0,
+            levels: 0,
+            cycle: 0,
+            spare: 0,
+            masks: Vec::new(),
+            deadlines: Vec::new(),
+            spares: Vec::new(),
+            averages: Vec::new(),
+            worst: Vec::new(),
+        }
+    }
+}
+
+impl Sketch {
+    /// The image, as many records as there are masks. Numbers too long for their field lose their high bits.
+    pub fn image(&self) -> Vec<u8> {
+        let mut bits = Bits::default();
+        bits.push(self.version.into(), 4);
+        bits.push(self.n.into(), 7);
+        bits.push(self.levels.into(), 4);
+        bits.push(self.cycle.into(), 30);
+        bits.push(self.spare.into(), 3);
+        for (a, &mask) in self.masks.iter().enumerate() {
+            bits.push(mask, 64);
+            bits.push(self.deadlines[a].into(), 30);
+            bits.push(self.spares.get(a).copied().unwrap_or(0).into(), 2);
+            let width = self.averages.len() / self.masks.len();
+            for cell in a * width..(a + 1) * width {
+                bits.push(self.averages[cell].into(), 24);
+                bits.push(self.worst[cell].into(), 24);
+            }
+        }
+        bits.bytes
+    }
+
+    /// The sum of worst times at a level.
+    fn total(&self, level: usize) -> u32 {
+        self.worst.iter().skip(level).step_by(self.levels as usize).sum()
+    }
+}
+
+/// Bits pushed one after another, most significant first.
+#[derive(Default)]
+struct Bits {
+    bytes: Vec<u8>,
+    used: usize,
+}
+
+impl Bits {
+    fn push(&mut self, value: u64, count: usize) {
+        for place in (0..count).rev() {
+            if self.used.is_multiple_of(8) {
+                self.bytes.push(0);
+            }
+            let last = self.bytes.len() - 1;
+            self.bytes[last] |= ((value >> place & 1) as u8) << (7 - self.used % 8);
+            self.used += 1;
+        }
+    }
+}
+
+/// Sizes of profiles.
+#[derive(Clone, Copy, Debug, PartialEq, Eq)]
+pub enum Size {
+    /// Up to 6 actions, 3 levels, times up to 4.
+    Tiny,
+    /// Up to 9 actions.
+    Small,
+    /// Any number of actions and levels.
+    Large,
+    /// The edges of the ranges.
+    Extreme,
+}
+
+/// Profiles.
+impl Draw {
+    /// A profile that obeys the table rule and has no loop; most are accepted, some are unfit.
+    pub fn profile(&mut self, size: Size) -> Sketch {
+        match size {
+            Size::Tiny => {
+                let (n, levels, scale) = (self.between(1, 6), self.between(1, 3), self.between(0, 4));
+                self.profile_of(n as usize, levels as usize, scale)
+            }
+            Size::Small => {
+                let (n, levels) = (self.between(1, 9), self.between(1, 8));
+                let scale = self.pick(&[0, 1, 3, 10, 1000, 70_000]);
+                self.profile_of(n as usize, levels as usize, scale)
+            }
+            Size::Large => {
+                let (n, levels) = (self.between(1, 64), self.between(1, 8));
+                let scale = self.pick(&[1, 20, 1000, 300_000, TIME]);
+                self.profile_of(n as usize, levels as usize, scale)
+            }
+            Size::Extreme => self.extreme(),
+        }
+    }
+
+    fn profile_of(&mut self, n: usize, levels: usize, scale: u32) -> Sketch {
+        let line = self.line(n);
+        let masks = self.masks(&line);
+        let (averages, worst) = self.times(n, levels, scale);
+        let mut sketch = Sketch {
+            n: n as u32,
+            levels: levels as u32,
+            masks,
+            averages,
+            worst,
+            deadlines: vec![0; n],
+            ..Sketch::default()
+        };
+        let (least, most) = (sketch.total(0), sketch.total(levels - 1));
+        sketch.cycle = match self.between(0, 5) {
+            0 => least,
+            1 => least + self.between(0, scale),
+            2 => most,
+            _ => self.between(least, most.max(least)),
+        }
+        .clamp(1, CLOCK);
+        self.deadlines(&mut sketch, &line, scale);
+        sketch
+    }
+
+    /// Masks that name only actions earlier on the line.
+    fn masks(&mut self, line: &[usize]) -> Vec<u64> {
+        let mut masks = vec![0; line.len()];
+        let one_in = self.pick(&[0, 0, 1, 2, 4, 12]);
+        let chain = self.once_in(3);
+        for (place, &a) in line.iter().enumerate() {
+            for (earlier, &b) in line[..place].iter().enumerate() {
+                let next = chain && earlier + 1 == place;
+                if next || one_in > 0 && self.once_in(one_in) {
+                    masks[a] |= 1 << b;
+                }
+            }
+        }
+        masks
+    }
+
+    /// Averages and worst times that obey the table rule, each step of a level at most `scale`.
+    fn times(&mut self, n: usize, levels: usize, scale: u32) -> (Vec<u32>, Vec<u32>) {
+        let (mut averages, mut worst) = (Vec::new(), Vec::new());
+        for _ in 0..n {
+            let fixed = self.once_in(6);
+            let exact = self.once_in(8);
+            let (mut average, mut longest) = (0, 0);
+            for level in 0..levels {
+                if level == 0 || !fixed {
+                    longest = (longest + self.between(0, scale)).min(TIME);
+                    average = if exact { longest } else { self.between(average, longest) };
+                }
+                averages.push(average);
+                worst.push(longest);
+            }
+        }
+        (averages, worst)
+    }
+
+    /// Deadlines after the ends of the line at level 0: none, some, exact, one too early, or anyhow.
+    fn deadlines(&mut self, sketch: &mut Sketch, line: &[usize], scale: u32) {
+        let way = self.between(0, 6);
+        let mut end = 0;
+        for &a in line {
+            end += sketch.worst[a * sketch.levels as usize];
+            let deadline = match way {
+                0 | 1 => 0,
+                2 if self.once_in(2) => 0,
+                2 | 3 => end.saturating_add(self.between(0, scale.saturating_mul(2))),
+                4 => end,
+                5 => self.between(end.min(sketch.cycle), sketch.cycle),
+                _ => self.between(0, sketch.cycle),
+            };
+            sketch.deadlines[a] = deadline.min(sketch.cycle);
+        }
+        if self.once_in(6) {
+            let a = self.index(line.len());
+            sketch.deadlines[a] = sketch.deadlines[a].saturating_sub(1);
+        }
+    }
+
+    fn extreme(&mut self) -> Sketch {
+        let n = self.pick(&[1, 2, 63, 64, 64]);
+        let levels = self.pick(&[1, 2, 7, 8, 8]);
+        let cells = n * levels;
+        let line = self.line(n);
+        let mut sketch = Sketch {
+            n: n as u32,
+            levels: levels as u32,
+            masks: self.masks(&line),
+            deadlines: vec![0; n],
+            averages: vec![0; cells],
+            worst: vec![0; cells],
+            ..Sketch::default()
+        };
+        match self.between(0, 5) {
+            // All times 0.
+            0 => {}
+            // All times at the top.
+            1 => {
+                sketch.averages.fill(TIME);
+                sketch.worst.fill(TIME);
+            }
+            // Averages 0, worst times at the top.
+            2 => sketch.worst.fill(TIME),
+            // Level 0 takes nothing, the others all there is: limits far below 0.
+            3 => {
+                for cell in (0..cells).filter(|cell| cell % levels > 0) {
+                    sketch.worst[cell] = TIME;
+                    sketch.averages[cell] = if self.once_in(2) { TIME } else { sketch.averages[cell - 1] };
+                }
+            }
+            // One action takes all.
+            4 => {
+                let a = self.index(n);
+                sketch.worst[a * levels..(a + 1) * levels].fill(TIME);
+            }
+            // Long coasts: the top level always fits.
+            _ => {
+                for cell in 0..cells {
+                    let level = (cell % levels) as u32;
+                    (sketch.averages[cell], sketch.worst[cell]) = (level, level + 1);
+                }
+            }
+        }
+        let (least, most) = (sketch.total(0), sketch.total(levels - 1));
+        let cycle = self.pick(&[least, least.saturating_sub(1), least + 1, most, 1, CLOCK]);
+        sketch.cycle = cycle.clamp(1, CLOCK);
+        if self.once_in(2) {
+            self.deadlines(&mut sketch, &line, 1);
+        }
+        sketch
+    }
+
+    /// An image of any kind, about half of them accepted.
+    pub fn image(&mut self, size: Size) -> Vec<u8> {
+        let sketch = self.profile(size);
+        if self.once_in(3) {
+            self.damaged(sketch)
+        } else {
+            sketch.image()
+        }
+    }
+
+    /// An image with one fault or several; now and then the fault changes nothing.
+    pub fn damaged(&mut self, mut sketch: Sketch) -> Vec<u8> {
+        let faults = self.pick(&[1, 1, 1, 2, 3]);
+        for _ in 0..faults {
+            self.spoil(&mut sketch);
+        }
+        let mut image = sketch.image();
+        match self.between(0, 11) {
+            0 => image.truncate(self.index(7)),
+            1 => image.truncate(image.len() - 1),
+            2 => image.push(0),
+            3 => image = self.noise(image.len()),
+            4 => {
+                for _ in 0..self.between(1, 3) {
+                    let bit = self.index(image.len() * 8);
+                    image[bit / 8] ^= 1 << (bit % 8);
+                }
+            }
+            _ => {}
+        }
+        image
+    }
+
+    /// Any bytes, mostly with a version that is read on.
+    fn noise(&mut self, length: usize) -> Vec<u8> {
+        let mut bytes = self.bytes(length);
+        if !self.once_in(4) {
+            bytes[0] = 0x10 | bytes[0] & 15;
+        }
+        bytes
+    }
+
+    /// One fault in a field.
+    fn spoil(&mut self, sketch: &mut Sketch) {
+        let n = sketch.masks.len();
+        let levels = sketch.averages.len() / n;
+        let a = self.index(n);
+        let cell = self.index(n * levels);
+        match self.between(2, 9) {
+            2 => sketch.version = self.pick(&[0, 2, 3, 5, 9, 15]),
+            3 => match self.between(0, 4) {
+                0 => sketch.n = self.pick(&[0, 65, 127]),
+                1 => sketch.levels = self.pick(&[0, 9, 15]),
+                2 => sketch.cycle = 0,
+                3 => sketch.n = self.between(1, 64),
+                _ => sketch.levels = self.between(1, 8),
+            },
+            4 => self.resize(sketch),
+            5 if self.once_in(3) => sketch.spare = self.between(1, 7),
+            5 => {
+                sketch.spares = vec![0; n];
+                sketch.spares[a] = self.between(1, 3);
+            }
+            6 if n < ACTIONS && self.once_in(2) => sketch.masks[a] |= 1 << self.between(n as u32, 63),
+            6 => sketch.deadlines[a] = self.pick(&[sketch.cycle.saturating_add(1), CLOCK]),
+            7 => match self.between(0, 3) {
+                0 | 1 => sketch.averages[cell] = sketch.worst[cell].saturating_add(1),
+                2 => sketch.worst[cell] = sketch.worst[cell].saturating_sub(1),
+                _ => sketch.averages[cell] = sketch.averages[cell].saturating_sub(1),
+            },
+            8 => {
+                let others = [a, self.index(n), self.index(n)];
+                for (place, &b) in others.iter().enumerate() {
+                    sketch.masks[b] |= 1 << others[(place + 1) % 3];
+                }
+            }
+            _ => {
+                let least = sketch.total_at_least(levels);
+                sketch.cycle = self.between(1, least.max(1));
+                for deadline in &mut sketch.deadlines {
+                    *deadline = (*deadline).min(sketch.cycle);
+                }
+            }
+        }
+    }
+
+    /// A record too many or too few, while the header stays.
+    fn resize(&mut self, sketch: &mut Sketch) {
+        let width = sketch.averages.len() / sketch.masks.len();
+        if sketch.masks.len() > 1 && self.once_in(2) {
+            sketch.masks.pop();
+        } else {
+            sketch.masks.push(0);
+        }
+        let n = sketch.masks.len();
+        sketch.deadlines.resize(n, 0);
+        sketch.averages.resize(n * width, 0);
+        sketch.worst.resize(n * width, 0);
+    }
+}
+
+impl Sketch {
+    /// The sum of worst times at level 0, whatever the header says.
+    fn total_at_least(&self, levels: usize) -> u32 {
+        self.worst.iter().step_by(levels).fold(0u32, |sum, &time| sum.saturating_add(time)).min(CLOCK)
+    }
+}
+
+/// What is to be written, with every kind of fault that a writing can have.
+impl Draw {
+    /// A sketch to be written: unlike an image's, its times and deadlines may be longer than their fields.
+    pub fn writing(&mut self, size: Size) -> Sketch {
+        let mut sketch = self.profile(size);
+        if self.once_in(2) {
+            return sketch;
+        }
+        for _ in 0..self.pick(&[1, 1, 2]) {
+            let cell = self.index(sketch.averages.len());
+            let a = self.index(sketch.masks.len());
+            match self.between(0, 9) {
+                0 => sketch.n = self.pick(&[0, 65, u32::MAX]),
+                1 => sketch.levels = self.pick(&[0, 9, u32::MAX]),
+                2 => sketch.cycle = self.pick(&[0, CLOCK + 1, u32::MAX]),
+                3 => sketch.worst[cell] = self.pick(&[TIME + 1, u32::MAX]),
+                4 => sketch.averages[cell] = self.pick(&[TIME + 1, u32::MAX]),
+                5 => sketch.deadlines[a] = self.pick(&[CLOCK + 1, u32::MAX]),
+                _ => {
+                    let spare = (sketch.masks.len(), sketch.averages.len());
+                    self.spoil(&mut sketch);
+                    sketch.masks.resize(spare.0, 0);
+                    sketch.deadlines.resize(spare.0, 0);
+                    sketch.averages.resize(spare.1, 0);
+                    sketch.worst.resize(spare.1, 0);
+                }
+            }
+        }
+        sketch
+    }
+}
+
+/// How durations relate to the worst times.
+#[derive(Clone, Copy, Debug, PartialEq, Eq)]
+pub enum Pace {
+    Zero,
+    Within,
+    Worst,
+    /// Some longer than worst.
+    Over,
+    /// Some longer than any time may be.
+    Absent,
+}
+
+pub const PACES: [Pace; 5] = [Pace::Zero, Pace::Within, Pace::Worst, Pace::Over, Pace::Absent];
+
+/// Durations, traces, tables and run records.
+impl Draw {
+    /// Durations for a table of worst times by position and level.
+    pub fn durations(&mut self, worst: &[u32], pace: Pace) -> Vec<u32> {
+        let mut durations: Vec<u32> = worst
+            .iter()
+            .map(|&longest| match pace {
+                Pace::Zero => 0,
+                Pace::Worst => longest,
+                Pace::Over if self.once_in(4) => longest.saturating_add(self.between(1, 3)).min(TIME),
+                _ => self.between(0, longest.min(TIME)),
+            })
+            .collect();
+        if pace == Pace::Absent && !durations.is_empty() {
+            let cell = self.index(durations.len());
+            durations[cell] = self.pick(&[TIME + 1, u32::MAX]);
+        }
+        durations
+    }
+
+    /// A trace for worst times by action and level.
+    pub fn trace(&mut self, n: u32, levels: u32, worst: &[u32]) -> Vec<u8> {
+        let records = match self.between(0, 199) {
+            0 => RECORDS + self.index(2),
+            1..=20 => 0,
+            _ => self.index(60),
+        };
+        let mut bits = Bits::default();
+        for _ in 0..records {
+            let (action, level) = (self.between(0, n - 1), self.between(0, levels - 1));
+            let longest = worst[(action * levels + level) as usize];
+            let duration = match self.between(0, 7) {
+                0 => longest,
+                1 => 0,
+                _ => self.between(0, longest),
+            };
+            self.record(&mut bits, action, level, duration);
+        }
+        if records < RECORDS && self.once_in(4) {
+            for _ in 0..self.between(1, 2) {
+                let (most, top) = if self.once_in(2) { (n - 1, levels - 1) } else { (63, 7) };
+                let (action, level) = (self.between(0, most), self.between(0, top));
+                let cell = (action * levels + level) as usize;
+                let longest = if action < n && level < levels { worst[cell] } else { 0 };
+                let duration = self.pick(&[longest, longest + 1, CLOCK]);
+                self.record(&mut bits, action, level, duration);
+            }
+        }
+        let mut trace = bits.bytes;
+        if self.once_in(16) {
+            let more = self.between(1, 4) as usize;
+            trace.resize(trace.len() + more, 0);
+        }
+        trace
+    }
+
+    fn record(&mut self, bits: &mut Bits, action: u32, level: u32, duration: u32) {
+        let open = !self.once_in(4);
+        bits.push(open.into(), 1);
+        bits.push(action.into(), 6);
+        bits.push(level.into(), 3);
+        bits.push(duration.into(), 30);
+    }
+
+    /// Numbers that no planner wrote, many of them close to a clock.
+    pub fn foreign(&mut self, count: usize, clock: u32) -> Vec<i32> {
+        let clock = clock.min(CLOCK) as i32;
+        let spread = self.between(1, 3) as i32;
+        (0..count)
+            .map(|_| match self.between(0, 15) {
+                0 => i32::MIN,
+                1 => i32::MAX,
+                2 => self.word() as i32,
+                _ => clock - spread + self.between(0, 2 * spread as u32) as i32,
+            })
+            .collect()
+    }
+
+    /// Limits and coast bounds that no planner wrote, such that long coasts are frequent.
+    pub fn foreign_tables(&mut self, n: usize, levels: usize, clock: u32) -> (Vec<i32>, Vec<i32>) {
+        let mut limits = self.foreign(n * levels, clock);
+        let mut coasts = self.foreign(n * levels * COAST, clock);
+        if self.once_in(2) {
+            // One level fits, the others do not.
+            let level = self.index(levels);
+            for (cell, limit) in limits.iter_mut().enumerate() {
+                if !self.once_in(20) {
+                    *limit = if cell % levels == level { i32::MAX } else { i32::MIN };
+                }
+            }
+        }
+        if self.once_in(4) {
+            coasts.fill(i32::MAX);
+        }
+        (limits, coasts)
+    }
+
+    /// A run record with every field inside its range, for n and L inside theirs.
+    pub fn run(&mut self, n: u32, levels: u32) -> Run {
+        let position = self.between(0, n);
+        let running = position < n && self.once_in(2);
+        let reached = position + u32::from(running);
+        let coast_left = if self.once_in(2) { 0 } else { self.between(0, (n - reached).min(15)) };
+        Run {
+            n,
+            levels,
+            position,
+            running,
+            clock: self.pick(&[0, 1, 5, 20, 1000, CLOCK - 1, CLOCK]),
+            level: self.between(0, levels - 1),
+            coast_left,
+            decisions: self.between(0, reached),
+            overrun: self.once_in(2),
+            late: self.once_in(2),
+        }
+    }
+
+    /// The same with a field at its edge or over it.
+    pub fn edged(&mut self, mut run: Run) -> Run {
+        let over = self.pick(&[0, 0, 1, 1, 2, u32::MAX]);
+        let edge = |limit: u32| if over == u32::MAX { over } else { limit + over };
+        let reached = run.position + u32::from(run.running);
+        match self.between(0, 8) {
+            0 => run.n = self.pick(&[0, 1, 64, 65, u32::MAX]),
+            1 => run.levels = self.pick(&[0, 1, 8, 9, u32::MAX]),
+            2 => run.position = edge(run.n),
+            3 => run.clock = edge(CLOCK),
+            4 => run.level = edge(run.levels - 1),
+            5 => run.coast_left = edge(15),
+            6 => run.coast_left = edge(run.n.saturating_sub(reached)),
+            7 => run.decisions = edge(reached),
+            _ => run.running = !run.running,
+        }
+        run
+    }
+
+    /// A clock for a report: near the last one, or at an edge.
+    pub fn clock(&mut self, run: Run, longest: u32) -> u32 {
+        let last = run.clock;
+        match self.between(0, 9) {
+            0 => last,
+            1 => last.saturating_sub(self.between(1, 3)),
+            2 => CLOCK,
+            3 => self.pick(&[CLOCK + 1, u32::MAX]),
+            4 => last.saturating_add(longest),
+            5 => last.saturating_add(longest).saturating_add(1),
+            _ => last.saturating_add(self.between(0, longest.min(TIME))),
+        }
+    }
+
+    /// A number up to `most`, now and then over it.
+    pub fn name(&mut self, most: u32) -> u32 {
+        match self.between(0, 11) {
+            0 => most + 1,
+            1 => self.pick(&[64, 255, u32::MAX]),
+            _ => self.between(0, most),
+        }
+    }
+
+    /// n and L, mostly inside their ranges.
+    pub fn shape(&mut self) -> (u32, u32) {
+        let n = if self.once_in(12) { self.pick(&[0, 65, u32::MAX]) } else { self.between(1, ACTIONS as u32) };
+        let levels = if self.once_in(12) { self.pick(&[0, 9, u32::MAX]) } else { self.between(1, LEVELS as u32) };
+        (n, levels)
+    }
+}

@@ -1,0 +1,14 @@
+//! The public calls for speed: one pass over an image, order by bit sets, each limit row and each coast bound from the one after it.
+
+mod image;
+mod order;
+mod plan;
+mod refresh;
+mod run;
+mod speed;
+
+pub use image::{check, lookup, lookup_refusal, read, write};
+pub use plan::plan;
+pub use refresh::refresh;
+pub use run::{ask, dry_run, report, report_lent, start};
+pub use speed::reading;

@@ -1,0 +1,275 @@
+//! Image check, reading, writing, lookup.
+
+use super::order::{arrange, Actions, Arranged};
+use crate::calls::{no, Answer, Counts, CLOCK, TIME};
+
+/// The sizes of an image whose length is right.
+#[derive(Clone, Copy)]
+pub(super) struct Shape {
+    pub n: usize,
+    pub levels: usize,
+    pub cycle: u32,
+    /// Bytes of one record.
+    pub stride: usize,
+}
+
+impl Shape {
+    fn new(counts: Counts) -> Option<Shape> {
+        let Counts { n, levels, cycle } = counts;
+        let fits = n.wrapping_sub(1) < 64 && levels.wrapping_sub(1) < 8 && cycle.wrapping_sub(1) < CLOCK;
+        let (n, levels) = (n as usize, levels as usize);
+        fits.then_some(Shape { n, levels, cycle, stride: 12 + 6 * levels })
+    }
+
+    pub fn bytes(self) -> usize {
+        6 + self.n * self.stride
+    }
+
+    pub fn cells(self) -> usize {
+        self.n * self.levels
+    }
+
+    pub fn counts(self) -> Counts {
+        Counts { n: self.n as u32, levels: self.levels as u32, cycle: self.cycle }
+    }
+
+    /// The set of all actions.
+    fn present(self) -> u64 {
+        u64::MAX >> (64 - self.n)
+    }
+
+    pub fn record(self, image: &[u8], action: usize) -> &[u8] {
+        &image[6 + action * self.stride..][..self.stride]
+    }
+
+    /// The deadline that counts.
+    pub fn deadline(self, written: u32) -> u32 {
+        if written == 0 {
+            self.cycle
+        } else {
+            written
+        }
+    }
+}
+
+fn word64(bytes: &[u8], at: usize) -> u64 {
+    u64::from_be_bytes(bytes[at..at + 8].try_into().expect("eight bytes"))
+}
+
+/// Deadline and the two spare bits.
+pub(super) fn deadline_word(record: &[u8]) -> u32 {
+    u32::from_be_bytes(record[8..12].try_into().expect("four bytes"))
+}
+
+/// The highest bit of each half of a word.
+const GUARD: u64 = 1 << 63 | 1 << 31;
+
+/// An average and a worst time in the halves of a word, so that both are compared by one subtraction.
+#[derive(Clone, Copy, Default)]
+pub(super) struct Pair(u64);
+
+impl Pair {
+    fn new(average: u32, worst: u32) -> Pair {
+        Pair(u64::from(average) << 32 | u64::from(worst))
+    }
+
+    /// The pair of a record at a level: the last six of eight bytes.
+    pub fn of(record: &[u8], level: usize) -> Pair {
+        let word = word64(record, 10 + 6 * level);
+        Pair((word & 0xffff_ff00_0000) << 8 | word & 0xff_ffff)
+    }
+
+    pub fn average(self) -> u32 {
+        (self.0 >> 32) as u32
+    }
+
+    pub fn worst(self) -> u32 {
+        self.0 as u32
+    }
+
+    /// A guard bit is lost where a time is below that of the level before, or the worst time below the average.
+    fn kept(self, before: Pair) -> u64 {
+        let guarded = self.0 | GUARD;
+        guarded.wrapping_sub(before.0) & guarded.wrapping_sub(self.0 >> 32)
+    }
+}
+
+/// What a pass over all records gathers.
+struct Faults {
+    spare: u32,
+    range: bool,
+    /// Loses a guard bit where the table rule is broken.
+    kept: u64,
+}
+
+impl Faults {
+    fn none() -> Faults {
+        Faults { spare: 0, range: false, kept: GUARD }
+    }
+
+    fn first(&self) -> Answer<()> {
+        if self.spare != 0 {
+            Err(no::SPARE)
+        } else if self.range {
+            Err(no::RANGE)
+        } else if self.kept & GUARD != GUARD {
+            Err(no::TABLE)
+        } else {
+            Ok(())
+        }
+    }
+}
+
+/// Refusals 1 to 4.
+fn shape(image: &[u8]) -> Answer<Shape> {
+    if image.len() < 6 {
+        return Err(no::SHORT);
+    }
+    let head = u32::from_be_bytes([image[0], image[1], image[2], image[3]]);
+    let tail = u16::from_be_bytes([image[4], image[5]]);
+    if head >> 28 != 1 {
+        return Err(no::VERSION);
+    }
+    let cycle = (head & 0x1_ffff) << 13 | u32::from(tail >> 3);
+    let shape = Shape::new(Counts { n: head >> 21 & 127, levels: head >> 17 & 15, cycle }).ok_or(no::COUNT)?;
+    if image.len() != shape.bytes() {
+        return Err(no::LENGTH);
+    }
+    Ok(shape)
+}
+
+/// Refusals 1 to 9; the shape and the order of an accepted image.
+pub(super) fn examine(image: &[u8]) -> Answer<(Shape, Arranged)> {
+    let shape = shape(image)?;
+    let present = shape.present();
+    let mut faults = Faults::none();
+    faults.spare = u32::from(image[5] & 7);
+    let mut actions = Actions::default();
+    for (a, record) in image[6..].chunks_exact(shape.stride).enumerate().take(64) {
+        let mask = word64(record, 0);
+        let word = deadline_word(record);
+        faults.spare |= word & 3;
+        faults.range |= (mask & !present != 0) | (word >> 2 > shape.cycle);
+        actions.masks[a] = mask;
+        actions.deadlines[a] = shape.deadline(word >> 2);
+        actions.worst[a] = Pair::of(record, 0).worst();
+        let mut before = Pair::default();
+        for level in 0..shape.levels {
+            let pair = Pair::of(record, level);
+            faults.kept &= pair.kept(before);
+            before = pair;
+        }
+    }
+    faults.first()?;
+    Ok((shape, arrange(&actions, shape.n)?))
+}
+
+/// The image check.
+pub fn check(image: &[u8]) -> Answer<Counts> {
+    examine(image).map(|(shape, _)| shape.counts())
+}
+
+/// Unpacks an image into lent slices.
+pub fn read(
+    image: &[u8],
+    masks: &mut [u64],
+    deadlines: &mut [u32],
+    averages: &mut [u32],
+    worst: &mut [u32],
+) -> Answer<Counts> {
+    let (shape, _) = examine(image)?;
+    let (n, levels, cells) = (shape.n, shape.levels, shape.cells());
+    if masks.len() < n || deadlines.len() < n || averages.len() < cells || worst.len() < cells {
+        return Err(no::ROOM);
+    }
+    let heads = masks.iter_mut().zip(deadlines);
+    let rows = averages.chunks_exact_mut(levels).zip(worst.chunks_exact_mut(levels));
+    for ((record, (mask, deadline)), (averages, worst)) in image[6..].chunks_exact(shape.stride).zip(heads).zip(rows) {
+        *mask = word64(record, 0);
+        *deadline = deadline_word(record) >> 2;
+        for (level, (average, worst)) in averages.iter_mut().zip(worst).enumerate() {
+            let pair = Pair::of(record, level);
+            (*average, *worst) = (pair.average(), pair.worst());
+        }
+    }
+    Ok(shape.counts())
+}
+
+/// Packs lent slices into a lent image and answers its bytes.
+pub fn write(
+    counts: Counts,
+    masks: &[u64],
+    deadlines: &[u32],
+    averages: &[u32],
+    worst: &[u32],
+    image: &mut [u8],
+) -> Answer<usize> {
+    let shape = Shape::new(counts).ok_or(no::COUNT)?;
+    let (n, levels, cells, bytes) = (shape.n, shape.levels, shape.cells(), shape.bytes());
+    let times_short = averages.len() < cells || worst.len() < cells;
+    if masks.len() < n || deadlines.len() < n || times_short || image.len() < bytes {
+        return Err(no::ROOM);
+    }
+    let (masks, deadlines) = (&masks[..n], &deadlines[..n]);
+    let (averages, worst, image) = (&averages[..cells], &worst[..cells], &mut image[..bytes]);
+    judge(shape, masks, deadlines, averages, worst)?;
+
+    let head = 1 << 28 | counts.n << 21 | counts.levels << 17 | shape.cycle >> 13;
+    image[..4].copy_from_slice(&head.to_be_bytes());
+    image[4..6].copy_from_slice(&((shape.cycle << 3) as u16).to_be_bytes());
+    let heads = masks.iter().zip(deadlines);
+    let rows = averages.chunks_exact(levels).zip(worst.chunks_exact(levels));
+    for ((record, (mask, deadline)), (averages, worst)) in
+        image[6..].chunks_exact_mut(shape.stride).zip(heads).zip(rows)
+    {
+        record[..8].copy_from_slice(&mask.to_be_bytes());
+        record[8..12].copy_from_slice(&(deadline << 2).to_be_bytes());
+        for (cell, (&average, &worst)) in record[12..].chunks_exact_mut(6).zip(averages.iter().zip(worst)) {
+            let word = u64::from(average) << 40 | u64::from(worst) << 16;
+            cell.copy_from_slice(&word.to_be_bytes()[..6]);
+        }
+    }
+    Ok(bytes)
+}
+
+/// Refusals 6 to 9 of a writing.
+fn judge(shape: Shape, masks: &[u64], deadlines: &[u32], averages: &[u32], worst: &[u32]) -> Answer<()> {
+    let present = shape.present();
+    let mut faults = Faults::none();
+    let mut actions = Actions::default();
+    let mut times = 0;
+    let rows = averages.chunks_exact(shape.levels).zip(worst.chunks_exact(shape.levels));
+    for (a, ((&mask, &deadline), (averages, worst))) in masks.iter().zip(deadlines).zip(rows).enumerate().take(64) {
+        faults.range |= (mask & !present != 0) | (deadline > shape.cycle);
+        actions.masks[a] = mask;
+        actions.deadlines[a] = shape.deadline(deadline);
+        actions.worst[a] = worst[0];
+        let mut before = Pair::default();
+        for (&average, &worst) in averages.iter().zip(worst) {
+            times |= average | worst;
+            let pair = Pair::new(average, worst);
+            faults.kept &= pair.kept(before);
+            before = pair;
+        }
+    }
+    faults.range |= times > TIME;
+    faults.first()?;
+    arrange(&actions, shape.n).map(|_| ())
+}
+
+/// The action's own part of the image, empty with a refusal.
+pub fn lookup(image: &[u8], action: u32) -> &[u8] {
+    match examine(image) {
+        Ok((shape, _)) if (action as usize) < shape.n => shape.record(image, action as usize),
+        _ => &[],
+    }
+}
+
+/// The number of that lookup's refusal, 0 for none.
+pub fn lookup_refusal(image: &[u8], action: u32) -> u8 {
+    match examine(image) {
+        Ok((shape, _)) if (action as usize) < shape.n => 0,
+        Ok(_) => no::NAME,
+        Err(number) => number,
+    }
+}

@@ -1,0 +1,19 @@
+//! Test software for the quality manager: what document 01 says, written twice in Rust and once in C, and the means to compare
+//! any implementation of its public calls with the definitions.
+//!
+//! - [`calls`]: the public calls as a trait, and the values that they hand over.
+//! - [`reference`]: the calls by the document's definitions. Slow, plain, and the judge.
+//! - [`fast`]: the same calls as a good engineer would write them for speed; [`c`] binds the same in C (`c/fast.c`).
+//! - [`text`]: what the two programs print.
+//! - [`draw`]: inputs from a seed; [`compare`]: two implementations side by side over such inputs; [`outside`]: vectors in files.
+
+pub mod c;
+pub mod calls;
+pub mod compare;
+pub mod draw;
+pub mod fast;
+pub mod outside;
+pub mod reference;
+pub mod text;
+
+pub use calls::{Answer, Asked, Calls, Counts, Cycle, Reading, Run, Tables};

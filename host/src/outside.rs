@@ -1,0 +1,281 @@
+//! Writes vectors: inputs with what the product must answer, in files that any program can read.
+
+use crate::calls::{Calls, Fast, Reading, Reference, CLOCK, TIME};
+use crate::draw::{Draw, Pace, Size, PACES};
+use crate::reference::{accept, Planned};
+use crate::text;
+use std::fs;
+use std::io;
+use std::path::Path;
+
+/// One image with durations for the two programs.
+struct Case {
+    what: String,
+    image: Vec<u8>,
+    durations: Vec<u8>,
+}
+
+/// One image with a trace.
+struct Trace {
+    what: &'static str,
+    image: Vec<u8>,
+    trace: Vec<u8>,
+}
+
+/// What was written.
+#[derive(Clone, Debug, Default)]
+pub struct Written {
+    pub cases: usize,
+    pub traces: usize,
+    pub readings: usize,
+    pub bytes: usize,
+}
+
+const INTRODUCTION: &str = "# Vectors
+
+Made from the definitions of document 01, by a seed.
+
+- NNN.profile (an image, any bytes), NNN.durations; NNN.plan is what the plan program prints for the image, NNN.dry what the dry-run program prints for both.
+- tNN.profile, tNN.trace; tNN.refreshed is the new image, empty with a refusal, whose number stands in the table below.
+- readings.txt: an image in hexadecimal, first position, last position, level, time, and the reading: `spent`, `refused` and the number, or the 64 bits of the ratio in hexadecimal.
+";
+
+/// Writes all vectors of a seed into a folder, which is made if it is not there.
+pub fn write(folder: &Path, seed: u64) -> io::Result<Written> {
+    fs::create_dir_all(folder)?;
+    let mut maker = Maker { draw: Draw::new(seed), folder, written: Written::default() };
+    let mut page = String::from(INTRODUCTION);
+    page += "\n| case | what | plan's first line | dry run's last line |\n|---|---|---|---|\n";
+    for case in maker.cases() {
+        page += &maker.case(&case)?;
+    }
+    page += "\n| trace | what | number |\n|---|---|---|\n";
+    for trace in maker.traces() {
+        page += &maker.trace(&trace)?;
+    }
+    let readings = maker.readings();
+    maker.file("readings.txt", readings.as_bytes())?;
+    maker.file("README.md", page.as_bytes())?;
+    Ok(maker.written)
+}
+
+struct Maker<'a> {
+    draw: Draw,
+    folder: &'a Path,
+    written: Written,
+}
+
+fn big_endian(durations: &[u32]) -> Vec<u8> {
+    durations.iter().flat_map(|duration| duration.to_be_bytes()).collect()
+}
+
+fn hex(bytes: &[u8]) -> String {
+    bytes.iter().map(|byte| format!("{byte:02x}")).collect()
+}
+
+fn pace_name(pace: Pace) -> &'static str {
+    match pace {
+        Pace::Zero => "zero",
+        Pace::Within => "within worst",
+        Pace::Worst => "worst",
+        Pace::Over => "some over worst",
+        Pace::Absent => "one above 16,777,215",
+    }
+}
+
+impl Maker<'_> {
+    fn file(&mut self, name: &str, bytes: &[u8]) -> io::Result<()> {
+        self.written.bytes += bytes.len();
+        fs::write(self.folder.join(name), bytes)
+    }
+
+    /// The row of a case, whose files are written.
+    fn case(&mut self, case: &Case) -> io::Result<String> {
+        let name = format!("{:03}", self.written.cases);
+        let plan = text::plan(&Reference, &case.image);
+        let dry = text::dry_run(&Reference, &case.image, &case.durations);
+        assert_eq!(plan, text::plan(&Fast, &case.image), "{}", case.what);
+        assert_eq!(dry, text::dry_run(&Fast, &case.image, &case.durations), "{}", case.what);
+        self.file(&format!("{name}.profile"), &case.image)?;
+        self.file(&format!("{name}.durations"), &case.durations)?;
+        self.file(&format!("{name}.plan"), plan.as_bytes())?;
+        self.file(&format!("{name}.dry"), dry.as_bytes())?;
+        self.written.cases += 1;
+        let (first, last) = (plan.lines().next().unwrap_or(""), dry.lines().last().unwrap_or(""));
+        Ok(format!("| {name} | {} | {first} | {last} |\n", case.what))
+    }
+
+    fn cases(&mut self) -> Vec<Case> {
+        let mut cases = Vec::new();
+        for (size, name, count) in [
+            (Size::Tiny, "tiny", 60),
+            (Size::Small, "small", 70),
+            (Size::Large, "large", 35),
+            (Size::Extreme, "extreme", 35),
+        ] {
+            for at in 0..count {
+                let image = self.draw.profile(size).image();
+                cases.push(self.with_durations(name, image, PACES[at % PACES.len()]));
+            }
+        }
+        self.damaged(&mut cases);
+        self.odd_durations(&mut cases);
+        cases
+    }
+
+    /// Durations to an image; any few bytes to one that is refused.
+    fn with_durations(&mut self, name: &str, image: Vec<u8>, pace: Pace) -> Case {
+        match accept(&image) {
+            Ok(profile) => {
+                let worst: Vec<u32> = Planned::of(&profile).worst.iter().flatten().map(|&time| time as u32).collect();
+                let durations = self.draw.durations(&worst, pace);
+                let what = format!("{name}, durations {}", pace_name(pace));
+                Case { what, image, durations: big_endian(&durations) }
+            }
+            Err(number) => {
+                let count = self.draw.index(20);
+                Case { what: format!("{name}, refused {number}"), image, durations: self.draw.bytes(count) }
+            }
+        }
+    }
+
+    /// Damaged images, the same number of each refusal 1 to 9.
+    fn damaged(&mut self, cases: &mut Vec<Case>) {
+        const EACH: usize = 14;
+        let mut met = [0; 10];
+        while (1..=9).any(|number| met[number] < EACH) {
+            let size = if self.draw.once_in(12) { Size::Large } else { Size::Small };
+            let sketch = self.draw.profile(size);
+            let image = self.draw.damaged(sketch);
+            if let Err(number) = accept(&image).map(|_| ()) {
+                if met[number as usize] < EACH {
+                    met[number as usize] += 1;
+                    cases.push(self.with_durations("damaged", image, Pace::Within));
+                }
+            }
+        }
+    }
+
+    /// Durations cut, lengthened, or with an entry just too long or just not.
+    fn odd_durations(&mut self, cases: &mut Vec<Case>) {
+        let mut count = 0;
+        while count < 21 {
+            let image = self.draw.profile(Size::Small).image();
+            if accept(&image).is_err() {
+                continue;
+            }
+            let mut case = self.with_durations("small", image, Pace::Within);
+            let entry = 4 * self.draw.index(case.durations.len() / 4);
+            case.what = match count % 7 {
+                0 => {
+                    case.durations.pop();
+                    "durations one byte short"
+                }
+                1 => {
+                    case.durations.clear();
+                    "no durations"
+                }
+                2 => {
+                    case.durations.truncate(entry);
+                    "durations some entries short"
+                }
+                3 => {
+                    case.durations.extend([0xff; 5]);
+                    "durations longer than needed"
+                }
+                4 => {
+                    case.durations[entry..entry + 4].copy_from_slice(&TIME.to_be_bytes());
+                    "one entry 16,777,215"
+                }
+                5 => {
+                    case.durations[entry..entry + 4].copy_from_slice(&(TIME + 1).to_be_bytes());
+                    "one entry 16,777,216"
+                }
+                _ => {
+                    case.durations[..4].copy_from_slice(&u32::MAX.to_be_bytes());
+                    case.durations.pop();
+                    "an entry too long, durations one byte short"
+                }
+            }
+            .to_string();
+            cases.push(case);
+            count += 1;
+        }
+    }
+
+    /// The row of a trace, whose files are written.
+    fn trace(&mut self, case: &Trace) -> io::Result<String> {
+        let name = format!("t{:02}", self.written.traces);
+        let mut fresh = vec![0; case.image.len()];
+        let answer = Reference.refresh(&case.image, &case.trace, &mut fresh);
+        let mut again = vec![0; case.image.len()];
+        assert_eq!(answer, Fast.refresh(&case.image, &case.trace, &mut again), "{}", case.what);
+        assert_eq!(fresh, again, "{}", case.what);
+        self.file(&format!("{name}.profile"), &case.image)?;
+        self.file(&format!("{name}.trace"), &case.trace)?;
+        self.file(&format!("{name}.refreshed"), if answer.is_ok() { &fresh } else { &[] })?;
+        self.written.traces += 1;
+        Ok(format!("| {name} | {} | {} |\n", case.what, answer.err().unwrap_or(0)))
+    }
+
+    fn traces(&mut self) -> Vec<Trace> {
+        let mut traces = Vec::new();
+        while traces.len() < 60 {
+            let size = if self.draw.once_in(8) { Size::Large } else { Size::Small };
+            let image = self.draw.image(size);
+            let (n, levels, worst) = match accept(&image) {
+                Ok(profile) => {
+                    let worst = profile.worst.iter().flatten().map(|&time| time as u32).collect();
+                    (profile.n, profile.levels, worst)
+                }
+                Err(_) => (1, 1, vec![0]),
+            };
+            let trace = self.draw.trace(n as u32, levels as u32, &worst);
+            // Only one of the longest that there may be, at the end.
+            if trace.len() < 1000 {
+                traces.push(Trace { what: "drawn", image, trace });
+            }
+        }
+        let image = loop {
+            let image = self.draw.profile(Size::Tiny).image();
+            if accept(&image).is_ok() {
+                break image;
+            }
+        };
+        // Closed records of action 0, level 0, duration 0.
+        traces.push(Trace { what: "65,535 records, closed", image, trace: vec![0; 65_535 * 5] });
+        traces
+    }
+
+    fn readings(&mut self) -> String {
+        let mut lines = String::new();
+        while self.written.readings < 120 {
+            let size = if self.draw.once_in(20) { Size::Extreme } else { Size::Tiny };
+            let image = self.draw.image(size);
+            let (n, levels, cycle) = match accept(&image) {
+                Ok(profile) => (profile.n as u32, profile.levels as u32, profile.cycle as u32),
+                Err(_) => (3, 2, 20),
+            };
+            let [mut first, mut last] = [n - 1; 2].map(|most| self.draw.name(most));
+            if first > last && !self.draw.once_in(6) {
+                (first, last) = (last, first);
+            }
+            let level = self.draw.name(levels - 1);
+            let time =
+                if self.draw.once_in(12) { CLOCK + self.draw.between(0, 1) } else { self.draw.between(0, cycle) };
+            let reading = Reference.reading(&image, first, last, level, time);
+            assert_eq!(reading, Fast.reading(&image, first, last, level, time));
+            let words = match reading {
+                Reading::Ratio(ratio) => format!("{:016x}", ratio.to_bits()),
+                Reading::Spent => "spent".to_string(),
+                Reading::Refused(number) => format!("refused {number}"),
+            };
+            // An image of no bytes has no digits to stand in a line.
+            if !image.is_empty() {
+                lines += &format!("{} {first} {last} {level} {time} {words}\n", hex(&image));
+                self.written.readings += 1;
+            }
+        }
+        lines
+    }
+}

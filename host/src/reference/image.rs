@@ -1,0 +1,194 @@
+//! The profile image: its check, reading, writing, lookup.
+
+use super::bits::{get, put};
+use super::profile::{counts_in_range, Profile};
+use crate::calls::{no, Answer, Counts};
+
+const HEADER: usize = 48;
+
+/// The bits of one record.
+fn record_bits(levels: usize) -> usize {
+    64 + 30 + 2 + levels * 48
+}
+
+/// The bit where the record of an action starts.
+fn record_start(levels: usize, action: usize) -> usize {
+    HEADER + action * record_bits(levels)
+}
+
+/// The bit where an average starts; the worst time is the next number.
+fn average_start(levels: usize, action: usize, level: usize) -> usize {
+    record_start(levels, action) + 96 + level * 48
+}
+
+/// The bytes of an image.
+pub fn length(n: usize, levels: usize) -> usize {
+    6 + n * (12 + 6 * levels)
+}
+
+fn header(image: &[u8]) -> Counts {
+    Counts { n: get(image, 4, 7) as u32, levels: get(image, 11, 4) as u32, cycle: get(image, 15, 30) as u32 }
+}
+
+/// The numbers of an image whose length is right.
+fn unpack(image: &[u8]) -> Profile {
+    let counts = header(image);
+    let (n, levels) = (counts.n as usize, counts.levels as usize);
+    let times = |offset: usize| {
+        let time = |a, q| get(image, average_start(levels, a, q) + offset, 24) as i64;
+        (0..n).map(|a| (0..levels).map(|q| time(a, q)).collect()).collect()
+    };
+    Profile {
+        n,
+        levels,
+        cycle: i64::from(counts.cycle),
+        masks: (0..n).map(|a| get(image, record_start(levels, a), 64)).collect(),
+        deadlines: (0..n).map(|a| get(image, record_start(levels, a) + 64, 30) as i64).collect(),
+        averages: times(0),
+        worst: times(24),
+    }
+}
+
+/// The image of a profile whose numbers fit their fields.
+fn pack(profile: &Profile) -> Vec<u8> {
+    let mut image = vec![0; length(profile.n, profile.levels)];
+    put(&mut image, 0, 4, 1);
+    put(&mut image, 4, 7, profile.n as u64);
+    put(&mut image, 11, 4, profile.levels as u64);
+    put(&mut image, 15, 30, profile.cycle as u64);
+    for a in 0..profile.n {
+        let start = record_start(profile.levels, a);
+        put(&mut image, start, 64, profile.masks[a]);
+        put(&mut image, start + 64, 30, profile.deadlines[a] as u64);
+        for q in 0..profile.levels {
+            let start = average_start(profile.levels, a, q);
+            put(&mut image, start, 24, profile.averages[a][q] as u64);
+            put(&mut image, start + 24, 24, profile.worst[a][q] as u64);
+        }
+    }
+    image
+}
+
+fn spare_bit_set(image: &[u8], n: usize, levels: usize) -> bool {
+    get(image, 45, 3) != 0 || (0..n).any(|a| get(image, record_start(levels, a) + 94, 2) != 0)
+}
+
+/// The profile of an accepted image, or the refusal 1 to 9.
+pub fn accept(image: &[u8]) -> Answer<Profile> {
+    if image.len() < 6 {
+        return Err(no::SHORT);
+    }
+    if get(image, 0, 4) != 1 {
+        return Err(no::VERSION);
+    }
+    let counts = header(image);
+    if !counts_in_range(counts) {
+        return Err(no::COUNT);
+    }
+    let (n, levels) = (counts.n as usize, counts.levels as usize);
+    if image.len() != length(n, levels) {
+        return Err(no::LENGTH);
+    }
+    if spare_bit_set(image, n, levels) {
+        return Err(no::SPARE);
+    }
+    let profile = unpack(image);
+    match profile.refusal() {
+        Some(number) => Err(number),
+        None => Ok(profile),
+    }
+}
+
+/// The image check.
+pub fn check(image: &[u8]) -> Answer<Counts> {
+    accept(image).map(|_| header(image))
+}
+
+/// Unpacks an image into lent slices.
+pub fn read(
+    image: &[u8],
+    masks: &mut [u64],
+    deadlines: &mut [u32],
+    averages: &mut [u32],
+    worst: &mut [u32],
+) -> Answer<Counts> {
+    let profile = accept(image)?;
+    let (n, levels) = (profile.n, profile.levels);
+    if masks.len() < n || deadlines.len() < n || averages.len() < n * levels || worst.len() < n * levels {
+        return Err(no::ROOM);
+    }
+    for a in 0..n {
+        masks[a] = profile.masks[a];
+        deadlines[a] = profile.deadlines[a] as u32;
+        for q in 0..levels {
+            averages[a * levels + q] = profile.averages[a][q] as u32;
+            worst[a * levels + q] = profile.worst[a][q] as u32;
+        }
+    }
+    Ok(header(image))
+}
+
+/// Packs lent slices into a lent image and answers its bytes.
+pub fn write(
+    counts: Counts,
+    masks: &[u64],
+    deadlines: &[u32],
+    averages: &[u32],
+    worst: &[u32],
+    image: &mut [u8],
+) -> Answer<usize> {
+    if !counts_in_range(counts) {
+        return Err(no::COUNT);
+    }
+    let (n, levels) = (counts.n as usize, counts.levels as usize);
+    let bytes = length(n, levels);
+    let times_short = averages.len() < n * levels || worst.len() < n * levels;
+    if masks.len() < n || deadlines.len() < n || times_short || image.len() < bytes {
+        return Err(no::ROOM);
+    }
+    let times = |table: &[u32]| -> Vec<Vec<i64>> {
+        (0..n).map(|a| (0..levels).map(|q| i64::from(table[a * levels + q])).collect()).collect()
+    };
+    let profile = Profile {
+        n,
+        levels,
+        cycle: i64::from(counts.cycle),
+        masks: masks[..n].to_vec(),
+        deadlines: deadlines[..n].iter().map(|&deadline| i64::from(deadline)).collect(),
+        averages: times(averages),
+        worst: times(worst),
+    };
+    if let Some(number) = profile.refusal() {
+        return Err(number);
+    }
+    image[..bytes].copy_from_slice(&pack(&profile));
+    Ok(bytes)
+}
+
+/// The refusal of a lookup, or the place of the action's part.
+fn find(image: &[u8], action: u32) -> Answer<std::ops::Range<usize>> {
+    let profile = accept(image)?;
+    if action as usize >= profile.n {
+        return Err(no::NAME);
+    }
+    let start = record_start(profile.levels, action as usize) / 8;
+    Ok(start..start + record_bits(profile.levels) / 8)
+}
+
+/// The action's own part of the image, empty with a refusal.
+pub fn lookup(image: &[u8], action: u32) -> &[u8] {
+    match find(image, action) {
+        Ok(part) => &image[part],
+        Err(_) => &[],
+    }
+}
+
+/// The number of that lookup's refusal, 0 for none.
+pub fn lookup_refusal(image: &[u8], action: u32) -> u8 {
+    find(image, action).err().unwrap_or(0)
+}
+
+/// Puts an average into an image.
+pub fn put_average(image: &mut [u8], levels: usize, action: usize, level: usize, average: i64) {
+    put(image, average_start(levels, action, level), 24, average as u64);
+}

@@ -1,0 +1,179 @@
+//! The asked manager, the grant of a coast, the run record and the dry run.
+
+use super::profile::shape_in_range;
+use crate::calls::{no, Answer, Asked, Cycle, Run, Tables, CLOCK, COAST, TIME};
+
+/// Limits and coast bounds as lent, whoever wrote them.
+#[derive(Clone, Copy, Debug)]
+pub struct Bounds<'a> {
+    pub n: usize,
+    pub levels: usize,
+    pub limits: &'a [i32],
+    pub coasts: &'a [i32],
+}
+
+impl Bounds<'_> {
+    fn limit(&self, i: usize, q: usize) -> i64 {
+        i64::from(self.limits[i * self.levels + q])
+    }
+
+    fn coast_bound(&self, i: usize, q: usize, r: usize) -> i64 {
+        i64::from(self.coasts[(i * self.levels + q) * COAST + r - 1])
+    }
+}
+
+/// The greatest level whose limit the time keeps; else level 0 with the late mark.
+pub fn asked(bounds: Bounds, i: usize, t: i64) -> (usize, bool) {
+    match (0..bounds.levels).filter(|&q| t <= bounds.limit(i, q)).max() {
+        Some(level) => (level, false),
+        None => (0, true),
+    }
+}
+
+/// The greatest r that qualifies, or 1.
+pub fn granted(bounds: Bounds, i: usize, t: i64, q: usize) -> usize {
+    let top = q + 1 == bounds.levels;
+    let qualifies =
+        |r: usize| t <= bounds.coast_bound(i, q, r) && (top || (i..i + r).all(|j| t > bounds.limit(j, q + 1)));
+    (1..=COAST.min(bounds.n - i)).filter(|&r| qualifies(r)).max().unwrap_or(1)
+}
+
+/// The names of the fields of a run record that are outside their range.
+pub fn fields_out(run: Run) -> Vec<&'static str> {
+    let number = i64::from;
+    let runs = i64::from(run.running);
+    let left = number(run.n) - number(run.position) - runs;
+    let tests = [
+        ("n", !(1..=64).contains(&run.n)),
+        ("L", !(1..=8).contains(&run.levels)),
+        ("position", run.position > run.n),
+        ("clock", run.clock > CLOCK),
+        ("running", run.running && run.position >= run.n),
+        ("level", run.level >= run.levels),
+        ("coast left", run.coast_left > 15 || number(run.coast_left) > left),
+        ("decisions", number(run.decisions) > number(run.position) + runs),
+    ];
+    tests.into_iter().filter(|(_, out)| *out).map(|(name, _)| name).collect()
+}
+
+/// Whether every field of a run record is inside its range.
+pub fn in_range(run: Run) -> bool {
+    fields_out(run).is_empty()
+}
+
+/// A start sets n and L, all else 0 or no; refused, it gives a record of zero actions.
+pub fn start(n: u32, levels: u32) -> (Run, u8) {
+    if !shape_in_range(n, levels) {
+        return (Run::default(), no::COUNT);
+    }
+    (Run { n, levels, ..Run::default() }, 0)
+}
+
+/// Asks for the next action and its level.
+pub fn ask(run: Run, order: &[u8], limits: &[i32], coasts: &[i32]) -> (Run, Answer<Asked>) {
+    if !in_range(run) {
+        return (run, Err(no::TURN));
+    }
+    let (n, levels, i) = (run.n as usize, run.levels as usize, run.position as usize);
+    if order.len() < n || limits.len() < n * levels || coasts.len() < n * levels * COAST {
+        return (run, Err(no::ROOM));
+    }
+    if run.running {
+        return (run, Err(no::TURN));
+    }
+    if i == n {
+        return (run, Err(no::FINISHED));
+    }
+    let action = u32::from(order[i]);
+    if run.coast_left > 0 {
+        let next = Run { running: true, coast_left: run.coast_left - 1, ..run };
+        return (next, Ok(Asked { action, level: run.level, decided: false, late: false }));
+    }
+    let bounds = Bounds { n, levels, limits, coasts };
+    let t = i64::from(run.clock);
+    let (level, late) = asked(bounds, i, t);
+    let next = Run {
+        running: true,
+        level: level as u32,
+        coast_left: granted(bounds, i, t, level) as u32 - 1,
+        decisions: run.decisions + 1,
+        late: run.late || late,
+        ..run
+    };
+    (next, Ok(Asked { action, level: level as u32, decided: true, late }))
+}
+
+/// Reports the end of the running action by the clock since the cycle began.
+pub fn report(run: Run, clock: u32, worst: &[u32]) -> (Run, u8) {
+    if !in_range(run) {
+        return (run, no::TURN);
+    }
+    let (n, levels) = (run.n as usize, run.levels as usize);
+    if worst.len() < n * levels {
+        return (run, no::ROOM);
+    }
+    if !run.running {
+        return (run, no::TURN);
+    }
+    if clock < run.clock {
+        return (run, no::BACK);
+    }
+    if clock > CLOCK {
+        return (run, no::CLOCK);
+    }
+    let duration = clock - run.clock;
+    let overran = duration > worst[run.position as usize * levels + run.level as usize];
+    let next = Run {
+        position: run.position + 1,
+        clock,
+        running: false,
+        coast_left: if overran { 0 } else { run.coast_left },
+        overrun: run.overrun || overran,
+        ..run
+    };
+    (next, 0)
+}
+
+/// The same on the host's own record.
+pub fn report_lent(run: &mut Run, clock: u32, worst: &[u32]) -> u8 {
+    let (next, number) = report(*run, clock, worst);
+    *run = next;
+    number
+}
+
+/// A whole cycle: start, then ask and report by turns until no action remains.
+pub fn dry_run(
+    n: u32,
+    levels: u32,
+    tables: Tables,
+    durations: &[u32],
+    given: &mut [u8],
+    decided: &mut [u8],
+) -> Answer<Cycle> {
+    if !shape_in_range(n, levels) {
+        return Err(no::COUNT);
+    }
+    let (count, width) = (n as usize, levels as usize);
+    let cells = count * width;
+    let tables_short = tables.limits.len() < cells || tables.worst.len() < cells || tables.coasts.len() < cells * COAST;
+    if tables_short || durations.len() < cells || given.len() < count || decided.len() < count {
+        return Err(no::ROOM);
+    }
+    if durations[..cells].iter().any(|&duration| duration > TIME) {
+        return Err(no::DURATION);
+    }
+    // The actions' names are of no account here.
+    let order = vec![0; count];
+    let (mut run, _) = start(n, levels);
+    for i in 0..count {
+        let (running, answer) = ask(run, &order, tables.limits, tables.coasts);
+        let answer = answer.expect("the turn is right");
+        given[i] = answer.level as u8;
+        decided[i] = u8::from(answer.decided);
+        let end = running.clock + durations[i * width + answer.level as usize];
+        let (ended, number) = report(running, end, tables.worst);
+        assert_eq!(number, 0, "64 durations stay below the clock's limit");
+        run = ended;
+    }
+    Ok(Cycle { decisions: run.decisions, end: run.clock, overrun: run.overrun, late: run.late })
+}

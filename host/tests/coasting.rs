@@ -1,0 +1,215 @@
+//! Demand 3 by enumeration: for durations from zero to worst no deadline is missed, every level is that of the manager asked before
+//! the action, and no way of coasting that can't differ decides less often.
+
+mod common;
+
+use nyokazerubi_host::calls::{Calls, Cycle, Reference, Tables, COAST};
+use nyokazerubi_host::draw::{Draw, Size, Sketch};
+use nyokazerubi_host::reference::Planned;
+use std::collections::HashMap;
+
+/// A planned profile with what was found about it.
+struct Trial {
+    planned: Planned,
+    limits: Vec<Vec<i64>>,
+    /// The planner's limits, worst times and coast bounds.
+    tables: (Vec<i32>, Vec<u32>, Vec<i32>),
+    steady: HashMap<(usize, i64, usize), bool>,
+    cycles: usize,
+}
+
+impl Trial {
+    /// None if the profile is refused.
+    fn new(sketch: &Sketch) -> Option<Trial> {
+        let (n, cells) = (sketch.n as usize, sketch.averages.len());
+        let (mut order, mut limits) = (vec![0; n], vec![0; cells]);
+        let (mut worst, mut coasts) = (vec![0; cells], vec![0; cells * COAST]);
+        Reference.plan(&sketch.image(), &mut order, &mut limits, &mut worst, &mut coasts).ok()?;
+        let planned = Planned::of(&common::profile(sketch));
+        let by_definition = planned.limits();
+        let tables = (limits, worst, coasts);
+        Some(Trial { planned, limits: by_definition, tables, steady: HashMap::new(), cycles: 0 })
+    }
+
+    /// The manager asked at position i and time t.
+    fn asked(&self, i: usize, t: i64) -> usize {
+        let fits = |q: &usize| t <= self.limits[i][*q];
+        let level = (0..self.planned.levels).rev().find(fits);
+        level.unwrap_or_else(|| panic!("late at position {i}, time {t}"))
+    }
+
+    /// Whether all durations from zero to worst at q, from position j at a time on, leave the asked level at q up to the last position.
+    fn holds(&self, j: usize, time: i64, q: usize, last: usize) -> bool {
+        self.asked(j, time) == q
+            && (j == last || (0..=self.planned.worst[j][q]).all(|duration| self.holds(j + 1, time + duration, q, last)))
+    }
+
+    /// Whether r actions from position i at time t can't differ from the asked manager.
+    fn can_not_differ(&mut self, i: usize, t: i64, r: usize) -> bool {
+        if let Some(&known) = self.steady.get(&(i, t, r)) {
+            return known;
+        }
+        let found = self.holds(i, t, self.asked(i, t), i + r - 1);
+        self.steady.insert((i, t, r), found);
+        found
+    }
+
+    /// The fewest decisions from position i on, over all ways of coasting that can't differ. Clocks are those before each position.
+    fn fewest(&mut self, clocks: &[i64]) -> u32 {
+        let n = self.planned.n;
+        let mut fewest = vec![0; n + 1];
+        for i in (0..n).rev() {
+            let ways = (1..=COAST.min(n - i)).filter(|&r| self.can_not_differ(i, clocks[i], r));
+            fewest[i] = 1 + ways.map(|r| fewest[i + r]).min().expect("one action at a time is a way");
+        }
+        fewest[0]
+    }
+
+    /// One cycle over durations of the asked levels.
+    fn cycle(&mut self, durations: &[i64], levels: &[usize]) {
+        let (n, width) = (self.planned.n, self.planned.levels);
+        let clocks: Vec<i64> = (0..=n).map(|i| durations[..i].iter().sum()).collect();
+        // A level that was not asked for would take much longer.
+        let mut table = vec![9999; n * width];
+        for i in 0..n {
+            table[i * width + levels[i]] = durations[i] as u32;
+        }
+        let (mut given, mut decided) = (vec![9; n], vec![9; n]);
+        let tables = Tables { limits: &self.tables.0, worst: &self.tables.1, coasts: &self.tables.2 };
+        let answer = Reference.dry_run(n as u32, width as u32, tables, &table, &mut given, &mut decided);
+        let decisions = self.fewest(&clocks);
+        let wanted = Cycle { decisions, end: clocks[n] as u32, overrun: false, late: false };
+        assert_eq!(answer, Ok(wanted), "{:?} {durations:?}", self.planned);
+        assert!((0..n).all(|i| given[i] as usize == levels[i]), "{:?} {durations:?}", self.planned);
+        assert!((0..n).all(|i| clocks[i + 1] <= self.planned.deadline[i]), "{:?} {durations:?}", self.planned);
+        assert_eq!(decided.iter().filter(|&&mark| mark == 1).count(), decisions as usize);
+        self.coasts_can_not_differ(&clocks, &decided);
+        self.cycles += 1;
+    }
+
+    /// Each coast that was granted is itself one that can't differ.
+    fn coasts_can_not_differ(&mut self, clocks: &[i64], decided: &[u8]) {
+        let n = self.planned.n;
+        for i in (0..n).filter(|&i| decided[i] == 1) {
+            let coasted = decided[i + 1..].iter().take_while(|&&mark| mark == 0).count();
+            assert!(self.can_not_differ(i, clocks[i], 1 + coasted), "{:?} {clocks:?}", self.planned);
+        }
+    }
+
+    /// All cycles: every duration from zero to worst at the asked level, position by position.
+    fn all_cycles(&mut self, durations: &mut Vec<i64>, levels: &mut Vec<usize>) {
+        let i = durations.len();
+        if i == self.planned.n {
+            return self.cycle(durations, levels);
+        }
+        let q = self.asked(i, durations.iter().sum());
+        levels.push(q);
+        for duration in 0..=self.planned.worst[i][q] {
+            durations.push(duration);
+            self.all_cycles(durations, levels);
+            durations.pop();
+        }
+        levels.pop();
+    }
+
+    /// One cycle with drawn durations.
+    fn drawn_cycle(&mut self, draw: &mut Draw) {
+        let (mut durations, mut levels): (Vec<i64>, Vec<usize>) = Default::default();
+        for i in 0..self.planned.n {
+            let q = self.asked(i, durations.iter().sum());
+            levels.push(q);
+            durations.push(draw.between(0, self.planned.worst[i][q] as u32).into());
+        }
+        self.cycle(&durations, &levels);
+    }
+}
+
+/// Drawn profiles of up to six actions and three levels, mostly two.
+#[test]
+fn drawn_profiles() {
+    let mut draw = Draw::new(5);
+    let (mut trials, mut cycles, mut coasts, mut longest) = (0, 0, 0, 0);
+    while trials < 6000 {
+        let sketch = draw.profile(Size::Tiny);
+        if let Some(mut trial) = Trial::new(&sketch).filter(|_| sketch.worst.iter().all(|&time| time <= 4)) {
+            trial.all_cycles(&mut Vec::new(), &mut Vec::new());
+            trials += 1;
+            cycles += trial.cycles;
+            longest = longest.max(trial.cycles);
+            coasts += trial.steady.iter().filter(|((_, _, r), holds)| *r > 1 && **holds).count();
+        }
+    }
+    println!("{trials} profiles, {cycles} cycles, up to {longest} each, {coasts} coasts of two and more");
+    assert!(coasts > trials && longest > 3000);
+}
+
+/// Two actions, two levels, all times up to 2 by the table rule, all deadlines, all cycles up to 5.
+#[test]
+fn all_of_two_actions() {
+    let mut rows = Vec::new();
+    for code in 0..81u32 {
+        let [a0, w0, a1, w1] = [code % 3, code / 3 % 3, code / 9 % 3, code / 27];
+        if a0 <= w0 && a1 <= w1 && a0 <= a1 && w0 <= w1 {
+            rows.push(([a0, a1], [w0, w1]));
+        }
+    }
+    let (mut trials, mut cycles) = (0, 0);
+    for (one, other) in rows.iter().flat_map(|one| rows.iter().map(move |other| (one, other))) {
+        for cycle in 1..=5 {
+            for deadlines in (0..=cycle).flat_map(|first| (0..=cycle).map(move |second| vec![first, second])) {
+                for masks in [vec![0, 0], vec![0, 1], vec![2, 0]] {
+                    let sketch = Sketch {
+                        n: 2,
+                        levels: 2,
+                        cycle,
+                        masks,
+                        deadlines: deadlines.clone(),
+                        averages: [one.0, other.0].concat(),
+                        worst: [one.1, other.1].concat(),
+                        ..Sketch::default()
+                    };
+                    if let Some(mut trial) = Trial::new(&sketch) {
+                        trial.all_cycles(&mut Vec::new(), &mut Vec::new());
+                        trials += 1;
+                        cycles += trial.cycles;
+                    }
+                }
+            }
+        }
+    }
+    println!("{trials} profiles, {cycles} cycles");
+    assert!(trials > 10_000);
+}
+
+/// Chains longer than the longest coast, times 0 and 1, drawn durations: no coast is longer than 16.
+#[test]
+fn long_chains() {
+    let mut draw = Draw::new(16);
+    let mut full = 0;
+    for _ in 0..60 {
+        let n = draw.between(17, 22) as usize;
+        let mut sketch = Sketch {
+            n: n as u32,
+            levels: 2,
+            masks: (0..n).map(|a| if a == 0 { 0 } else { 1 << (a - 1) }).collect(),
+            deadlines: vec![0; n],
+            averages: vec![0; 2 * n],
+            worst: vec![0; 2 * n],
+            ..Sketch::default()
+        };
+        for _ in 0..draw.between(0, 5) {
+            let a = draw.index(n);
+            let top = draw.between(0, 1);
+            (sketch.worst[2 * a], sketch.worst[2 * a + 1], sketch.averages[2 * a + 1]) = (draw.between(0, 1), 1, top);
+        }
+        sketch.cycle = draw.between(1, 7);
+        if let Some(mut trial) = Trial::new(&sketch) {
+            for _ in 0..20 {
+                trial.drawn_cycle(&mut draw);
+            }
+            full += trial.steady.iter().filter(|((_, _, r), holds)| *r == COAST && **holds).count();
+        }
+    }
+    println!("{full} coasts of sixteen");
+    assert!(full > 20);
+}

@@ -1,0 +1,126 @@
+//! What several tests need.
+
+#![allow(dead_code)]
+
+use nyokazerubi_host::c::C;
+use nyokazerubi_host::calls::{Calls, Fast, Reference};
+use nyokazerubi_host::draw::Sketch;
+use nyokazerubi_host::reference::Profile;
+use std::path::{Path, PathBuf};
+
+/// The vectors' folder: NYOKAZERUBI_VECTORS, or `../shared/vectors` from the repository's root.
+pub fn vectors() -> PathBuf {
+    let by_default = || Path::new(env!("CARGO_MANIFEST_DIR")).join("..").join("../shared/vectors");
+    let folder = std::env::var_os("NYOKAZERUBI_VECTORS").map(PathBuf::from).unwrap_or_else(by_default);
+    assert!(folder.is_dir(), "no vectors in {}: set NYOKAZERUBI_VECTORS to their folder", folder.display());
+    folder
+}
+
+/// All implementations, the definitions first. Another one is added here.
+pub fn sides() -> [(&'static str, Box<dyn Calls>); 3] {
+    [("reference", Box::new(Reference)), ("fast", Box::new(Fast)), ("c", Box::new(c()))]
+}
+
+/// The calls in C, built for speed.
+pub fn c() -> C {
+    built("fast", &["-O3"])
+}
+
+/// The calls in C, built so that undefined behaviour stops the test.
+pub fn c_trapping() -> C {
+    built("trapping", &["-O1", "-fsanitize=undefined", "-fsanitize-undefined-trap-on-error"])
+}
+
+fn built(name: &str, options: &[&str]) -> C {
+    // Tests run side by side: each builds its own, which stays open when its file is gone.
+    let name = format!("{name}-{}-{:?}.so", std::process::id(), std::thread::current().id());
+    let folder = Path::new(env!("CARGO_TARGET_TMPDIR"));
+    let c = C::build(folder, &name, options).expect("c/fast.c builds");
+    std::fs::remove_file(folder.join(&name)).expect("the library was built here");
+    c
+}
+
+/// A sketch as the definitions take it.
+pub fn profile(sketch: &Sketch) -> Profile {
+    let row = |table: &[u32]| table.iter().map(|&time| i64::from(time)).collect::<Vec<i64>>();
+    let rows = |table: &[u32]| table.chunks(sketch.levels as usize).map(row).collect();
+    Profile {
+        n: sketch.n as usize,
+        levels: sketch.levels as usize,
+        cycle: sketch.cycle.into(),
+        masks: sketch.masks.clone(),
+        deadlines: row(&sketch.deadlines),
+        averages: rows(&sketch.averages),
+        worst: rows(&sketch.worst),
+    }
+}
+
+/// The document's Three, with any cycle.
+pub fn three(cycle: u32) -> Vec<u8> {
+    Sketch {
+        n: 3,
+        levels: 2,
+        cycle,
+        masks: vec![0, 1, 2],
+        deadlines: vec![0; 3],
+        averages: vec![2, 6, 2, 6, 2, 6],
+        worst: vec![4, 8, 4, 8, 4, 8],
+        ..Sketch::default()
+    }
+    .image()
+}
+
+/// The document's case 8.
+pub fn case_8() -> Vec<u8> {
+    Sketch {
+        n: 3,
+        levels: 1,
+        cycle: 9,
+        masks: vec![0, 0, 1],
+        deadlines: vec![9, 6, 5],
+        averages: vec![2; 3],
+        worst: vec![2; 3],
+        ..Sketch::default()
+    }
+    .image()
+}
+
+/// The document's encoder.
+pub fn encoder() -> Vec<u8> {
+    const MOTION: [(u32, u32); 8] = [
+        (215, 1000),
+        (30000, 100000),
+        (50000, 200000),
+        (95000, 350000),
+        (110000, 500000),
+        (120000, 1200000),
+        (150000, 1200000),
+        (200000, 1500000),
+    ];
+    const FIXED: [(u32, u32); 8] = [
+        (12000, 24000),
+        (16000, 16000),
+        (6000, 13000),
+        (4000, 4000),
+        (5000, 50000),
+        (4000, 5000),
+        (20000, 50000),
+        (10000, 13000),
+    ];
+    let mut times = vec![FIXED[0]; 8];
+    times.extend(MOTION);
+    for pair in &FIXED[1..] {
+        times.extend([*pair; 8]);
+    }
+    Sketch {
+        n: 9,
+        levels: 8,
+        cycle: 320_000,
+        masks: (0..9u64).map(|a| if a == 0 { 0 } else { 1 << (a - 1) }).collect(),
+        deadlines: vec![0; 9],
+        averages: times.iter().map(|pair| pair.0).collect(),
+        worst: times.iter().map(|pair| pair.1).collect(),
+        ..Sketch::default()
+    }
+    .image()
+}

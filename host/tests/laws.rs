@@ -1,0 +1,112 @@
+//! Laws of the document that follow from its definitions, on drawn inputs.
+
+mod common;
+
+use nyokazerubi_host::calls::{Calls, Counts, Reading, Reference, CLOCK};
+use nyokazerubi_host::draw::{Draw, Size};
+use nyokazerubi_host::reference::{accept, Planned};
+
+const SIZES: [Size; 4] = [Size::Tiny, Size::Small, Size::Large, Size::Extreme];
+
+/// Accepted images of all sizes, most of them small.
+fn accepted(draw: &mut Draw, count: usize) -> Vec<Vec<u8>> {
+    let mut images = Vec::new();
+    while images.len() < count {
+        let size = if draw.once_in(6) { draw.pick(&SIZES) } else { Size::Small };
+        let image = draw.image(size);
+        if accept(&image).is_ok() {
+            images.push(image);
+        }
+    }
+    images
+}
+
+/// Reading and writing undo each other on what they accept.
+#[test]
+fn reading_and_writing_undo_each_other() {
+    let mut draw = Draw::new(11);
+    for image in accepted(&mut draw, 500) {
+        let (mut masks, mut deadlines) = ([0; 64], [0; 64]);
+        let (mut averages, mut worst) = ([0; 512], [0; 512]);
+        let counts = Reference.read(&image, &mut masks, &mut deadlines, &mut averages, &mut worst).expect("accepted");
+        let mut again = vec![0; image.len()];
+        let written = Reference.write(counts, &masks, &deadlines, &averages, &worst, &mut again);
+        assert_eq!((written, &again), (Ok(image.len()), &image));
+    }
+    let mut back = 0;
+    for _ in 0..2000 {
+        let sketch = draw.writing(Size::Small);
+        let counts = Counts { n: sketch.n, levels: sketch.levels, cycle: sketch.cycle };
+        let mut image = [0; 4000];
+        let written =
+            Reference.write(counts, &sketch.masks, &sketch.deadlines, &sketch.averages, &sketch.worst, &mut image);
+        let Ok(bytes) = written else { continue };
+        let (mut masks, mut deadlines) = (sketch.masks.clone(), sketch.deadlines.clone());
+        let (mut averages, mut worst) = (sketch.averages.clone(), sketch.worst.clone());
+        let read = Reference.read(&image[..bytes], &mut masks, &mut deadlines, &mut averages, &mut worst);
+        assert_eq!(read, Ok(counts));
+        assert_eq!((masks, deadlines), (sketch.masks, sketch.deadlines));
+        assert_eq!((averages, worst), (sketch.averages, sketch.worst));
+        back += 1;
+    }
+    assert!(back > 500);
+}
+
+/// Where there is room, the ratio is at most 1 exactly if t is at most deadline(k) - mixed(i,k,q).
+#[test]
+fn the_ratio_tells_whether_time_is_left() {
+    let mut draw = Draw::new(12);
+    let (mut under, mut over) = (0, 0);
+    for image in accepted(&mut draw, 400) {
+        let planned = Planned::of(&accept(&image).expect("accepted"));
+        for _ in 0..20 {
+            let k = draw.index(planned.n);
+            let (i, q) = (draw.index(k + 1), draw.index(planned.levels));
+            let last = planned.deadline[k] - planned.mixed(i, k, q);
+            let near = last + i64::from(draw.between(0, 4)) - 2;
+            let time = if draw.once_in(3) { draw.between(0, CLOCK).into() } else { near.clamp(0, CLOCK.into()) };
+            if let Reading::Ratio(ratio) = Reference.reading(&image, i as u32, k as u32, q as u32, time as u32) {
+                assert_eq!(ratio <= 1.0, time <= last);
+                *(if ratio <= 1.0 { &mut under } else { &mut over }) += 1;
+            }
+        }
+    }
+    assert!(under > 500 && over > 500, "{under} {over}");
+}
+
+/// Unfit exactly if the limit of level 0 at the start is below 0; limits never rise with the level.
+#[test]
+fn limits_of_level_0() {
+    let mut draw = Draw::new(13);
+    let (mut fit, mut unfit) = (0, 0);
+    for _ in 0..2000 {
+        let sketch = draw.profile(Size::Small);
+        let profile = common::profile(&sketch);
+        let planned = Planned::of(&profile);
+        let limits = planned.limits();
+        assert!(limits.iter().all(|row| row.windows(2).all(|pair| pair[1] <= pair[0])));
+        assert_eq!(limits[0][0] < 0, profile.refusal() == Some(9));
+        *(if limits[0][0] < 0 { &mut unfit } else { &mut fit }) += 1;
+    }
+    assert!(fit > 100 && unfit > 100);
+}
+
+/// A refreshed image is accepted, and differs in averages only.
+#[test]
+fn refreshed_images() {
+    let mut draw = Draw::new(14);
+    let mut changed = 0;
+    for image in accepted(&mut draw, 500) {
+        let old = accept(&image).expect("accepted");
+        let worst: Vec<u32> = old.worst.iter().flatten().map(|&time| time as u32).collect();
+        let trace = draw.trace(old.n as u32, old.levels as u32, &worst);
+        let mut fresh = vec![0; image.len()];
+        if Reference.refresh(&image, &trace, &mut fresh).is_ok() {
+            let mut new = accept(&fresh).expect("accepted");
+            changed += usize::from(new.averages != old.averages);
+            new.averages = old.averages.clone();
+            assert_eq!(new, old);
+        }
+    }
+    assert!(changed > 50);
+}

@@ -1,0 +1,113 @@
+//! The document's worked values.
+
+mod common;
+
+use nyokazerubi_host::calls::{Calls, Counts, Reading};
+use nyokazerubi_host::text;
+
+/// The planned tables of an accepted image.
+struct Plan {
+    counts: Counts,
+    order: Vec<u8>,
+    limits: Vec<i32>,
+    worst: Vec<u32>,
+    coasts: Vec<i32>,
+}
+
+fn plan(calls: &dyn Calls, image: &[u8]) -> Plan {
+    let counts = calls.check(image).expect("accepted");
+    let (n, cells) = (counts.n as usize, (counts.n * counts.levels) as usize);
+    let mut plan =
+        Plan { counts, order: vec![0; n], limits: vec![0; cells], worst: vec![0; cells], coasts: vec![0; cells * 16] };
+    let answer = calls.plan(image, &mut plan.order, &mut plan.limits, &mut plan.worst, &mut plan.coasts);
+    assert_eq!(answer, Ok(counts));
+    plan
+}
+
+/// Durations four bytes each, every position's at both levels.
+fn twice(durations: [u32; 3]) -> Vec<u8> {
+    durations.iter().flat_map(|duration| [duration.to_be_bytes(); 2]).flatten().collect()
+}
+
+fn dry(calls: &dyn Calls, durations: [u32; 3]) -> String {
+    text::dry_run(calls, &common::three(20), &twice(durations))
+}
+
+fn three(calls: &dyn Calls) {
+    let image = common::three(20);
+    assert_eq!(image[..6], [0x10, 0x64, 0x00, 0x00, 0x00, 0xa0]);
+    assert_eq!(image.len(), 78);
+    assert_eq!(text::plan(calls, &image), "3 2 20\n0 0 8 0\n1 1 12 6\n2 2 16 12\n");
+
+    // Cases 1 to 3.
+    assert_eq!(dry(calls, [6, 8, 4]), "0 0 1 1\n1 1 1 1\n2 2 0 1\n3 18 0 0\n");
+    assert_eq!(dry(calls, [0, 8, 8]), "0 0 1 1\n1 1 1 1\n2 2 1 0\n2 16 0 0\n");
+    assert_eq!(dry(calls, [8, 4, 8]), "0 0 1 1\n1 1 0 1\n2 2 1 1\n3 20 0 0\n");
+
+    // Cases 4 and 5: position 1 at a time.
+    let plan = plan(calls, &image);
+    for (time, level, late) in [(6, 1, false), (7, 0, false), (12, 0, false), (13, 0, true)] {
+        let (start, _) = calls.start(3, 2);
+        let (first, _) = calls.ask(start, &plan.order, &plan.limits, &plan.coasts);
+        let (ended, number) = calls.report(first, time, &plan.worst);
+        assert_eq!(number, 0);
+        let (_, answer) = calls.ask(ended, &plan.order, &plan.limits, &plan.coasts);
+        let answer = answer.expect("a turn");
+        assert_eq!((answer.level, answer.late), (level, late), "time {time}");
+    }
+
+    // Case 6.
+    assert_eq!(calls.reading(&image, 0, 2, 1, 0), Reading::Ratio(1.0));
+    assert_eq!(calls.reading(&image, 0, 2, 1, 18), Reading::Spent);
+
+    // Case 7.
+    assert_eq!(calls.check(&common::three(12)), Ok(Counts { n: 3, levels: 2, cycle: 12 }));
+    assert_eq!(calls.check(&common::three(11)), Err(9));
+}
+
+/// Case 8.
+fn order(calls: &dyn Calls) {
+    assert_eq!(plan(calls, &common::case_8()).order, [0, 2, 1]);
+}
+
+fn encoder(calls: &dyn Calls) {
+    let plan = plan(calls, &common::encoder());
+    assert_eq!(plan.counts, Counts { n: 9, levels: 8, cycle: 320_000 });
+    assert_eq!(plan.order, [0, 1, 2, 3, 4, 5, 6, 7, 8]);
+    assert_eq!(plan.limits[8..11], [168_000, 69_000, -31_000]);
+}
+
+/// Coast bounds of Three by hand, and those that reach past the end.
+fn bounds(calls: &dyn Calls) {
+    let plan = plan(calls, &common::three(20));
+    let bound = |i: usize, q: usize, r: usize| plan.coasts[(i * 2 + q) * 16 + r - 1];
+    assert_eq!([bound(0, 0, 1), bound(0, 0, 2), bound(0, 0, 3)], [8, 8, 8]);
+    assert_eq!([bound(0, 1, 1), bound(0, 1, 2), bound(0, 1, 3)], [0, -2, -4]);
+    assert_eq!([bound(1, 1, 1), bound(1, 1, 2), bound(2, 1, 1)], [6, 4, 12]);
+    for (i, least) in [(0, 4), (1, 3), (2, 2)] {
+        assert!((least..=16).all(|r| (0..2).all(|q| bound(i, q, r) == i32::MIN)));
+    }
+}
+
+/// A refused start, and calls on its record.
+fn refused_start(calls: &dyn Calls) {
+    for (n, levels) in [(0, 1), (65, 1), (1, 0), (1, 9), (u32::MAX, u32::MAX)] {
+        let (run, number) = calls.start(n, levels);
+        assert_eq!((run.n, number), (0, 3));
+        assert_eq!(calls.ask(run, &[0; 64], &[0; 512], &[0; 8192]), (run, Err(11)));
+        assert_eq!(calls.report(run, 0, &[0; 512]), (run, 11));
+    }
+}
+
+#[test]
+fn values_hold() {
+    for (name, calls) in common::sides() {
+        println!("{name}");
+        let calls = &*calls;
+        three(calls);
+        order(calls);
+        encoder(calls);
+        bounds(calls);
+        refused_start(calls);
+    }
+}

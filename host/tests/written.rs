@@ -1,0 +1,24 @@
+//! The vectors that the writer makes: enough of them, not too large, every refusal of the two programs among them.
+
+use nyokazerubi_host::outside;
+use std::fs;
+use std::path::Path;
+
+#[test]
+fn vectors_are_written() {
+    let folder = Path::new(env!("CARGO_TARGET_TMPDIR")).join("written");
+    let written = outside::write(&folder, 1).expect("the folder takes files");
+    assert!(written.cases >= 300 && written.traces >= 24 && written.readings >= 40, "{written:?}");
+    assert!(written.bytes < 1_500_000, "{written:?}");
+    let page = fs::read_to_string(folder.join("README.md")).expect("README.md");
+    for number in [1, 2, 3, 4, 5, 6, 7, 8, 9, 16, 17] {
+        assert!(page.contains(&format!("| refused {number} |\n")), "refused {number}");
+    }
+    for number in [0, 14, 15, 16] {
+        assert!(page.contains(&format!("| drawn | {number} |\n")), "trace {number}");
+    }
+    let readings = fs::read_to_string(folder.join("readings.txt")).expect("readings.txt");
+    for end in ["spent", "refused 13", "refused 18", " 3ff0000000000000"] {
+        assert!(readings.lines().any(|line| line.ends_with(end)), "{end}");
+    }
+}
