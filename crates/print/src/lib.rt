@@ -63,3 +63,24 @@ fn put_positions(out: &mut [u8], at: usize, order: &[u8], limits: &[i32], n: usi
     }
     to
 }
+
+// Actions, levels, cycle; then position, action and limits by level. Answers how much of `out` it wrote.
+pub fn plan_text(image: &[u8], out: &mut [u8]) -> usize
+    ensures { λ r. ⌜ r ≤ length (now (out .entry)) ⌝ }
+{
+    let mut order = [0u8; 64];
+    let mut limits = [0i32; 512];
+    let mut worst = [0u32; 512];
+    let mut bounds = [0i32; 8192];
+    let planned = planner::plan(image, &mut order, &mut limits, &mut worst, &mut bounds);
+    let refusal = planned.refusal;
+    if refusal.number != 0 {
+        return put_refusal(out, refusal.number);
+    }
+    let n = planned.n;
+    let levels = planned.levels;
+    let a = put_field(&mut *out, 0, n as u32, b' ');
+    let b = put_field(&mut *out, a, levels as u32, b' ');
+    let c = put_field(&mut *out, b, planned.cycle, b'\n');
+    put_positions(out, c, &order, &limits, n, levels)
+}

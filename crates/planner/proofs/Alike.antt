@@ -1,0 +1,83 @@
+-- Tables that agree at every position and level have the same limits and the same coast bounds. Assumes nothing.
+use Prim.Native.Nat.{ℕ, zero, suc, _+_, _-_, _*_, _≤_, _<_, max}
+use mathlib.Core.Path.{_≡_, refl, sym, ap, _∙_}
+use mathlib.Core.List.{List}
+use native.Mathlib.Nat.{le-refl}
+use native.Mathlib.Omega.{arith}
+use lib.IntN.{ℤ, pos, _-ℤ_}
+use lib.ListN.{length, getD}
+use Rattle.rules.specs.Words.{sum, greatest-of, least-of, rows}
+use Rattle.rules.specs.Limits.{Tables, safe, average, margin, mixed, limit}
+use Rattle.rules.proofs.Sums.{sum-same}
+use Rattle.fields.proofs.Rows.{rows-ext, length-rows, getD-rows}
+use Rattle.rows.proofs.Planned.{Tabled, tabled-bounds}
+use Rattle.planner.specs.Planning.{coast-bounds}
+
+pub record Alike (S T : Tables) (n L : ℕ) : Type 0 where
+  pub n-left : S .n ≡ n
+  pub n-right : T .n ≡ n
+  pub some-level : 0 < L
+  pub deadline : (k : ℕ) → k < n → S .deadline k ≡ T .deadline k
+  pub average : (k q : ℕ) → k < n → q < L → S .average k q ≡ T .average k q
+  pub worst : (k q : ℕ) → k < n → q < L → S .worst k q ≡ T .worst k q
+
+greatest-same : (f g : ℕ → ℕ) (i m : ℕ) → ((j : ℕ) → i ≤ j → j ≤ i + m → f j ≡ g j) → greatest-of f i m ≡ greatest-of g i m
+unfolding greatest-of
+greatest-same f g i zero h = h i (le-refl i) (omega arith)
+greatest-same f g i (suc m) h = rw (greatest-same f g i m (λ j a b. h j a (omega arith)), h (i + suc m) (omega arith) (le-refl _))
+
+least-same : (f g : ℕ → ℤ) (i m : ℕ) → ((j : ℕ) → i ≤ j → j ≤ i + m → f j ≡ g j) → least-of f i m ≡ least-of g i m
+unfolding least-of
+least-same f g i zero h = h i (le-refl i) (omega arith)
+least-same f g i (suc m) h = rw (least-same f g i m (λ j a b. h j a (omega arith)), h (i + suc m) (omega arith) (le-refl _))
+
+module _ {S T : Tables} {n L : ℕ} (same : Alike S T n L) where
+  module _ (q : ℕ) (l : q < L) where
+    average-sum : (k : ℕ) → k ≤ n → sum k (λ p. S .average p q) ≡ sum k (λ p. T .average p q)
+    average-sum k h = sum-same k (λ p. S .average p q) (λ p. T .average p q) (λ p b. same .average p q (omega arith) l)
+
+    worst-sum : (k : ℕ) → k ≤ n → sum k (λ p. S .worst p 0) ≡ sum k (λ p. T .worst p 0)
+    worst-sum k h = sum-same k (λ p. S .worst p 0) (λ p. T .worst p 0) (λ p b. same .worst p 0 (omega arith) (same .some-level))
+
+    average-alike : (i k : ℕ) → i ≤ k → k < n → average S i k q ≡ average T i k q
+    average-alike i k a h = rw (average-sum (suc k) h, average-sum i (omega arith))
+
+    safe-alike : (i k : ℕ) → i ≤ k → k < n → safe S i k q ≡ safe T i k q
+    safe-alike i k a h = rw (same .worst i q (omega arith) l, worst-sum (suc k) h, worst-sum (suc i) (omega arith))
+
+    mixed-alike : (i k : ℕ) → i ≤ k → k < n → mixed S i k q ≡ mixed T i k q
+    unfolding mixed margin
+    mixed-alike i k a h =
+        let greatest = greatest-same (λ j. safe S j k q - average S j k q) (λ j. safe T j k q - average T j k q) i (k - i)
+        (λ j b c. rw (safe-alike j k (omega arith) h, average-alike j k (omega arith) h)) in
+        rw (average-alike i k a h, greatest)
+
+    pub limit-alike : (i : ℕ) → i < n → limit S i q ≡ limit T i q
+    unfolding limit mixed margin
+    limit-alike i h =
+        rw (same .n-left, same .n-right)
+        (least-same (λ k. pos (S .deadline k) -ℤ pos (mixed S i k q)) (λ k. pos (T .deadline k) -ℤ pos (mixed T i k q)) i (n - 1 - i)
+        (λ k a b. rw (same .deadline k (omega arith), mixed-alike i k a (omega arith))))
+
+  pub limits-alike : rows (limit S) n L ≡ rows (limit T) n L
+  limits-alike = rows-ext (limit S) (limit T) n L (λ i q h l. limit-alike q l i h)
+
+  pub worst-alike : rows (S .worst) n L ≡ rows (T .worst) n L
+  worst-alike = rows-ext (S .worst) (T .worst) n L (λ i q h l. same .worst i q h l)
+
+  -- both are those of one table of limits and one of worst times
+  pub bounds-alike : coast-bounds S n L ≡ coast-bounds T n L
+  bounds-alike =
+      let left : Tabled S (limit S) n L (rows (limit S) n L) (rows (S .worst) n L) = record {
+        limits-held = omega (arith, length-rows (limit S) L n);
+        worst-held = omega (arith, length-rows (S .worst) L n);
+        limit-is = λ i q h l. getD-rows (limit S) L n i q (pos 0) h l;
+        worst-is = λ i q h l. getD-rows (S .worst) L n i q 0 h l;
+      } in
+      let right : Tabled T (limit T) n L (rows (limit S) n L) (rows (S .worst) n L) = record {
+        limits-held = left .limits-held;
+        worst-held = left .worst-held;
+        limit-is = λ i q h l. left .limit-is i q h l ∙ limit-alike q l i h;
+        worst-is = λ i q h l. left .worst-is i q h l ∙ same .worst i q h l;
+      } in
+      sym (tabled-bounds left (same .n-left)) ∙ tabled-bounds right (same .n-right)

@@ -1,0 +1,83 @@
+-- What planning answers and leaves is settled by what it is given. Assumes nothing.
+use Prim.Native.Nat.{ℕ, _<_}
+use mathlib.Core.Path.{_≡_, refl, sym, ap, _∙_}
+use mathlib.Core.List.{List, [], _∷_}
+use mathlib.Core.Logic.{⊎-elim}
+use native.Mathlib.Decide.{ℕ-discrete}
+use borrow.Author.Tests.{ne-eqb}
+use lib.IntN.{ℤ}
+use Rattle.rules.specs.Words.{tab, rows}
+use Rattle.rules.specs.Image.{Profile, due, profile}
+use Rattle.rules.specs.Order.{Order, TheOrder}
+use Rattle.rules.specs.Limits.{tables, limit}
+use Rattle.rules.specs.Refusals.{_when_, Count, Tight, kept, image-call}
+use Rattle.rules.proofs.Refusals.{Sound, first-one, accepted-parts}
+use Rattle.rules.proofs.Accepted.{some-level}
+use Rattle.rules.proofs.Order.OfProfile.{order-settled}
+use Rattle.fields.specs.Fields.{splice}
+use Rattle.fields.proofs.Tabs.{tab-ext}
+use Rattle.planner.specs.declared.Planned.{Planned}
+use Rattle.planner.specs.Planning.{rooms, coast-bounds, Plans}
+use Rattle.planner.proofs.Alike.{Alike, limits-alike, worst-alike, bounds-alike}
+
+-- two orders of one profile give the same tables
+settled-alike : {F : Profile} {o p : Order (F .n)} → (Count F → ⊥) → TheOrder F o → TheOrder F p
+    → Alike (tables F o) (tables F p) (F .n) (F .levels)
+settled-alike {F} {o} counts x y =
+    let at = order-settled x y in
+    record {
+      n-left = refl;
+      n-right = refl;
+      some-level = some-level F o counts;
+      deadline = λ k h. ap (due F) (at k h);
+      average = λ k q h l. ap (λ (a : ℕ). F .average a q) (at k h);
+      worst = λ k q h l. ap (λ (a : ℕ). F .worst a q) (at k h);
+    }
+
+-- what is kept is the same where what is new is, if there is anything new
+kept-one : {A : Type 0} (k m : ℕ) {x y : A} (new new′ old : A) → k ≡ m → (k ≡ 0 → new ≡ new′) → x ≡ kept k new old → y ≡ kept m new′ old → x ≡ y
+kept-one {A} k m new new′ old e same f g = f ∙ both (ℕ-discrete k 0) ∙ sym (rw (← e) at g)
+  where
+    both : Dec (k ≡ 0) → kept k new old ≡ kept k new′ old
+    both (yes z) = rw z (same z)
+    both (no z) = rw (ne-eqb k 0 z)
+
+module _ {s order : List ℕ} {limits : List ℤ} {worst : List ℕ} {bounds : List ℤ}
+    {order₁ order₂ : List ℕ} {limits₁ limits₂ : List ℤ} {worst₁ worst₂ : List ℕ} {bounds₁ bounds₂ : List ℤ} {r t : Planned}
+    (x : Plans s order limits worst bounds order₁ limits₁ worst₁ bounds₁ r) (y : Plans s order limits worst bounds order₂ limits₂ worst₂ bounds₂ t) where
+  number : r .refusal .number ≡ t .refusal .number
+  number =
+      first-one (image-call s (rooms (profile s .n) (profile s .levels) order limits worst bounds)) (r .refusal .number) (t .refusal .number)
+      (x .number) (y .number)
+
+  answer : r ≡ t
+  answer =
+      ap (λ (k : ℕ). record { refusal = record { number = k }; n = r .n; levels = r .levels; cycle = r .cycle }) number
+      ∙ ap (λ (k : ℕ). record { refusal = t .refusal; n = k; levels = r .levels; cycle = r .cycle })
+      (kept-one _ _ (profile s .n) (profile s .n) 0 number (λ _. refl) (x .n) (y .n))
+      ∙ ap (λ (k : ℕ). record { refusal = t .refusal; n = t .n; levels = k; cycle = r .cycle })
+      (kept-one _ _ (profile s .levels) (profile s .levels) 0 number (λ _. refl) (x .levels) (y .levels))
+      ∙ ap (λ (k : ℕ). record { refusal = t .refusal; n = t .n; levels = t .levels; cycle = k })
+      (kept-one _ _ (profile s .cycle) (profile s .cycle) 0 number (λ _. refl) (x .cycle) (y .cycle))
+
+  -- without a refusal the image is sound
+  sound : r .refusal .number ≡ 0 → Sound s
+  sound none =
+      let own = 17 when Tight (rooms (profile s .n) (profile s .levels) order limits worst bounds) ∷ [] in
+      ⊎-elim (λ p. absurd (p .1 none)) (λ p. p .0) (accepted-parts s own (r .refusal .number) (x .number))
+
+  alike : r .refusal .number ≡ 0 → Alike (tables (profile s) (x .o)) (tables (profile s) (y .o)) (profile s .n) (profile s .levels)
+  alike none = settled-alike (sound none .not-count) (x .the-order none) (y .the-order (sym number ∙ none))
+
+  order-one : r .refusal .number ≡ 0 → tab (x .o .at) (profile s .n) ≡ tab (y .o .at) (profile s .n)
+  order-one none = tab-ext (x .o .at) (y .o .at) (profile s .n) (order-settled (x .the-order none) (y .the-order (sym number ∙ none)))
+
+  -- Two results that satisfy the contract on the same input are equal.
+  pub plan-settled : (r ≡ t) × (order₁ ≡ order₂) × (limits₁ ≡ limits₂) × (worst₁ ≡ worst₂) × (bounds₁ ≡ bounds₂)
+  plan-settled = (
+    answer,
+    kept-one _ _ _ _ order number (λ none. ap (splice order 0) (order-one none)) (x .order-is) (y .order-is),
+    kept-one _ _ _ _ limits number (λ none. ap (splice limits 0) (limits-alike (alike none))) (x .limits-are) (y .limits-are),
+    kept-one _ _ _ _ worst number (λ none. ap (splice worst 0) (worst-alike (alike none))) (x .worst-is) (y .worst-is),
+    kept-one _ _ _ _ bounds number (λ none. ap (splice bounds 0) (bounds-alike (alike none))) (x .bounds-are) (y .bounds-are),
+  )

@@ -1,0 +1,97 @@
+-- The limits and the worst times of an accepted image, worked from the last position back. Assumes nothing.
+use Prim.Native.Nat.{ℕ, _+_, _*_, _≤_, _<_}
+use mathlib.Core.Path.{_≡_, sym, ap, _∙_}
+use mathlib.Core.List.{List}
+use native.Mathlib.Nat.{mul-le-mul-right}
+use native.Mathlib.Omega.{arith}
+use lib.IntN.{ℤ, pos}
+use lib.ListN.{length, getD}
+use Rattle.rules.specs.Words.{tab, rows}
+use Rattle.rules.specs.Image.{due, average-of, worst-of, profile}
+use Rattle.rules.specs.Order.{Order}
+use Rattle.rules.specs.Limits.{Tables, tables, limit}
+use Rattle.rules.proofs.Refusals.{Sound, accepted-sound}
+use Rattle.rules.proofs.Accepted.{tables-sound, tables-small}
+use Rattle.rules.proofs.Speed.Reading.{times-small}
+use Rattle.fields.specs.Fields.{splice}
+use Rattle.fields.proofs.Bytes.{Bytes}
+use Rattle.fields.proofs.Strides.{stride-more}
+use Rattle.fields.proofs.Cats.{cat-from, from-none, from-more, from-done}
+use Rattle.fields.proofs.Tabs.{tab-ext, length-tab}
+use Rattle.image.specs.Reading.{HasRecord, HasRecords, Column}
+use Rattle.image.proofs.Reading.{has-record}
+use Rattle.image.proofs.Checks.{has-records}
+use Rattle.rows.specs.Rows.{row-of, after-last}
+use Rattle.rows.proofs.Limits.{Lawful, Position, Worked, worked-none, worked-more, worked-done}
+use Rattle.planner.specs.Planning.{Given, Filled}
+
+-- The loop before it works the position in front of i: the row of limits at i, and the rows from i on in both tables.
+pub record Back (S : Tables) (n L : ℕ) (limits₀ : List ℤ) (worst₀ : List ℕ) (i : ℕ) (next limits : List ℤ) (worst : List ℕ) : Type 0 where
+  pub worked : Worked S n L limits₀ i next limits
+  pub stored : worst ≡ splice worst₀ (i * L) (cat-from (λ k. tab (S .worst k) L) i n)
+
+module _ {s : List ℕ} {n L cycle : ℕ} {actions : List ℕ} {o : Order (profile s .n)} (g : Given s n L cycle actions o) where
+  S : Tables
+  S = tables (profile s) o
+
+  sound : Sound s
+  sound = accepted-sound s .0 (g .accepted)
+
+  pub records : HasRecords s L n
+  records = has-records s (g .n-is) (g .levels-are) (sound .not-count) (sound .not-length)
+
+  pub lawful : Bytes s → Lawful (tables (profile s) o) n L
+  lawful bytes = record {
+    positions = sym (g .n-is);
+    levels-are = sym (g .levels-are);
+    most = records .few-levels;
+    sound = tables-sound (profile s) o (sound .not-count) (sound .not-table);
+    small = tables-small (profile s) o (sound .not-count) (sound .not-range) (times-small s bytes);
+  }
+
+  module _ (i : ℕ) (l : i < n) where
+    action : getD actions i 0 ≡ o .at i
+    action = g .lists i (omega (arith, g .n-is))
+
+    pub present : HasRecord s L (getD actions i 0)
+    present = has-record (getD actions i 0) records (omega (arith, action, g .n-is, o .at-lt i (omega (arith, g .n-is))))
+
+    pub position : {averages worsts : List ℕ} {deadline : ℕ} → deadline ≡ due (profile s) (getD actions i 0)
+        → Column (average-of s (getD actions i 0)) L averages → Column (worst-of s (getD actions i 0)) L worsts
+        → Position (tables (profile s) o) L i averages worsts deadline
+    unfolding profile
+    position e a w = record {
+      due = e ∙ ap (due (profile s)) action;
+      average = λ q m. a .each q m ∙ ap (λ (k : ℕ). average-of s k q) action;
+      worst = λ q m. w .each q m ∙ ap (λ (k : ℕ). worst-of s k q) action;
+    }
+
+-- ---- the loop: before it, a turn from position j down to i, and after it
+
+module _ {S : Tables} {n L : ℕ} (lawful : Lawful S n L) (limits₀ : List ℤ) (worst₀ : List ℕ) where
+  pub back-none : {next : List ℤ} → next ≡ after-last → Back S n L limits₀ worst₀ n next limits₀ worst₀
+  back-none e = record { worked = worked-none lawful limits₀ e; stored = from-none (λ k. tab (S .worst k) L) worst₀ (n * L) n }
+
+  pub back-more : {next limits row limits′ : List ℤ} {averages worsts worst worst′ : List ℕ} {deadline : ℕ} (i j : ℕ) → j ≡ i + 1 → j ≤ n
+      → n * L ≤ length limits₀ → n * L ≤ length worst₀ → Back S n L limits₀ worst₀ j next limits worst
+      → Position S L i averages worsts deadline → row ≡ row-of next averages worsts deadline L
+      → limits′ ≡ splice limits (i * L) (tab (λ q. getD row q (pos 0)) L) → worst′ ≡ splice worst (i * L) (tab (λ q. getD worsts q 0) L)
+      → Back S n L limits₀ worst₀ i row limits′ worst′
+  back-more {worsts = worsts} {worst = worst} i j e h room room′ was at is limits-is worst-is =
+      let same = tab-ext (λ q. getD worsts q 0) (S .worst i) L (at .worst) in
+      record {
+        worked = worked-more lawful limits₀ i j e h room (was .worked) at is limits-is;
+        stored = from-more (λ k. tab (S .worst k) L) L (λ k. length-tab (S .worst k) L) worst₀ i j n (j * L) (i * L) e h
+            (ap (λ (k : ℕ). k * L) e ∙ stride-more i L)
+            (omega (arith, mul-le-mul-right L h))
+            (was .stored)
+            (worst-is ∙ ap (splice worst (i * L)) same);
+      }
+
+  pub back-done : {next limits : List ℤ} {worst : List ℕ} (i : ℕ) → i ≡ 0 → Back S n L limits₀ worst₀ i next limits worst
+      → (limits ≡ splice limits₀ 0 (rows (limit S) n L)) × (worst ≡ splice worst₀ 0 (rows (S .worst) n L))
+  back-done i e b =
+      let start : i * L ≡ 0 = ap (λ (k : ℕ). k * L) e ∙ omega arith in (
+        worked-done lawful limits₀ i e (b .worked),
+        from-done (λ k. tab (S .worst k) L) worst₀ 0 i n (i * L) e start (b .stored),
+      )

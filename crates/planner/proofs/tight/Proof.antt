@@ -1,0 +1,35 @@
+-- Assumes nothing.
+use mathlib.Core.Path.{refl}
+use mathlib.Core.Logic.{inl, inr, ⊎-elim}
+use native.Mathlib.Nat.{mul-le-mul}
+use native.Mathlib.Omega.{arith}
+use borrow.Author.Needs.{needs}
+use Rattle.planner.proofs.tight.Statement.{statement}
+use Rattle.planner.proofs.tight.Tie as tie
+
+mul-entries : tie.Need-mul-entries
+mul-entries c = omega (arith, mul-le-mul (c .pre .0) (c .pre .1))
+
+returns : tie.Need-returns
+returns c = inl (inl (c .if1 .taken), refl)
+
+returns-2 : tie.Need-returns-2
+returns-2 c = inl (inr (inl (c .if2 .taken)), refl)
+
+returns-3 : tie.Need-returns-3
+returns-3 c = inl (inr (inr (inl (c .if3 .taken))), refl)
+
+mul-if4 : tie.Need-mul-if4
+mul-if4 c =
+    let s = c .before .before .before in
+    omega (arith, mul-le-mul (s .pre .0) (s .pre .1))
+
+returns-4 : tie.Need-returns-4
+returns-4 c = inl (inr (inr (inr (inl (c .if4 .taken)))), refl)
+
+returns-5 : tie.Need-returns-5
+returns-5 c =
+    inr (⊎-elim (λ h. omega arith) (⊎-elim (λ h. omega arith) (⊎-elim (λ h. omega arith) (⊎-elim (λ h. omega arith) (λ h. h)))), refl)
+
+pub tight-spec : {M : Type 1} → statement M
+tight-spec = tie.close (tie.spec mul-entries returns returns-2 returns-3 mul-if4 returns-4 returns-5)

@@ -1,0 +1,148 @@
+-- Before a turn the positions from i on are worked, by whichever order the actions are in. Assumes nothing.
+use mathlib.Core.Path.{_≡_, _∙_}
+use Prim.Native.Nat.{_-_, _*_, _+_, _≤_, _<_}
+use native.Mathlib.Nat.{mul-le-mul}
+use native.Mathlib.Omega.{arith}
+use borrow.Author.Needs.{needs}
+use lib.ListN.{length, getD}
+use Rattle.rules.specs.Image.{profile}
+use Rattle.rules.specs.Order.{Order}
+use Rattle.rules.specs.Limits.{tables}
+use Rattle.fields.proofs.Bytes.{Bytes}
+use Rattle.fields.proofs.Strides.{stride-fits}
+use Rattle.image.specs.Reading.{HasRecord}
+use Rattle.rows.proofs.Limits.{Position, row-small}
+use Rattle.planner.specs.Planning.{Given}
+use Rattle.planner.proofs.Working.{Back, records, lawful, present, position, back-none, back-more, back-done}
+use Rattle.planner.proofs.work.Statement.{statement}
+use Rattle.planner.proofs.work.Tie as tie
+
+abbrev Inv-loop : tie.InvT-loop
+Inv-loop image n levels cycle actions limits₀ worst₀ next₀ i₀ limits worst next i =
+    (i ≤ n)
+    × (length limits ≡ length limits₀)
+    × (length worst ≡ length worst₀)
+    × ((o : Order (profile image .n)) → Given image n levels cycle actions o → Back (tables (profile image) o) n levels limits₀ worst₀ i next limits worst)
+
+abbrev μ-loop : tie.MeasureT-loop
+μ-loop image n levels cycle actions limits₀ worst₀ next₀ i₀ limits worst next i = i
+
+bytes : (c : tie.After-after-last Inv-loop μ-loop) → Bytes (c .before .before .before .args .image .now)
+bytes c k = c .before .before .shared-slice-known .given k .fits
+
+-- the rows of a turn's position are within the tables
+inside : (c : tie.In-loop Inv-loop μ-loop) → let a = c .before .before .before .before .before .args in
+    (c .before .loop .i - 1) * a .levels + a .levels ≤ a .n * a .levels
+inside c =
+    let a = c .before .before .before .before .before .args in
+    stride-fits (c .before .loop .i - 1) (a .n) (a .levels) (omega arith)
+
+-- the record of the turn's action is there
+action : (c : tie.In-loop Inv-loop μ-loop) → let a = c .before .before .before .before .before .args in
+    HasRecord (a .image .now) (a .levels) (getD (a .actions .now) (c .before .loop .i - 1) 0)
+action c = present (c .before .before .before .before .before .pre .0 .1) (c .before .loop .i - 1) (omega arith)
+
+-- what was read of it
+times : (c : tie.After-worsts Inv-loop μ-loop) → let a = c .before .before .before .before .before .before .before .before .before .before .args in
+    (o : Order (profile (a .image .now) .n)) → Given (a .image .now) (a .n) (a .levels) (a .cycle) (a .actions .now) o
+    → Position (tables (profile (a .image .now)) o) (a .levels) (c .before .before .before .before .before .before .loop .i - 1)
+    (c .before .before .times-of .result .averages) (c .before .before .times-of .result .worsts) (c .before .before .before .due-at .result)
+times c o g =
+    let read = c .before .before .times-of .ensures in
+    position g (c .before .before .before .before .before .before .loop .i - 1) (omega arith) (c .before .before .before .due-at .ensures) (read .0) (read .1)
+
+after-last-requires : tie.Need-after-last-requires Inv-loop μ-loop
+after-last-requires c κs = search needs
+
+loop-holds : tie.Need-loop-holds Inv-loop μ-loop
+loop-holds c = (search needs, search needs, search needs, λ o g. back-none (lawful g (bytes c)) _ _ (c .after-last .ensures))
+
+sub-i : tie.Need-sub-i Inv-loop μ-loop
+sub-i c = search needs
+
+element-copy-out-a : tie.Need-element-copy-out-a Inv-loop μ-loop
+element-copy-out-a c = omega (arith, records (c .before .before .before .before .before .pre .0 .1) .few-actions)
+
+cast-a : tie.Need-cast-a Inv-loop μ-loop
+cast-a c = record { fits = omega (arith, action (c .before) .few-actions) }
+
+mul-from : tie.Need-mul-from Inv-loop μ-loop
+mul-from c =
+    let has = records (c .before .before .before .before .before .before .pre .0 .1) in
+    omega (arith, inside (c .before), mul-le-mul (has .few-actions) (has .few-levels))
+
+due-at-requires : tie.Need-due-at-requires Inv-loop μ-loop
+due-at-requires c κs = (action (c .before), c .before .before .before .before .before .before .pre .0 .1 .cycle-is)
+
+times-of-requires : tie.Need-times-of-requires Inv-loop μ-loop
+times-of-requires c κs = action (c .before .before)
+
+row-requires : tie.Need-row-requires Inv-loop μ-loop
+row-requires c κs =
+    let t = c .before .before .before .before .before .before in
+    let given = t .before .before .before .before .pre .0 in
+    row-small (lawful (given .1) (bytes (t .before))) (t .loop .i - 1) (t .loop .i) (omega arith) (t .loop .inv .0)
+    (t .loop .inv .3 (given .0) (given .1) .worked .row) (times c (given .0) (given .1))
+
+store-requires : tie.Need-store-requires Inv-loop μ-loop
+store-requires c κs =
+    let in-loop = c .before .before .before .before .before .before .before in
+    let start = in-loop .before .before .before .before .before in
+    (records (start .pre .0 .1) .few-levels, omega (arith, start .pre .1 .0, in-loop .before .loop .inv .1, inside in-loop))
+
+store-requires-2 : tie.Need-store-requires-2 Inv-loop μ-loop
+store-requires-2 c κs =
+    let in-loop = c .before .before .before .before .before .before .before .before .before .before in
+    let start = in-loop .before .before .before .before .before in
+    (records (start .pre .0 .1) .few-levels, omega (arith, start .pre .1 .1, in-loop .before .loop .inv .2, inside in-loop))
+
+loop-less : tie.Need-loop-less Inv-loop μ-loop
+loop-less c = search needs
+
+loop-again : tie.Need-loop-again Inv-loop μ-loop
+loop-again c =
+    let stored = c .before .before .store2 in
+    let limits-stored = c .before .before .before .before .before .store in
+    let row = c .before .before .before .before .before .before .before in
+    let t = row .before .before .before .before .before .before .before in
+    let room = t .before .before .before .before .pre .1 in (
+      search needs,
+      limits-stored .kept .1 .0 ∙ t .loop .inv .1,
+      stored .kept .1 .0 ∙ t .loop .inv .2,
+      λ o g. back-more (lawful g (bytes (t .before))) _ _ (t .loop .i - 1) (t .loop .i) (omega arith) (t .loop .inv .0) (room .0) (room .1)
+          (t .loop .inv .3 o g) (times (row .before) o g) (row .row .ensures) (limits-stored .ensures) (stored .ensures),
+    )
+
+same-length : tie.Need-same-length Inv-loop μ-loop
+same-length c = search needs
+
+same-length-2 : tie.Need-same-length-2 Inv-loop μ-loop
+same-length-2 c = search needs
+
+returns : tie.Need-returns Inv-loop μ-loop
+returns c o g =
+    let t = c .before in
+    back-done (lawful g (bytes (t .before))) _ _ (t .loop .i) (omega arith) (t .loop .inv .3 o g)
+
+pub work-spec : {M : Type 1} → statement M
+work-spec =
+    tie.close
+    (tie.spec
+    Inv-loop
+    μ-loop
+    after-last-requires
+    loop-holds
+    sub-i
+    element-copy-out-a
+    cast-a
+    mul-from
+    due-at-requires
+    times-of-requires
+    row-requires
+    store-requires
+    store-requires-2
+    loop-less
+    loop-again
+    same-length
+    same-length-2
+    returns)

@@ -1,0 +1,68 @@
+-- Planning: the order, the limits, the worst times by position and the coast bounds of an image, written to lent tables.
+use Prim.Native.Nat.{ℕ, suc, _*_, _<_}
+use mathlib.Core.Path.{_≡_}
+use mathlib.Core.List.{List, [], _∷_}
+use lib.IntN.{ℤ}
+use lib.ListN.{length, getD}
+use Rattle.rules.specs.Words.{cat, tab, rows}
+use Rattle.rules.specs.Image.{profile}
+use Rattle.rules.specs.Order.{Order, TheOrder}
+use Rattle.rules.specs.Limits.{Tables, tables, limit, coast-bound}
+use Rattle.rules.specs.Refusals.{First, Accepted, kept, image-call}
+use Rattle.fields.specs.Fields.{splice}
+use Rattle.planner.specs.declared.Planned.{Planned}
+
+-- the lengths of the lent tables, each with what n actions at L levels need of it
+abbrev pub rooms : ℕ → ℕ → List ℕ → List ℤ → List ℕ → List ℤ → List (ℕ × ℕ)
+rooms n L order limits worst bounds =
+    (length order, n) ∷ (length limits, n * L) ∷ (length worst, n * L) ∷ (length bounds, n * L * 16) ∷ []
+
+-- the coast bounds by position, level and length from 1 to 16
+abbrev pub coast-bounds : Tables → ℕ → ℕ → List ℤ
+coast-bounds S n L = cat (λ i. rows (λ q x. coast-bound S (limit S) i q (suc x)) L 16) n
+
+-- What planning answers, and what it leaves of the lent tables: their tails are kept, and with a refusal all of them. Without one the order
+-- is the profile's; with one there need not be any, and o counts for nothing.
+pub record Plans (s order : List ℕ) (limits : List ℤ) (worst : List ℕ) (bounds : List ℤ)
+    (order′ : List ℕ) (limits′ : List ℤ) (worst′ : List ℕ) (bounds′ : List ℤ) (r : Planned) : Type 0 where
+  pub number : First (image-call s (rooms (profile s .n) (profile s .levels) order limits worst bounds)) (r .refusal .number)
+  pub n : r .n ≡ kept (r .refusal .number) (profile s .n) 0
+  pub levels : r .levels ≡ kept (r .refusal .number) (profile s .levels) 0
+  pub cycle : r .cycle ≡ kept (r .refusal .number) (profile s .cycle) 0
+  pub o : Order (profile s .n)
+  pub the-order : r .refusal .number ≡ 0 → TheOrder (profile s) o
+  pub order-is : order′ ≡ kept (r .refusal .number) (splice order 0 (tab (o .at) (profile s .n))) order
+  pub limits-are : limits′
+      ≡ kept (r .refusal .number) (splice limits 0 (rows (limit (tables (profile s) o)) (profile s .n) (profile s .levels))) limits
+  pub worst-is : worst′
+      ≡ kept (r .refusal .number) (splice worst 0 (rows (tables (profile s) o .worst) (profile s .n) (profile s .levels))) worst
+  pub bounds-are : bounds′
+      ≡ kept (r .refusal .number) (splice bounds 0 (coast-bounds (tables (profile s) o) (profile s .n) (profile s .levels))) bounds
+
+-- ---- asked between the functions of this crate
+
+-- what the check says of an accepted image s: n, its levels and its cycle, and its actions in the order o
+pub record Given (s : List ℕ) (n L cycle : ℕ) (actions : List ℕ) (o : Order (profile s .n)) : Type 0 where
+  pub accepted : Accepted s
+  pub n-is : n ≡ profile s .n
+  pub levels-are : L ≡ profile s .levels
+  pub cycle-is : cycle ≡ profile s .cycle
+  pub lists : (k : ℕ) → k < profile s .n → getD actions k 0 ≡ o .at k
+
+-- some order is given
+abbrev pub SomeGiven : List ℕ → ℕ → ℕ → ℕ → List ℕ → Type 0
+SomeGiven s n L cycle actions = (o : Order (profile s .n)) × Given s n L cycle actions o
+
+-- the lent tables of limits and worst times filled, of the order o
+abbrev pub Filled : (s : List ℕ) (n L : ℕ) (limits : List ℤ) (worst : List ℕ) (limits′ : List ℤ) (worst′ : List ℕ) → Order (profile s .n) → Type 0
+Filled s n L limits worst limits′ worst′ o =
+    (limits′ ≡ splice limits 0 (rows (limit (tables (profile s) o)) n L))
+    × (worst′ ≡ splice worst 0 (rows (tables (profile s) o .worst) n L))
+
+-- all four of the order o
+pub record Written (s order : List ℕ) (limits : List ℤ) (worst : List ℕ) (bounds : List ℤ)
+    (order′ : List ℕ) (limits′ : List ℤ) (worst′ : List ℕ) (bounds′ : List ℤ) (o : Order (profile s .n)) : Type 0 where
+  pub order-is : order′ ≡ splice order 0 (tab (o .at) (profile s .n))
+  pub limits-are : limits′ ≡ splice limits 0 (rows (limit (tables (profile s) o)) (profile s .n) (profile s .levels))
+  pub worst-is : worst′ ≡ splice worst 0 (rows (tables (profile s) o .worst) (profile s .n) (profile s .levels))
+  pub bounds-are : bounds′ ≡ splice bounds 0 (coast-bounds (tables (profile s) o) (profile s .n) (profile s .levels))

@@ -1,0 +1,216 @@
+// Planning: the order, the limits, the worst times by position and the coast bounds of an image, written to lent tables.
+use image::Refusal;
+use image::read;
+use image::whole;
+ghost use mathlib.Core.Path.{_≡_};
+ghost use mathlib.Core.List.{[], _∷_};
+ghost use Prim.Native.Nat.{ℕ, _+_, _*_, _≤_, _<_};
+ghost use lib.ListN.{length, getD};
+ghost use Rattle.rules.specs.Words.{tab};
+ghost use Rattle.rules.specs.Image.{due, average-of, worst-of, profile};
+ghost use Rattle.rules.specs.Order.{Order};
+ghost use Rattle.rules.specs.Refusals.{_when_, First, Tight};
+ghost use Rattle.fields.specs.Fields.{splice};
+ghost use Rattle.image.specs.Reading.{HasRecord, Column};
+ghost use Rattle.planner.specs.Planning.{rooms, Plans, Given, SomeGiven, Filled, Written};
+
+// The answer of planning: with a refusal all else is 0; without one what the header says.
+pub struct Planned {
+    pub refusal: Refusal,
+    pub n: usize,
+    pub levels: usize,
+    pub cycle: u32,
+}
+
+// 17 where a lent table is shorter than needed, else 0.
+fn tight(
+    n: usize,
+    levels: usize,
+    order: &[u8],
+    limits: &[i32],
+    worst: &[u32],
+    bounds: &[i32],
+) -> u32
+    requires { ⌜ (n ≤ 64) × (levels ≤ 8) ⌝ }
+    ensures { λ r. ⌜ First
+        (17 when Tight (rooms n levels (now (order .entry)) (now (limits .entry)) (now (worst .entry)) (now (bounds .entry))) ∷ []) r ⌝ }
+{
+    let entries = n * levels;
+    if order.len() < n {
+        return 17;
+    }
+    if limits.len() < entries {
+        return 17;
+    }
+    if worst.len() < entries {
+        return 17;
+    }
+    if bounds.len() < entries * rules::LONGEST_COAST {
+        return 17;
+    }
+    0
+}
+
+// ---- an action's record
+
+// Its deadline as it counts: 0 stands for the cycle.
+fn due_at(image: &[u8], levels: usize, a: usize, cycle: u32) -> u32
+    requires { ⌜ HasRecord (now image) levels a × (cycle ≡ profile (now image) .cycle) ⌝ }
+    ensures { λ r. ⌜ r ≡ due (profile (now (image .entry))) a ⌝ }
+{
+    let deadline = read::deadline_at(image, levels, a);
+    if deadline == 0 { cycle } else { deadline }
+}
+
+// Its times by level.
+struct Times {
+    averages: [u32; 8],
+    worsts: [u32; 8],
+}
+
+fn times_of(image: &[u8], levels: usize, a: usize) -> Times
+    requires { ⌜ HasRecord (now image) levels a ⌝ }
+    ensures { λ r. ⌜
+        Column (average-of (now (image .entry)) a) levels (r .averages) × Column (worst-of (now (image .entry)) a) levels (r .worsts) ⌝ }
+{
+    let mut averages = [0u32; 8];
+    let mut worsts = [0u32; 8];
+    let mut q = 0;
+    while q < levels {
+        averages[q] = read::average_at(image, levels, a, q);
+        worsts[q] = read::worst_at(image, levels, a, q);
+        q += 1;
+    }
+    Times { averages, worsts }
+}
+
+// ---- the tables
+
+// The actions in order.
+fn store_order(actions: &[u8; 64], n: usize, out: &mut [u8])
+    requires { ⌜ (n ≤ 64) × (n ≤ length (now out)) ⌝ }
+    ensures { λ r. ⌜ now (out .exit) ≡ splice (now (out .entry)) 0 (tab (λ k. getD (now (actions .entry)) k 0) n) ⌝ }
+{
+    let mut k = 0;
+    while k < n {
+        out[k] = actions[k];
+        k += 1;
+    }
+}
+
+// A row of worst times goes to the lent table.
+fn store(row: [u32; 8], out: &mut [u32], from: usize, levels: usize)
+    requires { ⌜ (levels ≤ 8) × (from + levels ≤ length (now out)) ⌝ }
+    ensures { λ r. ⌜ now (out .exit) ≡ splice (now (out .entry)) from (tab (λ q. getD row q 0) levels) ⌝ }
+{
+    let mut k = 0;
+    while k < levels {
+        out[from + k] = row[k];
+        k += 1;
+    }
+}
+
+// The limits and the worst times, from the last position back: the row at a position takes the place of the row after it.
+fn work(
+    image: &[u8],
+    n: usize,
+    levels: usize,
+    cycle: u32,
+    actions: &[u8; 64],
+    limits: &mut [i32],
+    worst: &mut [u32],
+)
+    requires { ⌜ SomeGiven (now image) n levels cycle (now actions) ⌝ }
+    requires { ⌜ (n * levels ≤ length (now limits)) × (n * levels ≤ length (now worst)) ⌝ }
+    ensures { λ r. ⌜ ((o : Order (profile (now (image .entry)) .n)) → Given (now (image .entry)) n levels cycle (now (actions .entry)) o
+        → Filled (now (image .entry)) n levels (now (limits .entry)) (now (worst .entry)) (now (limits .exit)) (now (worst .exit)) o) ⌝ }
+{
+    let mut next = rows::after_last();
+    let mut i = n;
+    while 0 < i {
+        i -= 1;
+        let a = actions[i] as usize;
+        let from = i * levels;
+        let due = due_at(image, levels, a, cycle);
+        let times = times_of(image, levels, a);
+        let averages = times.averages;
+        let worsts = times.worsts;
+        let here = rows::row(next, averages, worsts, due, levels);
+        rows::store(here, limits, from, levels);
+        store(worsts, worst, from, levels);
+        next = here;
+    }
+}
+
+// All four.
+fn fill(
+    image: &[u8],
+    n: usize,
+    levels: usize,
+    cycle: u32,
+    actions: &[u8; 64],
+    order: &mut [u8],
+    limits: &mut [i32],
+    worst: &mut [u32],
+    bounds: &mut [i32],
+)
+    requires { ⌜ SomeGiven (now image) n levels cycle (now actions) ⌝ }
+    requires { ⌜ (n ≤ length (now order)) × (n * levels ≤ length (now limits)) ⌝ }
+    requires { ⌜ (n * levels ≤ length (now worst)) × (n * levels * 16 ≤ length (now bounds)) ⌝ }
+    ensures { λ r. ⌜ ((o : Order (profile (now (image .entry)) .n)) → Given (now (image .entry)) n levels cycle (now (actions .entry)) o
+        → Written (now (image .entry)) (now (order .entry)) (now (limits .entry)) (now (worst .entry)) (now (bounds .entry))
+        (now (order .exit)) (now (limits .exit)) (now (worst .exit)) (now (bounds .exit)) o) ⌝ }
+{
+    store_order(actions, n, order);
+    work(image, n, levels, cycle, actions, limits, worst);
+    rows::bounds(limits, worst, n, levels, bounds);
+}
+
+// ---- the call
+
+// What a refused call answers.
+fn refused(refusal: Refusal) -> Planned
+    ensures { λ r. ⌜ r ≡ record { refusal = refusal; n = 0; levels = 0; cycle = 0 } ⌝ }
+{
+    Planned {
+        refusal,
+        n: 0,
+        levels: 0,
+        cycle: 0,
+    }
+}
+
+// Plans an image. A refusal leaves the tables untouched, and what they have beyond what is needed stays.
+pub fn plan(
+    image: &[u8],
+    order: &mut [u8],
+    limits: &mut [i32],
+    worst: &mut [u32],
+    bounds: &mut [i32],
+) -> Planned
+    ensures { λ r. ⌜ Plans (now (image .entry)) (now (order .entry)) (now (limits .entry)) (now (worst .entry)) (now (bounds .entry))
+        (now (order .exit)) (now (limits .exit)) (now (worst .exit)) (now (bounds .exit)) r ⌝ }
+{
+    let checked = whole::checked(image);
+    let refusal = checked.refusal;
+    if refusal.number != 0 {
+        return refused(refusal);
+    }
+    let n = checked.n;
+    let levels = checked.levels;
+    let cycle = checked.cycle;
+    let number = tight(n, levels, order, limits, worst, bounds);
+    if number != 0 {
+        return refused(Refusal { number });
+    }
+    let actions = checked.order;
+    fill(
+        image, n, levels, cycle, &actions, order, limits, worst, bounds,
+    );
+    Planned {
+        refusal,
+        n,
+        levels,
+        cycle,
+    }
+}

@@ -1,0 +1,106 @@
+-- The calls on an image: its own refusals first, then the call's. What reading answers, part by part. Assumes nothing.
+use mathlib.Core.Path.{_≡_, refl, _∙_}
+use mathlib.Core.Bool.{true, false}
+use mathlib.Core.List.{List, [], _∷_, _++_}
+use mathlib.Core.Logic.{_↔_, _⊎_, inl, inr, _≢_}
+use Prim.Native.Nat.{ℕ, _*_, _≤_, _<_}
+use native.Mathlib.Omega.{arith}
+use lib.Dec.{eqb}
+use lib.ListN.{length}
+use borrow.Author.Tests.{eq-eqb, ne-eqb}
+use Rattle.rules.specs.Words.{tab, rows}
+use Rattle.rules.specs.Image.{mask-of, deadline-of, average-of, worst-of, profile}
+use Rattle.rules.specs.Refusals.{Ground, First, Tight, Accepted, image-checks, image-call}
+use Rattle.rules.proofs.Refusals.{image-numbered, first-stops, first-goes-on, first-parts}
+use Rattle.fields.specs.Fields.{splice}
+use Rattle.image.specs.declared.Refusal.{Refusal}
+use Rattle.image.specs.declared.Checked.{Checked}
+use Rattle.image.specs.Checks.{Found, Judged}
+use Rattle.profile.specs.declared.Unpacked.{Unpacked}
+use Rattle.profile.specs.Calls.{rooms, Blank, Reads}
+
+-- ---- the image's refusals, and one of the call's own after them
+
+module _ (s : List ℕ) (own : Ground) where
+  pub image-refusal : (k : ℕ) → First (image-checks s) k → k ≢ 0 → First (image-checks s ++ (own ∷ [])) k
+  image-refusal k = first-stops (image-checks s) (own ∷ []) k
+
+  pub own-refusal : First (image-checks s) 0 → own .holds → First (image-checks s ++ (own ∷ [])) (own .number)
+  own-refusal accepted h = first-goes-on (image-checks s) (own ∷ []) (own .number) (image-numbered s) accepted (inl (h, refl))
+
+  pub no-refusal : First (image-checks s) 0 → (own .holds → ⊥) → First (image-checks s ++ (own ∷ [])) 0
+  no-refusal accepted never = first-goes-on (image-checks s) (own ∷ []) 0 (image-numbered s) accepted (inr (never, refl))
+
+  -- the other way round
+  pub none-given : 0 < own .number → First (image-checks s ++ (own ∷ [])) 0 → Accepted s × (own .holds → ⊥)
+  none-given some p = go (first-parts (image-checks s) (own ∷ []) 0 (image-numbered s) p)
+    where
+      go : (First (image-checks s) 0 × (_≢_ {A = ℕ} 0 0)) ⊎ (Accepted s × First (own ∷ []) 0) → Accepted s × (own .holds → ⊥)
+      go (inl x) = absurd (x .1 refl)
+      go (inr (accepted, inl x)) = absurd (omega (arith, x .1))
+      go (inr (accepted, inr x)) = (accepted, x .0)
+
+-- ---- by what the whole check answers
+
+module _ {s : List ℕ} {r : Checked} where
+  pub judged-accepted : Judged s r → r .refusal .number ≡ 0 → Accepted s
+  judged-accepted a none = rw none at (a .number)
+
+  pub found-rooms : (m d a w : List ℕ) → Found s r
+      → Tight (rooms (r .n) (r .levels) m d a w) ↔ Tight (rooms (profile s .n) (profile s .levels) m d a w)
+  found-rooms m d a w f = rw (f .n, f .levels) ((λ p. p), (λ p. p))
+
+-- ---- reading
+
+-- no slice is too short
+pub record Roomy (n L : ℕ) (m d a w : List ℕ) : Type 0 where
+  pub masks : n ≤ length m
+  pub deadlines : n ≤ length d
+  pub averages : n * L ≤ length a
+  pub worst : n * L ≤ length w
+
+pub roomy : (n L : ℕ) (m d a w : List ℕ) → (Tight (rooms n L m d a w) → ⊥) → Roomy n L m d a w
+roomy n L m d a w f = record {
+  masks = not-less (λ l. f (inl l));
+  deadlines = not-less (λ l. f (inr (inl l)));
+  averages = not-less (λ l. f (inr (inr (inl l))));
+  worst = not-less (λ l. f (inr (inr (inr (inl l)))));
+}
+  where
+    not-less : {x y : ℕ} → (x < y → ⊥) → y ≤ x
+    not-less h = omega arith
+
+module _ {s m d a w : List ℕ} where
+  pub refused-reads : {r : Unpacked} (f : Refusal) → First (image-call s (rooms (profile s .n) (profile s .levels) m d a w)) (f .number)
+      → f .number ≢ 0 → (r .refusal ≡ f) × Blank r → Reads s m d a w m d a w r
+  refused-reads {r} f p some (e, blank) =
+      let number : First (image-call s (rooms (profile s .n) (profile s .levels) m d a w)) (r .refusal .number) = rw e p in
+      let other : r .refusal .number ≢ 0 = rw e some in
+      let none : eqb (r .refusal .number) 0 ≡ false = ne-eqb (r .refusal .number) 0 other in record {
+        given = number;
+        n = rw none (blank .n);
+        levels = rw none (blank .levels);
+        cycle = rw none (blank .cycle);
+        masks = rw none;
+        deadlines = rw none;
+        averages = rw none;
+        worst = rw none;
+      }
+
+  pub accepted-reads : {m′ d′ a′ w′ : List ℕ} {r : Unpacked} → First (image-call s (rooms (profile s .n) (profile s .levels) m d a w)) 0
+      → r .refusal .number ≡ 0 → r .n ≡ profile s .n → r .levels ≡ profile s .levels → r .cycle ≡ profile s .cycle
+      → m′ ≡ splice m 0 (tab (mask-of s) (r .n)) → d′ ≡ splice d 0 (tab (deadline-of s) (r .n))
+      → a′ ≡ splice a 0 (rows (average-of s) (r .n) (r .levels)) → w′ ≡ splice w 0 (rows (worst-of s) (r .n) (r .levels))
+      → Reads s m d a w m′ d′ a′ w′ r
+  unfolding profile
+  accepted-reads {r = r} p none n levels cycle masks deadlines averages worst =
+      let is : eqb (r .refusal .number) 0 ≡ true = eq-eqb (r .refusal .number) 0 none in record {
+        given = rw none p;
+        n = rw is n;
+        levels = rw is levels;
+        cycle = rw is cycle;
+        masks = rw is (masks ∙ rw n);
+        deadlines = rw is (deadlines ∙ rw n);
+        averages = rw is (averages ∙ rw (n, levels));
+        worst = rw is (worst ∙ rw (n, levels));
+      }

@@ -1,0 +1,72 @@
+-- The record of an action as a part of its image. Assumes nothing.
+use mathlib.Core.Path.{_≡_, refl, ap, _∙_}
+use mathlib.Core.List.{List}
+use Prim.Native.Nat.{ℕ, _+_, _*_, _-_, _/_, _^_, _≤_, _<_}
+use native.Mathlib.Omega.{arith}
+use lib.Dec.{lit<}
+use lib.ListN.{length}
+use Rattle.rules.specs.Image.{be, levels, record-bytes, record-at, mask-of, deadline-of, average-of, worst-of, profile}
+use Rattle.rules.specs.Refusals.{_when_, First, lookup-call}
+use Rattle.rules.proofs.Refusals.{Sound, accepted-sound}
+use Rattle.fields.specs.Fields.{part}
+use Rattle.fields.proofs.Strides.{stride-more}
+use Rattle.fields.proofs.Parts.{be-part}
+use Rattle.image.specs.Reading.{HasRecord}
+use Rattle.image.proofs.Checks.{has-records}
+use Rattle.image.proofs.Reading.{has-record}
+use Rattle.profile.specs.Calls.{record-of}
+use Rattle.profile.proofs.Answers.{none-given}
+
+-- ---- a lookup with no refusal
+
+-- the image is sound and has the action
+pub record Named (s : List ℕ) (a : ℕ) : Type 0 where
+  pub sound : Sound s
+  pub named : a < profile s .n
+
+pub named : (s : List ℕ) (a : ℕ) → First (lookup-call s a) 0 → Named s a
+named s a p =
+    let x = none-given s (15 when (profile s .n ≤ a)) (lit< tt) p in
+    let present = x .1 in
+    record { sound = accepted-sound s .0 (x .0); named = omega arith }
+
+-- so the image has the action's record
+pub has-named : {s : List ℕ} {a : ℕ} → Named s a → HasRecord s (profile s .levels) a
+has-named {s} {a} x = has-record a (has-records s refl refl (x .sound .not-count) (x .sound .not-length)) (x .named)
+
+pub not-short : {s : List ℕ} → Sound s → 6 ≤ length s
+not-short x = let long = x .not-short in omega arith
+
+-- ---- from its start to the start of the next
+
+pub record-next : (L a : ℕ) → record-at L (a + 1) ≡ record-at L a + record-bytes L
+unfolding record-at
+record-next L a = omega (arith, stride-more a (record-bytes L))
+
+pub record-is : (s : List ℕ) (a : ℕ) {L start end : ℕ} → L ≡ levels s → start ≡ record-at L a → end ≡ record-at L (a + 1)
+    → part s start (end - start) ≡ record-of s a
+unfolding profile
+record-is s a {L} {start} {end} said starts ends =
+    let size : end - start ≡ record-bytes L = omega (arith, record-next L a) in
+    rw (size, starts, said)
+
+-- ---- the fields of the part
+
+module _ (s : List ℕ) (a : ℕ) where
+  pub part-mask : be (record-of s a) 0 8 ≡ mask-of s a
+  unfolding profile mask-of record-bytes
+  part-mask = be-part s (record-at (levels s) a) (record-bytes (levels s)) 0 8 (omega arith) ∙ ap (λ (at : ℕ). be s at 8) (omega arith)
+
+  pub part-deadline : be (record-of s a) 8 4 / 2 ^ 2 ≡ deadline-of s a
+  unfolding profile deadline-of record-bytes
+  part-deadline = ap (λ (v : ℕ). v / 2 ^ 2) (be-part s (record-at (levels s) a) (record-bytes (levels s)) 8 4 (omega arith))
+
+  pub part-average : (q : ℕ) → q < profile s .levels → be (record-of s a) (12 + 6 * q) 3 ≡ average-of s a q
+  unfolding profile average-of record-bytes
+  part-average q l =
+      be-part s (record-at (levels s) a) (record-bytes (levels s)) (12 + 6 * q) 3 (omega arith) ∙ ap (λ (at : ℕ). be s at 3) (omega arith)
+
+  pub part-worst : (q : ℕ) → q < profile s .levels → be (record-of s a) (15 + 6 * q) 3 ≡ worst-of s a q
+  unfolding profile worst-of record-bytes
+  part-worst q l =
+      be-part s (record-at (levels s) a) (record-bytes (levels s)) (15 + 6 * q) 3 (omega arith) ∙ ap (λ (at : ℕ). be s at 3) (omega arith)

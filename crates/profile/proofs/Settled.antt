@@ -1,0 +1,56 @@
+-- The contract of each call settles its answer and what it leaves in the lent slices. Assumes nothing.
+use mathlib.Core.Path.{_≡_, sym, ap, _∙_}
+use mathlib.Core.List.{List, []}
+use Prim.Native.Nat.{ℕ}
+use Rattle.rules.specs.Image.{profile}
+use Rattle.rules.specs.Refusals.{Ground, First, kept, image-call, lookup-call}
+use Rattle.rules.proofs.Refusals.{first-one}
+use Rattle.image.specs.declared.Refusal.{Refusal}
+use Rattle.pack.specs.Writing.{Writes}
+use Rattle.pack.proofs.Settled.{writes-one}
+use Rattle.profile.specs.declared.Unpacked.{Unpacked}
+use Rattle.profile.specs.declared.Written.{Written}
+use Rattle.profile.specs.Calls.{rooms, Reads, record-of, LooksUp}
+
+-- `check`, whose row is the image checks, and `lookup_refusal`, whose row is that of a lookup
+pub refusal-one : (row : List Ground) (r t : Refusal) → First row (r .number) → First row (t .number) → r ≡ t
+refusal-one row r t p q = ap (λ (k : ℕ). record { number = k }) (first-one row (r .number) (t .number) p q)
+
+-- `read`
+module _ {s m d a w : List ℕ} where
+  pub reads-one : {m′ d′ a′ w′ m″ d″ a″ w″ : List ℕ} {r t : Unpacked} → Reads s m d a w m′ d′ a′ w′ r → Reads s m d a w m″ d″ a″ w″ t
+      → (r ≡ t) × (m′ ≡ m″) × (d′ ≡ d″) × (a′ ≡ a″) × (w′ ≡ w″)
+  reads-one {r = r} {t = t} x y =
+      let e = refusal-one (image-call s (rooms (profile s .n) (profile s .levels) m d a w)) (r .refusal) (t .refusal) (x .given) (y .given) in (
+        answer e ((rw e at (x .n)) ∙ sym (y .n)) ((rw e at (x .levels)) ∙ sym (y .levels)) ((rw e at (x .cycle)) ∙ sym (y .cycle)),
+        (rw e at (x .masks)) ∙ sym (y .masks),
+        (rw e at (x .deadlines)) ∙ sym (y .deadlines),
+        (rw e at (x .averages)) ∙ sym (y .averages),
+        (rw e at (x .worst)) ∙ sym (y .worst),
+      )
+    where
+      made : Refusal → ℕ → ℕ → ℕ → Unpacked
+      made f n L c = record { refusal = f; n = n; levels = L; cycle = c }
+
+      answer : r .refusal ≡ t .refusal → r .n ≡ t .n → r .levels ≡ t .levels → r .cycle ≡ t .cycle → r ≡ t
+      answer f n L c =
+          ap (λ (v : Refusal). made v (r .n) (r .levels) (r .cycle)) f
+          ∙ ap (λ (v : ℕ). made (t .refusal) v (r .levels) (r .cycle)) n
+          ∙ ap (λ (v : ℕ). made (t .refusal) (t .n) v (r .cycle)) L
+          ∙ ap (made (t .refusal) (t .n) (t .levels)) c
+
+-- `lookup`: the part that goes with the number of the second call
+module _ {s : List ℕ} {a : ℕ} where
+  pub looked-up : {k : ℕ} {x : List ℕ} → First (lookup-call s a) k → LooksUp s a x → x ≡ kept k (record-of s a) []
+  looked-up {k} p x = rw (first-one (lookup-call s a) (x .refusal) k (x .given) p) at (x .is)
+
+  pub lookup-one : {x y : List ℕ} → LooksUp s a x → LooksUp s a y → x ≡ y
+  lookup-one x y = looked-up (y .given) x ∙ sym (y .is)
+
+-- `write`
+module _ {n L cycle : ℕ} {m d a w before : List ℕ} where
+  pub written-one : {after after′ : List ℕ} {r t : Written} → Writes n L cycle m d a w before after (r .refusal .number) (r .bytes)
+      → Writes n L cycle m d a w before after′ (t .refusal .number) (t .bytes) → (r ≡ t) × (after ≡ after′)
+  written-one {r = r} {t = t} x y =
+      let (number, bytes, left) = writes-one x y in
+      (ap (λ (k : ℕ). record { refusal = record { number = k }; bytes = r .bytes }) number ∙ ap (λ (k : ℕ). record { refusal = t .refusal; bytes = k }) bytes, left)

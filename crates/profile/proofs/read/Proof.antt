@@ -1,0 +1,162 @@
+-- Assumes nothing.
+use mathlib.Core.List.{List}
+use mathlib.Core.Logic.{_↔_}
+use Prim.Native.Nat.{ℕ}
+use native.Mathlib.Omega.{arith}
+use denote.Ref.{now}
+use borrow.Author.Needs.{needs}
+use Rattle.rules.specs.Image.{profile}
+use Rattle.rules.specs.Refusals.{Ground, _when_, First, Tight, Accepted, image-call}
+use Rattle.image.specs.Checks.{Found}
+use Rattle.image.specs.Reading.{HasRecords}
+use Rattle.image.proofs.Answers.{accepted-records}
+use Rattle.pack.proofs.Answers.{refuted}
+use Rattle.profile.specs.Calls.{rooms}
+use Rattle.profile.proofs.Answers.{image-refusal, own-refusal, no-refusal, judged-accepted, found-rooms, roomy, refused-reads, accepted-reads}
+use Rattle.profile.proofs.read.Statement.{statement}
+use Rattle.profile.proofs.read.Tie as tie
+
+-- ---- the image, the slices' lengths with what n actions at L levels need, and the call's own ground
+
+abbrev start : tie.After-checked → tie.Start
+start c = c .before .before .before .before .before .before
+
+abbrev image : tie.After-checked → List ℕ
+image c = now (start c .args .image)
+
+abbrev Short : tie.After-checked → ℕ → ℕ → Type 0
+Short c n L =
+    let x = start c .args in
+    Tight (rooms n L (x .masks .now) (x .deadlines .now) (x .averages .now) (x .worst .now))
+
+abbrev room : tie.After-checked → Ground
+room c = 17 when Short c (profile (image c) .n) (profile (image c) .levels)
+
+-- ---- past the test for the image's refusals
+
+abbrev past : tie.Else1 → tie.After-checked
+past c = c .before .before .before
+
+accepted : (c : tie.Else1) → Accepted (image (past c))
+accepted c = judged-accepted (past c .checked .ensures) (c .if1 .left)
+
+found : (c : tie.Else1) → Found (image (past c)) (past c .checked .result)
+found c = past c .checked .ensures .accepted (c .if1 .left)
+
+records : (c : tie.Else1) → HasRecords (image (past c)) (past c .checked .result .levels) (past c .checked .result .n)
+records c = accepted-records (past c .checked .ensures) (c .if1 .left)
+
+-- a slice is too short by the counts that the check answered exactly if it is by the profile's
+says : (c : tie.Else1) → let x = past c .checked .result in Short (past c) (x .n) (x .levels) ↔ room (past c) .holds
+says c =
+    let x = start (past c) .args in
+    found-rooms (x .masks .now) (x .deadlines .now) (x .averages .now) (x .worst .now) (found c)
+
+-- ---- past the test for 17
+
+abbrev one : tie.After-tight → tie.Else1
+one c = c .before .before .before .before .before
+
+not-tight : (c : tie.Else2) → let p = past (one (c .before)) in Short p (p .checked .result .n) (p .checked .result .levels) → ⊥
+not-tight c = refuted (c .before .tight .ensures) (c .if2 .left)
+
+given : (c : tie.Else2)
+    → let p = past (one (c .before)) in
+    let x = start p .args in
+    let F = profile (image p) in
+    First (image-call (image p) (rooms (F .n) (F .levels) (x .masks .now) (x .deadlines .now) (x .averages .now) (x .worst .now))) 0
+given c =
+    let e = one (c .before) in
+    no-refusal (image (past e)) (room (past e)) (accepted e) (λ h. not-tight c (says e .1 h))
+
+-- ---- the needs
+
+checked-requires : tie.Need-checked-requires
+checked-requires c κs = search needs
+
+refused-requires : tie.Need-refused-requires
+refused-requires c κs = search needs
+
+returns : tie.Need-returns
+returns c =
+    let p = c .before .before .before .before in
+    let some = c .before .if1 .taken in
+    refused-reads (p .checked .result .refusal) (image-refusal (image p) (room p) _ (p .checked .ensures .number) some) some (c .refused .ensures)
+
+tight-requires : tie.Need-tight-requires
+tight-requires c κs =
+    let h = records (c .before .before .before .before) in
+    (h .few-actions, h .few-levels)
+
+refused-requires-2 : tie.Need-refused-requires-2
+refused-requires-2 c κs = search needs
+
+same-length : tie.Need-same-length
+same-length c = search needs
+
+same-length-2 : tie.Need-same-length-2
+same-length-2 c = search needs
+
+same-length-3 : tie.Need-same-length-3
+same-length-3 c = search needs
+
+same-length-4 : tie.Need-same-length-4
+same-length-4 c = search needs
+
+returns-2 : tie.Need-returns-2
+returns-2 c =
+    let t = c .before .before in
+    let e = one t in
+    let short = says e .0 (t .tight .ensures .0 (c .before .if2 .taken)) in
+    refused-reads (record { number = 17 }) (own-refusal (image (past e)) (room (past e)) (accepted e) short) (λ z. omega arith) (c .refused2 .ensures)
+
+unpack-requires : tie.Need-unpack-requires
+unpack-requires c κs =
+    let two = c .before .before .before .before in
+    let p = past (one (two .before)) in
+    let x = start p .args in
+    let r = p .checked .result in
+    let h = roomy (r .n) (r .levels) (x .masks .now) (x .deadlines .now) (x .averages .now) (x .worst .now) (not-tight two) in
+    (records (one (two .before)), ((h .masks, h .deadlines), (h .averages, h .worst)))
+
+same-length-5 : tie.Need-same-length-5
+same-length-5 c = search needs
+
+same-length-6 : tie.Need-same-length-6
+same-length-6 c = search needs
+
+same-length-7 : tie.Need-same-length-7
+same-length-7 c = search needs
+
+same-length-8 : tie.Need-same-length-8
+same-length-8 c = search needs
+
+returns-3 : tie.Need-returns-3
+returns-3 c =
+    let u = c .before .before .before .before .before .before .before .before in
+    let two = u .before .before .before .before .before in
+    let e = one (two .before) in
+    let f = found e in
+    let done = u .unpack .ensures in
+    accepted-reads (given two) (e .if1 .left) (f .n) (f .levels) (f .cycle) (done .0) (done .1 .0) (done .1 .1 .0) (done .1 .1 .1)
+
+pub read-spec : {M : Type 1} → statement M
+read-spec =
+    tie.close
+    (tie.spec
+    checked-requires
+    refused-requires
+    returns
+    tight-requires
+    refused-requires-2
+    same-length
+    same-length-2
+    same-length-3
+    same-length-4
+    returns-2
+    unpack-requires
+    same-length-5
+    same-length-6
+    same-length-7
+    same-length-8
+    returns-3)

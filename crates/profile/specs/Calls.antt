@@ -1,0 +1,47 @@
+-- What reading and lookup answer, and what reading leaves in the lent slices.
+use Prim.Native.Nat.{ℕ, _*_}
+use mathlib.Core.Path.{_≡_}
+use mathlib.Core.List.{List, [], _∷_}
+use lib.ListN.{length}
+use Rattle.rules.specs.Words.{tab, rows}
+use Rattle.rules.specs.Image.{profile, record-at, record-bytes}
+use Rattle.rules.specs.Refusals.{First, kept, image-call, lookup-call}
+use Rattle.fields.specs.Fields.{splice, part}
+use Rattle.profile.specs.declared.Unpacked.{Unpacked}
+
+-- ---- reading
+
+-- The lengths of the lent slices, each with what n actions at L levels need of it.
+abbrev pub rooms : ℕ → ℕ → List ℕ → List ℕ → List ℕ → List ℕ → List (ℕ × ℕ)
+rooms n L masks deadlines averages worst =
+    (length masks, n) ∷ (length deadlines, n) ∷ (length averages, n * L) ∷ (length worst, n * L) ∷ []
+
+-- with a refusal: no counts and no cycle are said
+pub record Blank (r : Unpacked) : Type 0 where
+  pub n : r .n ≡ 0
+  pub levels : r .levels ≡ 0
+  pub cycle : r .cycle ≡ 0
+
+-- Reading the image s into slices that hold m, d, a and w answers r and leaves m′, d′, a′ and w′: the masks, the deadlines, the averages and
+-- the worst times of the profile, each followed by the tail that was there; with a refusal what was there.
+pub record Reads (s m d a w m′ d′ a′ w′ : List ℕ) (r : Unpacked) : Type 0 where
+  pub given : First (image-call s (rooms (profile s .n) (profile s .levels) m d a w)) (r .refusal .number)
+  pub n : r .n ≡ kept (r .refusal .number) (profile s .n) 0
+  pub levels : r .levels ≡ kept (r .refusal .number) (profile s .levels) 0
+  pub cycle : r .cycle ≡ kept (r .refusal .number) (profile s .cycle) 0
+  pub masks : m′ ≡ kept (r .refusal .number) (splice m 0 (tab (profile s .mask) (profile s .n))) m
+  pub deadlines : d′ ≡ kept (r .refusal .number) (splice d 0 (tab (profile s .deadline) (profile s .n))) d
+  pub averages : a′ ≡ kept (r .refusal .number) (splice a 0 (rows (profile s .average) (profile s .n) (profile s .levels))) a
+  pub worst : w′ ≡ kept (r .refusal .number) (splice w 0 (rows (profile s .worst) (profile s .n) (profile s .levels))) w
+
+-- ---- lookup
+
+-- The record of action a in the image s.
+abbrev pub record-of : List ℕ → ℕ → List ℕ
+record-of s a = part s (record-at (profile s .levels) a) (record-bytes (profile s .levels))
+
+-- Looking action a up in the image s hands back its record; with a refusal nothing.
+pub record LooksUp (s : List ℕ) (a : ℕ) (found : List ℕ) : Type 0 where
+  pub refusal : ℕ
+  pub given : First (lookup-call s a) refusal
+  pub is : found ≡ kept refusal (record-of s a) []

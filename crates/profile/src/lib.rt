@@ -1,0 +1,150 @@
+// The public calls on a profile image: check, read, look an action up, write.
+use image::Refusal;
+ghost use mathlib.Core.Path.{_≡_};
+ghost use mathlib.Core.Bool.{true};
+ghost use mathlib.Core.Logic.{_↔_};
+ghost use Prim.Native.Nat.{_≤_};
+ghost use Rattle.rules.specs.Refusals.{First, Tight, image-checks, lookup-call};
+ghost use Rattle.pack.specs.Writing.{Writes};
+ghost use Rattle.profile.specs.Calls.{rooms, Blank, Reads, LooksUp};
+
+// The answer of reading: the refusal, and without one the counts and the cycle of the profile, else 0.
+pub struct Unpacked {
+    pub refusal: Refusal,
+    pub n: usize,
+    pub levels: usize,
+    pub cycle: u32,
+}
+
+// The answer of writing: the refusal, and the number of bytes written.
+pub struct Written {
+    pub refusal: Refusal,
+    pub bytes: usize,
+}
+
+// The check of an image: refusals 1 to 9, in this order, over the whole image.
+pub fn check(image: &[u8]) -> Refusal
+    ensures { λ r. ⌜ First (image-checks (now (image .entry))) (r .number) ⌝ }
+{
+    image::check(image)
+}
+
+// 17, of reading: a lent slice is shorter than the tables of n actions at so many levels.
+fn tight(
+    n: usize,
+    levels: usize,
+    masks: &[u64],
+    deadlines: &[u32],
+    averages: &[u32],
+    worst: &[u32],
+) -> bool
+    requires { ⌜ (n ≤ 64) × (levels ≤ 8) ⌝ }
+    ensures { λ r. ⌜ (r ≡ true) ↔ Tight (rooms n levels (now (masks .entry)) (now (deadlines .entry)) (now (averages .entry)) (now (worst .entry))) ⌝ }
+{
+    let entries = n * levels;
+    if masks.len() < n {
+        return true;
+    }
+    if deadlines.len() < n {
+        return true;
+    }
+    if averages.len() < entries {
+        return true;
+    }
+    worst.len() < entries
+}
+
+// What a refused reading answers.
+fn refused(refusal: Refusal) -> Unpacked
+    ensures { λ r. ⌜ (r .refusal ≡ refusal) × Blank r ⌝ }
+{
+    Unpacked {
+        refusal,
+        n: 0,
+        levels: 0,
+        cycle: 0,
+    }
+}
+
+// Unpacks an image into the lent slices. A refusal leaves them untouched, and what they have beyond the tables stays.
+pub fn read(
+    image: &[u8],
+    masks: &mut [u64],
+    deadlines: &mut [u32],
+    averages: &mut [u32],
+    worst: &mut [u32],
+) -> Unpacked
+    ensures { λ r. ⌜ Reads (now (image .entry))
+        (now (masks .entry)) (now (deadlines .entry)) (now (averages .entry)) (now (worst .entry))
+        (now (masks .exit)) (now (deadlines .exit)) (now (averages .exit)) (now (worst .exit)) r ⌝ }
+{
+    let checked = image::whole::checked(image);
+    let refusal = checked.refusal;
+    let n = checked.n;
+    let levels = checked.levels;
+    if refusal.number != 0 {
+        return refused(refusal);
+    }
+    if tight(n, levels, masks, deadlines, averages, worst) {
+        return refused(Refusal { number: 17 });
+    }
+    unpack::unpack(image, n, levels, masks, deadlines, averages, worst);
+    Unpacked {
+        refusal,
+        n,
+        levels,
+        cycle: checked.cycle,
+    }
+}
+
+// The refusal of a lookup: those of the image, then 15, an absent action.
+pub fn lookup_refusal(image: &[u8], action: usize) -> Refusal
+    ensures { λ r. ⌜ First (lookup-call (now (image .entry)) action) (r .number) ⌝ }
+{
+    let checked = image::whole::checked(image);
+    let given = checked.refusal;
+    if given.number != 0 {
+        return given;
+    }
+    if checked.n <= action {
+        return Refusal { number: 15 };
+    }
+    given
+}
+
+// The action's own part of the image, uncopied; empty with a refusal.
+pub fn lookup(image: &[u8], action: usize) -> &[u8]
+    ensures { λ r. ⌜ LooksUp (now (image .entry)) action (now r) ⌝ }
+{
+    if lookup_refusal(image, action).number != 0 {
+        return &image[0..0];
+    }
+    let levels = image::read::header(image).levels;
+    let next = action + 1;
+    let start = image::read::record_at(levels, action);
+    let end = image::read::record_at(levels, next);
+    &image[start..end]
+}
+
+// Packs the tables into the lent image. A refusal leaves it untouched, and what it has beyond the bytes written stays.
+pub fn write(
+    n: usize,
+    levels: usize,
+    cycle: u32,
+    masks: &[u64],
+    deadlines: &[u32],
+    averages: &[u32],
+    worst: &[u32],
+    image: &mut [u8],
+) -> Written
+    ensures { λ r. ⌜ Writes n levels cycle (now (masks .entry)) (now (deadlines .entry)) (now (averages .entry)) (now (worst .entry))
+        (now (image .entry)) (now (image .exit)) (r .refusal .number) (r .bytes) ⌝ }
+{
+    let packed = pack::write(n, levels, cycle, masks, deadlines, averages, worst, image);
+    Written {
+        refusal: Refusal {
+            number: packed.refusal,
+        },
+        bytes: packed.bytes,
+    }
+}
