@@ -31,18 +31,18 @@ use Rattle.rules.proofs.Accepted.{fit-limit}
 -- ---- an order named by its actions, each place undone by itself, as 0, 1, 2 and 0, 2, 1 are
 
 -- at position k: present, undone by itself, the computed action, and after its predecessors
-placed : Profile → (ℕ → ℕ) → ℕ → Bool
+unfoldable pub placed : Profile → (ℕ → ℕ) → ℕ → Bool
 placed F f k =
     ltb (f k) (F .n) && (eqb (f (f k)) k && (eqb (f k) (action-at F k) && all-pass (λ b. not (has (F .mask k) b) || ltb (f b) (f k)) (F .n)))
 
 module _ (F : Profile) (f : ℕ → ℕ) (ok : all-pass (placed F f) (F .n) ≡ true) where
-  record Placed (k : ℕ) : Type 0 where
-    present : f k < F .n
-    undone : f (f k) ≡ k
-    computed : f k ≡ action-at F k
-    after : (b : ℕ) → b < F .n → has (F .mask k) b ≡ true → f b < f k
+  pub record Placed (k : ℕ) : Type 0 where
+    pub present : f k < F .n
+    pub undone : f (f k) ≡ k
+    pub computed : f k ≡ action-at F k
+    pub after : (b : ℕ) → b < F .n → has (F .mask k) b ≡ true → f b < f k
 
-  place : (k : ℕ) → k < F .n → Placed k
+  pub place : (k : ℕ) → k < F .n → Placed k
   unfolding placed
   place k l =
       let a = and-true (ltb (f k) (F .n)) _ .0 (all-pass-each (placed F f) (F .n) ok k l) in
@@ -59,7 +59,7 @@ module _ (F : Profile) (f : ℕ → ℕ) (ok : all-pass (placed F f) (F .n) ≡ 
       earlier x h (inl e) = absurd (not-true (has (F .mask k) x) .0 e h)
       earlier x h (inr e) = ltb→lt _ _ (pass _ e)
 
-  abbrev named : Order (F .n)
+  abbrev pub named : Order (F .n)
   named = record {
     at = f;
     pos = f;
@@ -69,7 +69,7 @@ module _ (F : Profile) (f : ℕ → ℕ) (ok : all-pass (placed F f) (F .n) ≡ 
     at-pos = λ k l. place k l .undone;
   }
 
-  named-is : TheOrder F named
+  pub named-is : TheOrder F named
   named-is = as-computed F (no-loop named (λ b a l m h. place a m .after b l h)) named (λ k l. place k l .computed)
 
 -- ---- an image that passes 1 to 7, by tests
@@ -84,7 +84,7 @@ none-named m n b l h e =
     true≢false (sym wrong)
 
 -- of one action: spare bits clear, deadline and mask in range, times in order
-orderly : List ℕ → ℕ → Bool
+unfoldable pub orderly : List ℕ → ℕ → Bool
 orderly s a =
     let F = profile s in
     eqb (spare-of s a) 0
@@ -93,7 +93,7 @@ orderly s a =
     && (all-pass (λ q. leb (F .average a q) (F .worst a q)) (F .levels)
     && (all-pass (λ q. leb (F .average a q) (F .average a (suc q))) (F .levels - 1) && all-pass (λ q. leb (F .worst a q) (F .worst a (suc q))) (F .levels - 1)))))
 
-plain : List ℕ → Bool
+unfoldable pub plain : List ℕ → Bool
 plain s =
     let F = profile s in
     leb 6 (length s)
@@ -188,7 +188,7 @@ module _ (s : List ℕ) (ok : plain s ≡ true) where
   table (a, l, inr (inr h)) = plain-is .each a l .worst h
 
   -- With an order, all that is left is refusal 9, by limit (0, 0).
-  number : (o : Order (profile s .n)) → TheOrder (profile s) o → (b : Bool) → leZ (pos 0) (limit (tables (profile s) o) 0 0) ≡ b → First (image-checks s) (cond b 0 9)
+  pub number : (o : Order (profile s .n)) → TheOrder (profile s) o → (b : Bool) → leZ (pos 0) (limit (tables (profile s) o) 0 0) ≡ b → First (image-checks s) (cond b 0 9)
   number o x b e =
       inr (plain-is .short, inr (plain-is .version-is, inr (plain-is .count, inr (plain-is .size, inr (spares, inr (ranges, inr (table, inr (order-loopless x, last b e))))))))
     where
