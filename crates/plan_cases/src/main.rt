@@ -16,7 +16,19 @@ fn read_file(name: &[u8], out: &mut [u8]) -> usize
 
 // Whether the plan of a case is what its file says.
 fn agrees(hundreds: u8, tens: u8, ones: u8) -> bool {
-    let profile = [hundreds, tens, ones, b'.', b'p', b'r', b'o', b'f', b'i', b'l', b'e'];
+    let profile = [
+        hundreds,
+        tens,
+        ones,
+        b'.',
+        b'p',
+        b'r',
+        b'o',
+        b'f',
+        b'i',
+        b'l',
+        b'e',
+    ];
     let plan = [hundreds, tens, ones, b'.', b'p', b'l', b'a', b'n'];
     let mut image = io::buffer();
     let n = read_file(&profile, &mut image);
@@ -31,7 +43,11 @@ fn main() {
     let mut agreed: u64 = 0;
     let mut case: u64 = 0;
     while case < 71 {
-        if agrees(b'0' + (case / 100 % 10) as u8, b'0' + (case / 10 % 10) as u8, b'0' + (case % 10) as u8) {
+        if agrees(
+            b'0' + (case / 100 % 10) as u8,
+            b'0' + (case / 10 % 10) as u8,
+            b'0' + (case % 10) as u8,
+        ) {
             agreed += 1;
         }
         case += 1;

@@ -1,11 +1,9 @@
 -- Tables that agree at every position and level have the same limits and the same coast bounds. Assumes nothing.
-use Prim.Native.Nat.{ℕ, zero, suc, _+_, _-_, _*_, _≤_, _<_, max}
-use mathlib.Core.Path.{_≡_, refl, sym, ap, _∙_}
-use mathlib.Core.List.{List}
+use Prim.Native.Nat.{ℕ, zero, suc, _+_, _-_, _≤_, _<_}
+use mathlib.Core.Path.{_≡_, sym, _∙_}
 use native.Mathlib.Nat.{le-refl}
 use native.Mathlib.Omega.{arith}
 use lib.IntN.{ℤ, pos, _-ℤ_}
-use lib.ListN.{length, getD}
 use Rattle.rules.specs.Words.{sum, greatest-of, least-of, rows}
 use Rattle.rules.specs.Limits.{Tables, safe, average, margin, mixed, limit}
 use Rattle.rules.proofs.Sums.{sum-same}

@@ -8,12 +8,12 @@ use lib.ListN.{length, getD}
 use Rattle.rules.specs.Words.{tab, rows}
 use Rattle.rules.specs.Image.{profile}
 use Rattle.rules.specs.Order.{Order}
-use Rattle.rules.specs.Limits.{Tables, tables, limit}
+use Rattle.rules.specs.Limits.{tables, limit}
 use Rattle.fields.specs.Fields.{splice}
 use Rattle.fields.proofs.Bytes.{Bytes}
 use Rattle.fields.proofs.Tabs.{tab-ext}
 use Rattle.rows.specs.Bounds.{SmallTables, all-bounds}
-use Rattle.rows.proofs.Limits.{Lawful, limit-near}
+use Rattle.rows.proofs.Limits.{limit-near}
 use Rattle.rows.proofs.Planned.{Tabled, tabled, tabled-small, tabled-bounds}
 use Rattle.planner.specs.Planning.{coast-bounds, Given, Filled, Written}
 use Rattle.planner.proofs.Working.{lawful}

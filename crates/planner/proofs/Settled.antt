@@ -1,15 +1,15 @@
 -- What planning answers and leaves is settled by what it is given. Assumes nothing.
-use Prim.Native.Nat.{ℕ, _<_}
+use Prim.Native.Nat.{ℕ}
 use mathlib.Core.Path.{_≡_, refl, sym, ap, _∙_}
 use mathlib.Core.List.{List, [], _∷_}
 use mathlib.Core.Logic.{⊎-elim}
 use native.Mathlib.Decide.{ℕ-discrete}
 use borrow.Author.Tests.{ne-eqb}
 use lib.IntN.{ℤ}
-use Rattle.rules.specs.Words.{tab, rows}
+use Rattle.rules.specs.Words.{tab}
 use Rattle.rules.specs.Image.{Profile, due, profile}
 use Rattle.rules.specs.Order.{Order, TheOrder}
-use Rattle.rules.specs.Limits.{tables, limit}
+use Rattle.rules.specs.Limits.{tables}
 use Rattle.rules.specs.Refusals.{_when_, Count, Tight, kept, image-call}
 use Rattle.rules.proofs.Refusals.{Sound, first-one, accepted-parts}
 use Rattle.rules.proofs.Accepted.{some-level}
@@ -17,7 +17,7 @@ use Rattle.rules.proofs.Order.OfProfile.{order-settled}
 use Rattle.fields.specs.Fields.{splice}
 use Rattle.fields.proofs.Tabs.{tab-ext}
 use Rattle.planner.specs.declared.Planned.{Planned}
-use Rattle.planner.specs.Planning.{rooms, coast-bounds, Plans}
+use Rattle.planner.specs.Planning.{rooms, Plans}
 use Rattle.planner.proofs.Alike.{Alike, limits-alike, worst-alike, bounds-alike}
 
 -- two orders of one profile give the same tables
@@ -44,7 +44,8 @@ kept-one {A} k m new new′ old e same f g = f ∙ both (ℕ-discrete k 0) ∙ s
 
 module _ {s order : List ℕ} {limits : List ℤ} {worst : List ℕ} {bounds : List ℤ}
     {order₁ order₂ : List ℕ} {limits₁ limits₂ : List ℤ} {worst₁ worst₂ : List ℕ} {bounds₁ bounds₂ : List ℤ} {r t : Planned}
-    (x : Plans s order limits worst bounds order₁ limits₁ worst₁ bounds₁ r) (y : Plans s order limits worst bounds order₂ limits₂ worst₂ bounds₂ t) where
+    (x : Plans s order limits worst bounds order₁ limits₁ worst₁ bounds₁ r)
+    (y : Plans s order limits worst bounds order₂ limits₂ worst₂ bounds₂ t) where
   number : r .refusal .number ≡ t .refusal .number
   number =
       first-one (image-call s (rooms (profile s .n) (profile s .levels) order limits worst bounds)) (r .refusal .number) (t .refusal .number)

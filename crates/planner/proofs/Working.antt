@@ -23,7 +23,7 @@ use Rattle.image.proofs.Reading.{has-record}
 use Rattle.image.proofs.Checks.{has-records}
 use Rattle.rows.specs.Rows.{row-of, after-last}
 use Rattle.rows.proofs.Limits.{Lawful, Position, Worked, worked-none, worked-more, worked-done}
-use Rattle.planner.specs.Planning.{Given, Filled}
+use Rattle.planner.specs.Planning.{Given}
 
 -- The loop before it works the position in front of i: the row of limits at i, and the rows from i on in both tables.
 pub record Back (S : Tables) (n L : ℕ) (limits₀ : List ℤ) (worst₀ : List ℕ) (i : ℕ) (next limits : List ℤ) (worst : List ℕ) : Type 0 where
@@ -31,9 +31,6 @@ pub record Back (S : Tables) (n L : ℕ) (limits₀ : List ℤ) (worst₀ : List
   pub stored : worst ≡ splice worst₀ (i * L) (cat-from (λ k. tab (S .worst k) L) i n)
 
 module _ {s : List ℕ} {n L cycle : ℕ} {actions : List ℕ} {o : Order (profile s .n)} (g : Given s n L cycle actions o) where
-  S : Tables
-  S = tables (profile s) o
-
   sound : Sound s
   sound = accepted-sound s .0 (g .accepted)
 

@@ -4,7 +4,7 @@ use image::read;
 use image::whole;
 ghost use mathlib.Core.Path.{_≡_};
 ghost use mathlib.Core.List.{[], _∷_};
-ghost use Prim.Native.Nat.{ℕ, _+_, _*_, _≤_, _<_};
+ghost use Prim.Native.Nat.{_+_, _*_, _≤_};
 ghost use lib.ListN.{length, getD};
 ghost use Rattle.rules.specs.Words.{tab};
 ghost use Rattle.rules.specs.Image.{due, average-of, worst-of, profile};
@@ -205,7 +205,15 @@ pub fn plan(
     }
     let actions = checked.order;
     fill(
-        image, n, levels, cycle, &actions, order, limits, worst, bounds,
+        image,
+        n,
+        levels,
+        cycle,
+        &actions,
+        order,
+        limits,
+        worst,
+        bounds,
     );
     Planned {
         refusal,

@@ -16,6 +16,7 @@ few s needs h = by (accepted-parts s (17 when Tight needs ∷ []) 0 h)
   where
     at-most : {x y : ℕ} → (y < x → ⊥) → x ≤ y
     at-most n = omega arith
+
     by : (First (image-checks s) 0 × (_≢_ {A = ℕ} 0 0)) ⊎ (Sound s × First (17 when Tight needs ∷ []) 0) → (profile s .n ≤ 64) × (profile s .levels ≤ 8)
     by (inl x) = absurd (x .1 refl)
     by (inr x) = (at-most (λ l. x .0 .not-count (inl (inr (inl l)))), at-most (λ l. x .0 .not-count (inl (inr (inr (inr l))))))

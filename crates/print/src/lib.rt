@@ -41,7 +41,14 @@ fn put_limits(out: &mut [u8], at: usize, limits: &[i32], from: usize, levels: us
 }
 
 // Position, action and limits by level.
-fn put_position(out: &mut [u8], at: usize, i: usize, action: u8, limits: &[i32], levels: usize) -> usize
+fn put_position(
+    out: &mut [u8],
+    at: usize,
+    i: usize,
+    action: u8,
+    limits: &[i32],
+    levels: usize,
+) -> usize
     requires { ⌜ (at ≤ length (now out)) × (i < 64) × (levels ≤ 8) × (i * levels + levels ≤ length (now limits)) ⌝ }
     ensures { λ r. ⌜ r ≤ length (now (out .entry)) ⌝ }
 {
@@ -51,7 +58,14 @@ fn put_position(out: &mut [u8], at: usize, i: usize, action: u8, limits: &[i32],
     put_byte(out, last, b'\n')
 }
 
-fn put_positions(out: &mut [u8], at: usize, order: &[u8], limits: &[i32], n: usize, levels: usize) -> usize
+fn put_positions(
+    out: &mut [u8],
+    at: usize,
+    order: &[u8],
+    limits: &[i32],
+    n: usize,
+    levels: usize,
+) -> usize
     requires { ⌜ (at ≤ length (now out)) × (n ≤ 64) × (levels ≤ 8) × (n ≤ length (now order)) × (n * levels ≤ length (now limits)) ⌝ }
     ensures { λ r. ⌜ r ≤ length (now (out .entry)) ⌝ }
 {

@@ -53,4 +53,7 @@ module _ {n L cycle : ℕ} {m d a w before : List ℕ} where
       → Writes n L cycle m d a w before after′ (t .refusal .number) (t .bytes) → (r ≡ t) × (after ≡ after′)
   written-one {r = r} {t = t} x y =
       let (number, bytes, left) = writes-one x y in
-      (ap (λ (k : ℕ). record { refusal = record { number = k }; bytes = r .bytes }) number ∙ ap (λ (k : ℕ). record { refusal = t .refusal; bytes = k }) bytes, left)
+      (ap (λ (k : ℕ). made k (r .bytes)) number ∙ ap (made (t .refusal .number)) bytes, left)
+    where
+      made : ℕ → ℕ → Written
+      made k bytes = record { refusal = record { number = k }; bytes = bytes }

@@ -87,7 +87,7 @@ written-again {s} {m} {d} {a} {w} {m′} {d′} {a′} {w′} {before} {after} {
 
 -- ---- what writing accepts, reading unpacks to the same numbers
 
--- the answer and the slices of a reading that finds n, L, cycle and the tables t, u, v, x
+-- the reading into slices that hold m, d, a and w gives n, L, cycle and the tables, as far as they are of n actions at L levels
 pub record ReadsBack (n L cycle : ℕ) (masks deadlines averages worst m d a w m′ d′ a′ w′ : List ℕ) (r : Unpacked) : Type 0 where
   pub accepted : r .refusal .number ≡ 0
   pub actions-are : r .n ≡ n

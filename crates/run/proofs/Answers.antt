@@ -79,7 +79,8 @@ module _ (order : List ℕ) (limits bounds : List ℤ) where
   Keeps r (rules.refused k s) = s ≡ r
   Keeps r (rules.gives a q decided late s) = rules.in-range s ≡ true
 
-  given-ranged : (r : rules.Run) → 0 ≡ rules.ask-refusal order limits bounds r → rules.in-range (rules.given 16 (rules.lent (r .n) (r .levels) limits bounds) r) ≡ true
+  given-ranged : (r : rules.Run) → 0 ≡ rules.ask-refusal order limits bounds r
+      → rules.in-range (rules.given 16 (rules.lent (r .n) (r .levels) limits bounds) r) ≡ true
   unfolding rules.lent
   given-ranged r none =
       let o = askable order limits bounds r none .is-open in
@@ -92,8 +93,11 @@ module _ (order : List ℕ) (limits bounds : List ℤ) where
       P : Plan
       P = rules.lent (r .n) (r .levels) limits bounds
 
+      late : Bool
+      late = rules.decides r && not (rules.fits P (r .clock) (r .position))
+
       by : (b : Bool) → eqb (rules.ask-refusal order limits bounds r) 0 ≡ b → Keeps r (cond b
-          (rules.gives (getD order (r .position) 0) (rules.given 16 P r .level) (rules.decides r) (rules.decides r && not (rules.fits P (r .clock) (r .position))) (rules.given 16 P r))
+          (rules.gives (getD order (r .position) 0) (rules.given 16 P r .level) (rules.decides r) late (rules.given 16 P r))
           (rules.refused (rules.ask-refusal order limits bounds r) r))
       by true e = given-ranged r (sym (eqb-true _ _ e))
       by false e = refl
@@ -129,7 +133,8 @@ module _ (worst : List ℕ) (t : ℕ) where
           let ready = reportable worst t s (sym (eqb-true _ _ q)) in
           record {
             refused = λ some. absurd (some (ap (λ (x : rules.Next). x .number) e));
-            accepted = λ z. ap (λ (x : rules.Next). rules.in-range (x .run)) e ∙ facts-in-range _ (ended-in-range _ t s (ready .ranged) (ready .runs) (ready .in-time));
+            accepted = λ z. ap (λ (x : rules.Next). rules.in-range (x .run)) e
+                ∙ facts-in-range _ (ended-in-range _ t s (ready .ranged) (ready .runs) (ready .in-time));
           }
       by false q e = record {
         refused = λ some. run-of-one (a .run) r (ap (λ (x : rules.Next). x .run) e);
@@ -163,7 +168,8 @@ started-kept n L a e = by (eqb (rules.start-refusal n L) 0) refl e
     }
 
 -- on which each later call answers 11
-pub ask-not-begun : (order : List ℕ) (limits bounds : List ℤ) → rules.ask order limits bounds (rules.begun 0 0 0) ≡ rules.refused 11 (rules.begun 0 0 0)
+pub ask-not-begun : (order : List ℕ) (limits bounds : List ℤ)
+    → rules.ask order limits bounds (rules.begun 0 0 0) ≡ rules.refused 11 (rules.begun 0 0 0)
 unfolding rules.ask rules.ask-refusal rules.in-range rules.begun first every
 ask-not-begun order limits bounds = refl
 

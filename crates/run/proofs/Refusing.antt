@@ -42,7 +42,11 @@ module _ (order : List ℕ) (limits bounds : List ℤ) (r : Run) where
 
   loose : Room → tight ≡ false
   unfolding tight
-  loose f = rw (le-ltb (length order) (r .n) (f .orders), le-ltb (length limits) (r .n * r .levels) (f .limited), le-ltb (length bounds) (r .n * r .levels * 16) (f .bounded))
+  loose f = rw (
+    le-ltb (length order) (r .n) (f .orders),
+    le-ltb (length limits) (r .n * r .levels) (f .limited),
+    le-ltb (length bounds) (r .n * r .levels * 16) (f .bounded),
+  )
 
   abbrev Asking : ℕ → Type 0
   Asking k = k ≡ ask-refusal order limits bounds r
@@ -119,11 +123,13 @@ module _ (worst : List ℕ) (t : ℕ) (r : Run) where
 
         pub report-clock : r .clock ≤ t → 1073741823 < t → Reporting 13
         unfolding report-refusal first
-        report-clock l m = past _ _ _ (ap not h) (past _ _ _ (le-ltb _ _ f) (past _ _ _ (ap not runs) (past _ _ _ (le-ltb _ _ l) (into _ _ _ (lt-ltb _ _ m) refl))))
+        report-clock l m =
+            past _ _ _ (ap not h) (past _ _ _ (le-ltb _ _ f) (past _ _ _ (ap not runs) (past _ _ _ (le-ltb _ _ l) (into _ _ _ (lt-ltb _ _ m) refl))))
 
         pub report-none : r .clock ≤ t → t ≤ 1073741823 → Reporting 0
         unfolding report-refusal first
-        report-none l m = past _ _ _ (ap not h) (past _ _ _ (le-ltb _ _ f) (past _ _ _ (ap not runs) (past _ _ _ (le-ltb _ _ l) (past _ _ _ (le-ltb _ _ m) refl))))
+        report-none l m =
+            past _ _ _ (ap not h) (past _ _ _ (le-ltb _ _ f) (past _ _ _ (ap not runs) (past _ _ _ (le-ltb _ _ l) (past _ _ _ (le-ltb _ _ m) refl))))
 
   pub record Reportable : Type 0 where
     pub ranged : InRange r

@@ -81,7 +81,8 @@ module _ (order : List ℕ) (limits bounds : List ℤ) (r : Run) where
     unfolding ask given decides
     ask-decides next late z e l = into _ _ _ (eq-eqb _ _ (sym none)) (rw (eq-eqb (r .left) 0 z, e, l))
 
-    pub ask-coasts : (next : Run) → r .left ≢ 0 → next ≡ coast r → gives (getD order (r .position) 0) (r .level) false false next ≡ ask order limits bounds r
+    pub ask-coasts : (next : Run) → r .left ≢ 0 → next ≡ coast r
+        → gives (getD order (r .position) 0) (r .level) false false next ≡ ask order limits bounds r
     unfolding ask given decides
     ask-coasts next z e = into _ _ _ (eq-eqb _ _ (sym none)) (rw (ne-eqb (r .left) 0 z, e))
 

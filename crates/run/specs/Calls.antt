@@ -43,6 +43,8 @@ with-run (Given action level decided late) r = rules.gives action level decided 
 abbrev pub answer-of : Asked → rules.Answer
 answer-of a = with-run (a .answer) (run-of (a .run))
 
+-- ---- asked between the functions of this crate
+
 -- A record that may be asked: in its ranges, with no action running and one left, and the tables lent as long as it says.
 pub record Open (limits bounds : List ℤ) (r : rules.Run) : Type 0 where
   pub ranged : rules.in-range r ≡ true

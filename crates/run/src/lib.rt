@@ -131,7 +131,7 @@ impl Run {
         }
     }
 
-    // Whether each field is in its range. Positions and coasts too long are told apart first, so that their sums do not wrap.
+    // Whether each field is in its range. Too high a position and too long a coast are told first, so that their sum does not wrap.
     fn in_range(self) -> bool
         ensures { λ r. ⌜ r ≡ in-range (run-of self) ⌝ }
     {
@@ -168,7 +168,8 @@ impl Run {
     pub fn decided(self, limits: &[i32], bounds: &[i32]) -> Decided
         requires { ⌜ Open (now limits) (now bounds) (run-of self) ⌝ }
         ensures run { λ r. ⌜ run-of (r .run) ≡ decide 16 (lent (self .n) (self .levels) (now (limits .entry)) (now (bounds .entry))) (run-of self) ⌝ }
-        ensures late { λ r. ⌜ r .late ≡ not (fits (lent (self .n) (self .levels) (now (limits .entry)) (now (bounds .entry))) (self .clock) (self .position)) ⌝ }
+        ensures late { λ r. ⌜ r .late
+            ≡ not (fits (lent (self .n) (self .levels) (now (limits .entry)) (now (bounds .entry))) (self .clock) (self .position)) ⌝ }
     {
         let n = self.n as usize;
         let levels = self.levels as usize;

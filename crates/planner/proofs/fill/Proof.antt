@@ -24,7 +24,7 @@ bounds-requires c κs =
     let lengths = worked .work .kept .1 .1 .1 .1 .1 in
     let bytes : Bytes (start .args .image .now) = λ k. known .shared-slice-known .given k .fits in (
       filled-small (given .1) _ _ (omega (arith, start .pre .1 .0 .1, lengths .0)) (omega (arith, start .pre .1 .1 .0, lengths .1 .0))
-      (worked .work .ensures (given .0) (given .1)) bytes,
+          (worked .work .ensures (given .0) (given .1)) bytes,
       start .pre .1 .1 .1,
     )
 

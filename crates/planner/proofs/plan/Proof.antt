@@ -50,8 +50,8 @@ returns-2 c =
 -- 17 is not given
 room : (c : tie.Else2) → let checked = c .before .before .before .before .before .before .before .before .before in
     let a = checked .before .before .before .before .args in
-    First (17 when Tight (rooms (checked .checked .result .n) (checked .checked .result .levels) (a .order .now) (a .limits .now) (a .worst .now) (a .bounds .now))
-    ∷ []) 0
+    let r = checked .checked .result in
+    First (17 when Tight (rooms (r .n) (r .levels) (a .order .now) (a .limits .now) (a .worst .now) (a .bounds .now)) ∷ []) 0
 room c = rw (c .if2 .left) at (c .before .tight .ensures)
 
 fill-requires : tie.Need-fill-requires

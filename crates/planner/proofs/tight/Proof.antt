@@ -3,7 +3,6 @@ use mathlib.Core.Path.{refl}
 use mathlib.Core.Logic.{inl, inr, ⊎-elim}
 use native.Mathlib.Nat.{mul-le-mul}
 use native.Mathlib.Omega.{arith}
-use borrow.Author.Needs.{needs}
 use Rattle.planner.proofs.tight.Statement.{statement}
 use Rattle.planner.proofs.tight.Tie as tie
 

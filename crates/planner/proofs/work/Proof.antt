@@ -1,6 +1,6 @@
 -- Before a turn the positions from i on are worked, by whichever order the actions are in. Assumes nothing.
 use mathlib.Core.Path.{_≡_, _∙_}
-use Prim.Native.Nat.{_-_, _*_, _+_, _≤_, _<_}
+use Prim.Native.Nat.{_-_, _*_, _+_, _≤_}
 use native.Mathlib.Nat.{mul-le-mul}
 use native.Mathlib.Omega.{arith}
 use borrow.Author.Needs.{needs}
@@ -22,7 +22,8 @@ Inv-loop image n levels cycle actions limits₀ worst₀ next₀ i₀ limits wor
     (i ≤ n)
     × (length limits ≡ length limits₀)
     × (length worst ≡ length worst₀)
-    × ((o : Order (profile image .n)) → Given image n levels cycle actions o → Back (tables (profile image) o) n levels limits₀ worst₀ i next limits worst)
+    × ((o : Order (profile image .n)) → Given image n levels cycle actions o
+    → Back (tables (profile image) o) n levels limits₀ worst₀ i next limits worst)
 
 abbrev μ-loop : tie.MeasureT-loop
 μ-loop image n levels cycle actions limits₀ worst₀ next₀ i₀ limits worst next i = i
@@ -49,7 +50,8 @@ times : (c : tie.After-worsts Inv-loop μ-loop) → let a = c .before .before .b
     (c .before .before .times-of .result .averages) (c .before .before .times-of .result .worsts) (c .before .before .before .due-at .result)
 times c o g =
     let read = c .before .before .times-of .ensures in
-    position g (c .before .before .before .before .before .before .loop .i - 1) (omega arith) (c .before .before .before .due-at .ensures) (read .0) (read .1)
+    let i = c .before .before .before .before .before .before .loop .i in
+    position g (i - 1) (omega arith) (c .before .before .before .due-at .ensures) (read .0) (read .1)
 
 after-last-requires : tie.Need-after-last-requires Inv-loop μ-loop
 after-last-requires c κs = search needs

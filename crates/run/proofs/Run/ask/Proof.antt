@@ -10,10 +10,12 @@ use Rattle.run.proofs.Run.ask.Statement.{statement}
 use Rattle.run.proofs.Run.ask.Tie as tie
 
 -- after the test of the refusal
-none : (c : tie.Else1) → let a = c .before .before .before .args in 0 ≡ ask-refusal (a .order .now) (a .limits .now) (a .bounds .now) (run-of (a .self))
+none : (c : tie.Else1) → let a = c .before .before .before .args in
+    0 ≡ ask-refusal (a .order .now) (a .limits .now) (a .bounds .now) (run-of (a .self))
 none c = sym (c .if1 .left) ∙ c .before .ask-refusal .ensures
 
-ready : (c : tie.Else1) → let a = c .before .before .before .args in Askable (a .order .now) (a .limits .now) (a .bounds .now) (run-of (a .self))
+ready : (c : tie.Else1) → let a = c .before .before .before .args in
+    Askable (a .order .now) (a .limits .now) (a .bounds .now) (run-of (a .self))
 ready c = askable _ _ _ _ (none c)
 
 ask-refusal-requires : tie.Need-ask-refusal-requires

@@ -52,8 +52,9 @@ either-requires c κs = search needs
 
 returns : tie.Need-returns
 returns c =
-    decided-is _ _ (run-of (c .before .before .before .before .before .before .before .before .args .self)) _ _ _ _ (c .before .before .before .before .level-given .ensures) (c .before .before .before .within .ensures)
-    (c .before .before .left-granted .ensures) (c .either .ensures)
+    let level = c .before .before .before .before in
+    decided-is _ _ (run-of (level .before .before .before .before .args .self)) _ _ _ _ (level .level-given .ensures)
+    (c .before .before .before .within .ensures) (c .before .before .left-granted .ensures) (c .either .ensures)
 
 pub decided-spec : {M : Type 1} → statement M
 decided-spec =

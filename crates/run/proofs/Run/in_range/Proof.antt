@@ -3,9 +3,13 @@ use mathlib.Core.Path.{sym, _∙_}
 use native.Mathlib.Omega.{arith}
 use borrow.Author.Needs.{needs}
 use Rattle.rules.proofs.Calls.{facts-in-range}
-use Rattle.run.proofs.Ranges.{counts, counts-in, out-of-range}
+use Rattle.run.proofs.Ranges.{Counts, counts, counts-in, out-of-range}
 use Rattle.run.proofs.Run.in_range.Statement.{statement}
 use Rattle.run.proofs.Run.in_range.Tie as tie
+
+-- after the first test
+counted : (c : tie.Else1) → let r = c .before .before .args .self in Counts (r .n) (r .levels)
+counted c = counts _ _ (sym (c .before .start-refusal .ensures) ∙ c .if1 .left)
 
 start-refusal-requires : tie.Need-start-refusal-requires
 start-refusal-requires c κs = search needs
@@ -31,10 +35,10 @@ one-if-requires : tie.Need-one-if-requires
 one-if-requires c κs = search needs
 
 add-asked : tie.Need-add-asked
-add-asked c = omega (arith, counts _ _ (sym (c .before .before .before .before .start-refusal .ensures) ∙ c .before .before .before .if1 .left))
+add-asked c = omega (arith, counted (c .before .before .before))
 
 add-if4 : tie.Need-add-if4
-add-if4 c = omega (arith, counts _ _ (sym (c .before .before .before .before .start-refusal .ensures) ∙ c .before .before .before .if1 .left))
+add-if4 c = omega (arith, counted (c .before .before .before))
 
 returns-4 : tie.Need-returns-4
 returns-4 c = out-of-range _ (λ f. omega arith)
@@ -50,7 +54,7 @@ returns-7 c = out-of-range _ (λ f. omega arith)
 
 returns-8 : tie.Need-returns-8
 returns-8 c =
-    let k = counts _ _ (sym (c .before .before .before .before .before .before .before .before .before .before .before .start-refusal .ensures) ∙ c .before .before .before .before .before .before .before .before .before .before .if1 .left) in
+    let k = counted (c .before .before .before .before .before .before .before .before .before .before) in
     sym (facts-in-range _ (record {
       some-action = k .some-action;
       few = k .few;

@@ -1,0 +1,4 @@
+pub mod Onward
+pub mod Readiness
+pub mod Refusing
+pub mod Drying

@@ -1,0 +1,140 @@
+-- The row of refusals of the dry run, and what is known where none is given. Assumes nothing.
+use Prim.Native.Nat.{ℕ, zero, suc, _+_, _*_, _≤_, _<_}
+use mathlib.Core.Path.{_≡_, refl, sym, _∙_}
+use mathlib.Core.Bool.{Bool, true, false, _&&_, true≢false, false≢true}
+use mathlib.Core.List.{List}
+use mathlib.Core.Logic.{inl, inr, ⊎-elim}
+use native.Mathlib.Nat.{mul-le-mul}
+use native.Mathlib.Numerals.{add-one}
+use native.Mathlib.Omega.{arith}
+use lib.Dec.{leb, lit<}
+use lib.ListN.{length, getD}
+use borrow.Author.Tests.{leb-true, leb-false}
+use Rattle.rules.specs.Words.{all-pass}
+use Rattle.rules.specs.Refusals.{First, CountsOut, Tight}
+use Rattle.rules.specs.Run.{begun}
+use Rattle.rules.specs.Dry.{dry-call}
+use Rattle.rules.proofs.Tests.{failed, and-true, not-both, all-pass-each}
+use Rattle.rules.proofs.Refusals.{None, first-none}
+use Rattle.rules.proofs.Calls.{facts-in-range, begun-in-range}
+use Rattle.run.proofs.Ranges.{Counts}
+use Rattle.dry.specs.Dry.{Tables, needed, rooms}
+use Rattle.dry.specs.Cycle.{Says, Ready}
+
+module _ {A : Type 0} where
+  pub yes-said : (b : Bool) → Says b A → b ≡ true → A
+  yes-said true h e = h
+  yes-said false h e = absurd (false≢true e)
+
+  pub no-said : (b : Bool) → Says b A → b ≡ false → A → ⊥
+  no-said true h e = absurd (true≢false e)
+  no-said false h e = h
+
+-- ---- 3
+
+pub counts : {n L : ℕ} → (CountsOut n L → ⊥) → Counts n L
+counts {n} {L} out =
+    let a : (n < 1 → ⊥) = λ h. out (inl h) in
+    let b : (64 < n → ⊥) = λ h. out (inr (inl h)) in
+    let c : (L < 1 → ⊥) = λ h. out (inr (inr (inl h))) in
+    let d : (8 < L → ⊥) = λ h. out (inr (inr (inr h))) in
+    record { some-action = omega arith; few = omega arith; some-level = omega arith; few-levels = omega arith }
+
+pub counts-in : {n L : ℕ} → Counts n L → CountsOut n L → ⊥
+counts-in c = ⊎-elim (λ h. omega arith) (⊎-elim (λ h. omega arith) (⊎-elim (λ h. omega arith) (λ h. omega arith)))
+
+pub few-cells : {n L : ℕ} → Counts n L → n * L ≤ 512
+few-cells c = mul-le-mul (c .few) (c .few-levels)
+
+-- ---- 17
+
+pub record Room (n cells limits worst bounds durations given marks : ℕ) : Type 0 where
+  pub limited : cells ≤ limits
+  pub timed : cells ≤ worst
+  pub bounded : cells * 16 ≤ bounds
+  pub lasting : cells ≤ durations
+  pub gives : n ≤ given
+  pub marked : n ≤ marks
+
+module _ (n cells limits worst bounds durations given marks : ℕ) where
+  abbrev Short : Type 0
+  Short = Tight (needed n cells limits worst bounds durations given marks)
+
+  pub room : (Short → ⊥) → Room n cells limits worst bounds durations given marks
+  room out =
+      let a : (limits < cells → ⊥) = λ h. out (inl h) in
+      let b : (worst < cells → ⊥) = λ h. out (inr (inl h)) in
+      let c : (bounds < cells * 16 → ⊥) = λ h. out (inr (inr (inl h))) in
+      let d : (durations < cells → ⊥) = λ h. out (inr (inr (inr (inl h)))) in
+      let e : (given < n → ⊥) = λ h. out (inr (inr (inr (inr (inl h))))) in
+      let f : (marks < n → ⊥) = λ h. out (inr (inr (inr (inr (inr (inl h)))))) in
+      record { limited = omega arith; timed = omega arith; bounded = omega arith; lasting = omega arith; gives = omega arith; marked = omega arith }
+
+  pub room-in : Room n cells limits worst bounds durations given marks → Short → ⊥
+  room-in r =
+      ⊎-elim (λ h. omega arith) (⊎-elim (λ h. omega arith) (⊎-elim (λ h. omega arith)
+      (⊎-elim (λ h. omega arith) (⊎-elim (λ h. omega arith) (⊎-elim (λ h. omega arith) (λ h. h))))))
+
+-- ---- 16
+
+abbrev pub short : List ℕ → ℕ → Bool
+short durations k = leb (getD durations k 0) 16777215
+
+module _ (test : ℕ → Bool) where
+  pub all-pass-more : (k : ℕ) → all-pass test k ≡ true → test k ≡ true → all-pass test (k + 1) ≡ true
+  unfolding all-pass
+  all-pass-more k h t = rw add-one (and-true (all-pass test k) (test k) .1 (h, t))
+
+  pub all-pass-not : (m k : ℕ) → k < m → test k ≡ false → false ≡ all-pass test m
+  all-pass-not m k l f = sym (failed (all-pass test m) (λ h. not-both (all-pass-each test m h k l) f))
+
+  one-fails : (m : ℕ) → all-pass test m ≡ false → (k : ℕ) × (k < m) × (test k ≡ false)
+  unfolding all-pass
+  one-fails zero h = absurd (true≢false h)
+  one-fails (suc m) h = by (all-pass test m) (test m) refl refl h (one-fails m)
+    where
+      by : (a b : Bool) → all-pass test m ≡ a → test m ≡ b → a && b ≡ false → (all-pass test m ≡ false → (k : ℕ) × (k < m) × (test k ≡ false))
+          → (k : ℕ) × (k < suc m) × (test k ≡ false)
+      by true b p q h ih = (m, omega arith, q ∙ h)
+      by false b p q h ih = let e = ih p in (e .0, omega (arith, e .1), e .2)
+
+-- an entry above 16,777,215
+abbrev Long : ℕ → List ℕ → Type 0
+Long cells durations = (k : ℕ) × (k < cells) × (16777215 < getD durations k 0)
+
+pub one-long : (cells : ℕ) (durations : List ℕ) → all-pass (short durations) cells ≡ false → Long cells durations
+one-long cells durations h = let e = one-fails (short durations) cells h in (e .0, e .1, leb-false (getD durations (e .0) 0) 16777215 (e .2))
+
+pub none-long : (cells : ℕ) (durations : List ℕ) → all-pass (short durations) cells ≡ true → Long cells durations → ⊥
+none-long cells durations h e =
+    omega (arith, e .2, leb-true (getD durations (e .0) 0) 16777215 (all-pass-each (short durations) cells h (e .0) (e .1)))
+
+-- ---- where none is given
+
+module _ (n L : ℕ) (T : Tables) (given marks : ℕ) (none : First (dry-call n L (T .durations) (rooms n L T given marks)) 0) where
+  none-of : None (dry-call n L (T .durations) (rooms n L T given marks))
+  none-of = first-none (dry-call n L (T .durations) (rooms n L T given marks)) (lit< tt, (lit< tt, (lit< tt, tt))) .0 none
+
+  pub is-counted : Counts n L
+  is-counted = counts (none-of .0)
+
+  pub ready-begun : Ready T given marks (begun n L 0)
+  unfolding begun
+  ready-begun =
+      let c = is-counted in
+      let r = room n (n * L) (length (T .limits)) (length (T .worst)) (length (T .bounds)) (length (T .durations)) given marks (none-of .1 .0) in
+      record {
+        ranged = facts-in-range _ (begun-in-range n L 0 (c .some-action) (c .few) (c .some-level) (c .few-levels) (omega arith));
+        waits = refl;
+        limited = r .limited;
+        timed = r .timed;
+        bounded = r .bounded;
+        lasting = r .lasting;
+        gives = r .gives;
+        marked = r .marked;
+        early = omega arith;
+        short = λ k l. at-most k (λ h. none-of .1 .1 .0 (k, l, h));
+      }
+    where
+      at-most : (k : ℕ) → (16777215 < getD (T .durations) k 0 → ⊥) → getD (T .durations) k 0 ≤ 16777215
+      at-most k h = omega arith

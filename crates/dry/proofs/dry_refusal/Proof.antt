@@ -1,0 +1,55 @@
+-- The row of refusals, ground by ground. Assumes nothing.
+use mathlib.Core.Path.{refl, sym, _∙_}
+use mathlib.Core.Logic.{inl, inr}
+use native.Mathlib.Omega.{arith}
+use borrow.Author.Needs.{needs}
+use Rattle.rules.specs.Refusals.{CountsOut, Tight}
+use Rattle.dry.specs.Dry.{tables, rooms}
+use Rattle.dry.proofs.Refusing.{yes-said, no-said, counts, few-cells, room, one-long, none-long}
+use Rattle.dry.proofs.dry_refusal.Statement.{statement}
+use Rattle.dry.proofs.dry_refusal.Tie as tie
+
+-- after the first test and after the second
+counted : (c : tie.Else1) → let a = c .before .before .before .before .args in CountsOut (a .n) (a .levels) → ⊥
+counted c = no-said _ (c .before .counts-out .ensures) (c .if1 .left)
+
+roomy : (c : tie.Else2) → let a = c .before .before .before .before .before .before .args in
+    Tight (rooms (a .n) (a .levels) (tables (a .limits .now) (a .worst .now) (a .bounds .now) (a .durations .now)) (a .given) (a .marks)) → ⊥
+roomy c = no-said _ (c .before .tight .ensures) (c .if2 .left)
+
+counts-out-requires : tie.Need-counts-out-requires
+counts-out-requires c κs = search needs
+
+returns : tie.Need-returns
+returns c = inl (yes-said _ (c .before .counts-out .ensures) (c .if1 .taken), refl)
+
+mul-cells : tie.Need-mul-cells
+mul-cells c = omega (arith, few-cells (counts (counted c)))
+
+tight-requires : tie.Need-tight-requires
+tight-requires c κs = omega (arith, few-cells (counts (counted c)))
+
+returns-2 : tie.Need-returns-2
+returns-2 c = inr (counted (c .before .before), inl (yes-said _ (c .before .tight .ensures) (c .if2 .taken), refl))
+
+all-short-requires : tie.Need-all-short-requires
+all-short-requires c κs = room _ _ _ _ _ _ _ _ (roomy c) .lasting
+
+returns-3 : tie.Need-returns-3
+returns-3 c =
+    let a = c .before .before .before .before .before .before .before .before .args in
+    inr (
+      counted (c .before .before .before .before),
+      inr (roomy (c .before .before), inr (none-long _ (a .durations .now) (sym (c .before .all-short .ensures) ∙ c .if3 .taken), refl)),
+    )
+
+returns-4 : tie.Need-returns-4
+returns-4 c =
+    let a = c .before .before .before .before .before .before .before .before .args in
+    inr (
+      counted (c .before .before .before .before),
+      inr (roomy (c .before .before), inl (one-long _ (a .durations .now) (sym (c .before .all-short .ensures) ∙ c .if3 .left), refl)),
+    )
+
+pub dry-refusal-spec : {M : Type 1} → statement M
+dry-refusal-spec = tie.close (tie.spec counts-out-requires returns mul-cells tight-requires returns-2 all-short-requires returns-3 returns-4)

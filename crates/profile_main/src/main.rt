@@ -1,0 +1,147 @@
+// Runs the calls on a profile: Three written and read back, and each refusal with a neighbour that is accepted.
+ghost use Prim.Native.Nat.{_<_};
+
+fn main() {
+    write_three();
+    read_three();
+    let image = one();
+    say(1, check_front(&image, 5), check_front(&image, 24));
+    say(2, check_with(0, 0x20), check_with(0, 0x10));
+    say(3, check_with(5, 0), check_with(5, 8));
+    say(4, check_front(&image, 23), check_front(&image, 24));
+    say(5, check_with(5, 9), check_with(5, 8));
+    say(6, check_with(17, 8), check_with(17, 4));
+    say(7, check_with(20, 1), check_with(20, 0));
+    say(8, check_with(13, 1), check_with(13, 0));
+    say(9, check_with(23, 2), check_with(23, 1));
+    say(15, lookup_one(1), lookup_one(0));
+    let mut tight = [0u32; 5];
+    let mut enough = [0u32; 6];
+    say(17, read_into(&mut tight), read_into(&mut enough));
+}
+
+// A line on a refusal: the number wanted, what an image got, and what its neighbour got.
+fn say(number: u32, refused: u32, accepted: u32) {
+    io::print_decimal(1, number as u64);
+    if refused != number {
+        io::write_all(1, b" not refused\n");
+        return;
+    }
+    if accepted != 0 {
+        io::write_all(1, b" refused, neighbour refused too\n");
+        return;
+    }
+    io::write_all(1, b" refused, neighbour accepted\n");
+}
+
+// ---- one action at one level, cycle 1, all times 0
+
+fn one() -> [u8; 24] {
+    *b"\x10\x22\x00\x00\x00\x08\
+\x00\x00\x00\x00\x00\x00\x00\x00\x00\x00\x00\x00\x00\x00\x00\x00\x00\x00"
+}
+
+// The check of an image's first bytes, of all of it where it has no more.
+fn check_front(image: &[u8], bytes: usize) -> u32 {
+    if image.len() < bytes {
+        return profile::check(image).number;
+    }
+    profile::check(&image[..bytes]).number
+}
+
+// The check of the image with one byte changed.
+fn check_with(at: usize, byte: u8) -> u32
+    requires { ⌜ at < 24 ⌝ }
+{
+    let mut image = one();
+    image[at] = byte;
+    profile::check(&image).number
+}
+
+// The refusal of a lookup; 99 where the part's length is not that of a record, or of nothing with a refusal.
+fn lookup_one(action: usize) -> u32 {
+    let image = one();
+    let number = profile::lookup_refusal(&image, action).number;
+    let bytes = profile::lookup(&image, action).len();
+    if number == 0 {
+        return if bytes == 18 { 0 } else { 99 };
+    }
+    if bytes == 0 { number } else { 99 }
+}
+
+// ---- Three: a chain 0, 1, 2; cycle 20; deadlines 0; 2 and 4 at level 0, 6 and 8 at level 1
+
+fn three() -> [u8; 78] {
+    *b"\x10\x64\x00\x00\x00\xa0\
+\x00\x00\x00\x00\x00\x00\x00\x00\x00\x00\x00\x00\x00\x00\x02\x00\x00\x04\x00\x00\x06\x00\x00\x08\
+\x00\x00\x00\x00\x00\x00\x00\x01\x00\x00\x00\x00\x00\x00\x02\x00\x00\x04\x00\x00\x06\x00\x00\x08\
+\x00\x00\x00\x00\x00\x00\x00\x02\x00\x00\x00\x00\x00\x00\x02\x00\x00\x04\x00\x00\x06\x00\x00\x08"
+}
+
+fn write_three() {
+    let masks = [0u64, 1, 2];
+    let deadlines = [0u32; 3];
+    let averages = [2u32, 6, 2, 6, 2, 6];
+    let worst = [4u32, 8, 4, 8, 4, 8];
+    let mut image = [0u8; 78];
+    let written = profile::write(3, 2, 20, &masks, &deadlines, &averages, &worst, &mut image);
+    if written.refusal.number == 0 {
+        if check::same(&image, &three()) {
+            io::write_all(1, b"three written ");
+            io::print_decimal(1, written.bytes as u64);
+            io::write_all(1, b"\n");
+        }
+    }
+}
+
+fn read_three() {
+    let image = three();
+    let mut masks = [9u64; 3];
+    let mut deadlines = [9u32; 3];
+    let mut averages = [9u32; 6];
+    let mut worst = [9u32; 6];
+    let answer = profile::read(
+        &image,
+        &mut masks,
+        &mut deadlines,
+        &mut averages,
+        &mut worst,
+    );
+    if answer.refusal.number == 0 && answer.n == 3 && answer.levels == 2 && answer.cycle == 20 {
+        if chained(&masks)
+            && unset(&deadlines)
+            && rows_of(&averages, 2, 6)
+            && rows_of(&worst, 4, 8)
+        {
+            io::write_all(1, b"three read back\n");
+        }
+    }
+}
+
+// The refusal of reading it, with this much room for the worst times.
+fn read_into(worst: &mut [u32]) -> u32 {
+    let image = three();
+    let mut masks = [0u64; 3];
+    let mut deadlines = [0u32; 3];
+    let mut averages = [0u32; 6];
+    profile::read(&image, &mut masks, &mut deadlines, &mut averages, worst)
+        .refusal
+        .number
+}
+
+fn chained(masks: &[u64; 3]) -> bool {
+    masks[0] == 0 && masks[1] == 1 && masks[2] == 2
+}
+
+fn unset(deadlines: &[u32; 3]) -> bool {
+    deadlines[0] == 0 && deadlines[1] == 0 && deadlines[2] == 0
+}
+
+fn rows_of(times: &[u32; 6], low: u32, high: u32) -> bool {
+    times[0] == low
+        && times[1] == high
+        && times[2] == low
+        && times[3] == high
+        && times[4] == low
+        && times[5] == high
+}

@@ -1,0 +1,4 @@
+pub mod Tables
+pub mod Grounds
+pub mod Unpacked
+pub mod Answers

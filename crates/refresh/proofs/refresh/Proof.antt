@@ -1,0 +1,40 @@
+-- Assumes nothing.
+use denote.Ref.{now}
+use lib.ListN.{length}
+use borrow.Author.Needs.{needs}
+use borrow.Author.Tests.{ne-eqb}
+use Rattle.rules.specs.Image.{profile}
+use Rattle.rules.specs.Refusals.{image-checks}
+use Rattle.rules.proofs.Refusals.{first-stops}
+use Rattle.refresh.specs.Refresh.{own}
+use Rattle.refresh.proofs.refresh.Statement.{statement}
+use Rattle.refresh.proofs.refresh.Tie as tie
+
+checked-requires : tie.Need-checked-requires
+checked-requires c κs = search needs
+
+returns : tie.Need-returns
+returns c =
+    let x = c .before .before .before .before .before .before .before .args in
+    let s = now (x .image) in
+    let rest = own (profile s) (now (x .trace)) (length s) (length (now (x .out))) in
+    let r = c .before .before .before .checked in
+    let some = ne-eqb (r .result .refusal .number) 0 (c .if1 .taken) in
+    record { given = first-stops (image-checks s) rest _ (r .ensures .number) (c .if1 .taken); written = rw some; count = rw some }
+
+refresh-accepted-requires : tie.Need-refresh-accepted-requires
+refresh-accepted-requires c κs =
+    let r = c .before .before .before .before .checked in
+    let none = c .before .if1 .left in
+    let found = r .ensures .accepted none in
+    (rw none at (r .ensures .number), (found .n, found .levels, found .cycle))
+
+same-length : tie.Need-same-length
+same-length c = search needs
+
+returns-2 : tie.Need-returns-2
+returns-2 c = search needs
+
+pub refresh-spec : {M : Type 1} → statement M
+refresh-spec =
+    tie.close (tie.spec checked-requires returns refresh-accepted-requires same-length returns-2)

@@ -1,0 +1,131 @@
+-- What the speed reading answers: a refusal, or the reading by the profile's order; and that its contract settles it. Assumes nothing.
+use Prim.Native.Nat.{ℕ, _≤_, _<_}
+use mathlib.Core.Path.{_≡_, refl, sym, ap, _∙_}
+use mathlib.Core.List.{List}
+use mathlib.Core.Logic.{_≢_, inl, inr}
+use native.Mathlib.Decide.{ℕ-discrete}
+use native.Mathlib.Omega.{arith}
+use lib.Dec.{lit<}
+use lib.IntN.{pos, _-ℤ_}
+use lib.ListN.{getD}
+use Rattle.rules.specs.Image.{due, profile}
+use Rattle.rules.specs.Refusals.{First, image-checks}
+use Rattle.rules.specs.Speed.{reading-by, speed-call}
+use Rattle.rules.proofs.Refusals.{Sound, first-one, first-none, first-stops, first-goes-on, image-numbered, accepted-parts}
+use Rattle.rules.proofs.Order.OfProfile.{order-settled}
+use Rattle.image.specs.declared.Checked.{Checked}
+use Rattle.image.specs.Checks.{Judged}
+use Rattle.image.proofs.Reading.{has-record}
+use Rattle.image.proofs.Answers.{accepted-records}
+use Rattle.ratio.specs.declared.Reading.{Reading}
+use Rattle.ratio.specs.declared.Reading.the-variants.{Refused}
+use Rattle.ratio.specs.declared.Stretch.{Stretch}
+use Rattle.ratio.specs.Ratio.{gives, refuses, reading-of}
+use Rattle.ratio.specs.Stretch.{Of}
+use Rattle.ratio.proofs.Answers.{reading-one}
+use Rattle.ratio.proofs.Stretches.{reading-is}
+use Rattle.speed.specs.Speed.{Reads, own-checks, listed, Readable}
+use Rattle.speed.proofs.Alike.{same-actions, reading-same}
+
+-- ---- the call's own refusals
+
+-- with neither 18 nor 13 the positions, the level and the clock are in range
+pub record InRange (n levels i k q t : ℕ) : Type 0 where
+  pub ordered : i ≤ k
+  pub position : k < n
+  pub level : q < levels
+  pub clock : t ≤ 1073741823
+
+pub in-range : (n levels i k q t : ℕ) → First (own-checks n levels i k q t) 0 → InRange n levels i k q t
+in-range n levels i k q t none =
+    let (not-reading, (not-clock, _)) = first-none (own-checks n levels i k q t) (lit< tt, (lit< tt, tt)) .0 none in
+    record {
+      ordered = not-out (λ l. not-reading (inl l));
+      position = not-in (λ l. not-reading (inr (inl l)));
+      level = not-in (λ l. not-reading (inr (inr l)));
+      clock = not-out not-clock;
+    }
+  where
+    not-out : {x y : ℕ} → (y < x → ⊥) → x ≤ y
+    not-out h = omega arith
+
+    not-in : {x y : ℕ} → (y ≤ x → ⊥) → x < y
+    not-in h = omega arith
+
+-- with no refusal the image is sound too
+pub read-range : (s : List ℕ) (i k q t : ℕ) → First (speed-call s i k q t) 0 → Sound s × InRange (profile s .n) (profile s .levels) i k q t
+read-range s i k q t none = elim (accepted-parts s (own-checks (profile s .n) (profile s .levels) i k q t) 0 none) [
+  | inl x ↦ absurd (x .1 refl)
+  | inr x ↦ (x .0, in-range (profile s .n) (profile s .levels) i k q t (x .1))
+]
+
+-- ---- a refusal
+
+pub refused-reads : {s : List ℕ} {i k q t m : ℕ} → First (speed-call s i k q t) m → m ≢ 0 → Reads s i k q t (Refused m)
+refused-reads {m = m} p some = record { number = m; given = p; refused = λ _. refl; read = λ e. absurd (some e) }
+
+pub image-refused : (s : List ℕ) (i k q t : ℕ) {m : ℕ} → First (image-checks s) m → m ≢ 0 → Reads s i k q t (Refused m)
+image-refused s i k q t p some = refused-reads (first-stops (image-checks s) (own-checks (profile s .n) (profile s .levels) i k q t) _ p some) some
+
+-- ---- an accepted image
+
+module _ {s : List ℕ} {c : Checked} (judged : Judged s c) (none : c .refusal .number ≡ 0) where
+  pub own-given : (i k q t m : ℕ) → First (own-checks (c .n) (c .levels) i k q t) m → First (speed-call s i k q t) m
+  own-given i k q t m p =
+      let found = judged .accepted none in
+      first-goes-on (image-checks s) (own-checks (profile s .n) (profile s .levels) i k q t) m (image-numbered s)
+      (rw none at (judged .number)) (rw (found .n, found .levels) at p)
+
+  module _ {i k q t : ℕ} (own : First (own-checks (c .n) (c .levels) i k q t) 0) where
+    pub range : InRange (c .n) (c .levels) i k q t
+    range = in-range (c .n) (c .levels) i k q t own
+
+    pub readable : Readable s (c .levels) (c .order) i k q
+    readable =
+        let found = judged .accepted none in
+        let (o, _, lists) = found .order in
+        let records = accepted-records judged none in
+        record {
+          ordered = range .ordered;
+          few = omega (arith, range .position, records .few-actions);
+          below = range .level;
+          present = λ p l.
+              let here : p < profile s .n = omega (arith, range .position, found .n) in
+              has-record _ records (omega (arith, lists p here, o .at-lt p here, found .n));
+        }
+
+    -- the stretch's average and margin and the deadline of position k give the reading by the order
+    pub read-reads : (x : Stretch) (d : ℕ) (r : Reading) → Of (listed s (c .order)) i k q x → d ≡ due (profile s) (getD (c .order) k 0)
+        → reading-of r ≡ gives (reading-by (x .average) (pos d -ℤ pos (x .margin) -ℤ pos t)) → Reads s i k q t r
+    read-reads x d r of e is =
+        let found = judged .accepted none in
+        let (o, the, lists) = found .order in
+        let same = same-actions (profile s) (λ p. getD (c .order) p 0) (o .at) k q (λ p l. lists p (omega (arith, range .position, found .n))) in
+        record {
+          number = 0;
+          given = own-given i k q t 0 own;
+          refused = λ some. absurd (some refl);
+          read = λ _. (
+            o,
+            the,
+            (rw e at is) ∙ ap gives (reading-is (listed s (c .order)) i k q x of (range .ordered) t ∙ reading-same same i t (range .ordered)),
+          );
+        }
+
+-- ---- settled
+
+-- The contract settles the answer.
+pub reads-settled : {s : List ℕ} {i k q t : ℕ} (r r′ : Reading) → Reads s i k q t r → Reads s i k q t r′ → r ≡ r′
+reads-settled {s} {i} {k} {q} {t} r r′ x y = reading-one r r′ (go (ℕ-discrete (x .number) 0))
+  where
+    one : x .number ≡ y .number
+    one = first-one (speed-call s i k q t) (x .number) (y .number) (x .given) (y .given)
+
+    go : Dec (x .number ≡ 0) → reading-of r ≡ reading-of r′
+    go (no some) = x .refused some ∙ ap refuses one ∙ sym (y .refused (λ e. some (one ∙ e)))
+    go (yes none) =
+        let range = read-range s i k q t (rw none at (x .given)) .1 in
+        let (o, the, is) = x .read none in
+        let (p, the′, is′) = y .read (sym one ∙ none) in
+        let same = same-actions (profile s) (o .at) (p .at) k q (λ j l. order-settled the the′ j (omega (arith, range .position))) in
+        is ∙ ap gives (reading-same same i t (range .ordered)) ∙ sym is′

@@ -1,0 +1,4 @@
+pub mod Alike
+pub mod Listed
+pub mod Answers
+pub mod OnTime

@@ -1,0 +1,67 @@
+-- The speed reading of an image.
+use Prim.Native.Nat.{ℕ, _≤_, _<_}
+use mathlib.Core.Path.{_≡_}
+use mathlib.Core.Bool.{Bool, true, false}
+use mathlib.Core.List.{List, [], _∷_}
+use mathlib.Core.Logic.{_⊎_, _≢_, _↔_}
+use lib.IntN.{pos, _-ℤ_}
+use lib.ListN.{getD}
+use lib.Signed.{_≤ℤ_, _<ℤ_}
+use Rattle.rules.specs.Image.{Profile, due, profile}
+use Rattle.rules.specs.Order.{Order, TheOrder}
+use Rattle.rules.specs.Limits.{Tables, tables, mixed}
+use Rattle.rules.specs.Refusals.{Ground, _when_, First}
+use Rattle.rules.specs.Speed.{room, reading, speed-call}
+use Rattle.ratio.specs.declared.Reading.{Reading}
+use Rattle.ratio.specs.Ratio.{gives, refuses, reading-of}
+use Rattle.image.specs.Reading.{HasRecord}
+
+-- r answers the speed reading of positions first to last at the level and time t: the first number of refusal that is given, or the reading
+-- by the profile's order.
+pub record Reads (s : List ℕ) (first last level t : ℕ) (r : Reading) : Type 0 where
+  pub number : ℕ
+  pub given : First (speed-call s first last level t) number
+  pub refused : number ≢ 0 → reading-of r ≡ refuses number
+  pub read : number ≡ 0
+      → (o : Order (profile s .n)) × TheOrder (profile s) o × (reading-of r ≡ gives (reading (tables (profile s) o) first last level t))
+
+-- b tells whether the reading is a ratio of at most 1: never with a refusal; without one exactly if room is above 0 and t is at most
+-- deadline (last) - mixed (first, last, level).
+abbrev pub OnTime : Tables → ℕ → ℕ → ℕ → ℕ → Type 0
+OnTime S i k q t = (pos 0 <ℤ room S i k q t) × (pos t ≤ℤ (pos (S .deadline k) -ℤ pos (mixed S i k q)))
+
+pub record Tells (s : List ℕ) (first last level t : ℕ) (b : Bool) : Type 0 where
+  pub number : ℕ
+  pub given : First (speed-call s first last level t) number
+  pub refused : number ≢ 0 → b ≡ false
+  pub read : number ≡ 0 → (o : Order (profile s .n)) × TheOrder (profile s) o × ((b ≡ true) ↔ OnTime (tables (profile s) o) first last level t)
+
+-- ---- asked between the functions of this crate
+
+-- the call's own refusals, of n positions and so many levels
+abbrev pub Absent : ℕ → ℕ → ℕ → ℕ → ℕ → Type 0
+Absent n levels i k q = (k < i) ⊎ ((n ≤ k) ⊎ (levels ≤ q))
+
+abbrev pub own-checks : ℕ → ℕ → ℕ → ℕ → ℕ → ℕ → List Ground
+own-checks n levels i k q t = 18 when Absent n levels i k q ∷ 13 when (1073741823 < t) ∷ []
+
+-- the profile F by position, where f has the action at each position: tables F o is by-position F (o .at)
+abbrev pub by-position : Profile → (ℕ → ℕ) → Tables
+by-position F f = record {
+  n = F .n;
+  levels = F .levels;
+  deadline = λ k. due F (f k);
+  average = λ k q. F .average (f k) q;
+  worst = λ k q. F .worst (f k) q;
+}
+
+-- the same of the image s and a list of its actions
+abbrev pub listed : List ℕ → List ℕ → Tables
+listed s actions = by-position (profile s) (λ k. getD actions k 0)
+
+-- positions first to last and the level are there to be read, in a list of 64 actions
+pub record Readable (s : List ℕ) (levels : ℕ) (actions : List ℕ) (first last level : ℕ) : Type 0 where
+  pub ordered : first ≤ last
+  pub few : last < 64
+  pub below : level < levels
+  pub present : (p : ℕ) → p ≤ last → HasRecord s levels (getD actions p 0)

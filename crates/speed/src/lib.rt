@@ -1,0 +1,108 @@
+// The speed reading of an image: how fast positions in a row must run at a level to end in time.
+use image::read;
+use image::whole;
+use ratio::Reading;
+use ratio::Stretch;
+ghost use mathlib.Core.Path.{_≡_};
+ghost use mathlib.Core.Bool.{true};
+ghost use mathlib.Core.Logic.{_↔_};
+ghost use Rattle.rules.specs.Image.{due, profile};
+ghost use Rattle.rules.specs.Refusals.{First};
+ghost use Rattle.image.specs.Reading.{HasRecord};
+ghost use Rattle.ratio.specs.Stretch.{Of, Small};
+ghost use Rattle.speed.specs.Speed.{Reads, Tells, Absent, own-checks, listed, Readable};
+
+// The first position is above the last one, or a position or the level is absent.
+fn is_absent(n: usize, levels: usize, first: usize, last: usize, level: usize) -> bool
+    ensures { λ r. ⌜ (r ≡ true) ↔ Absent n levels first last level ⌝ }
+{
+    if last < first {
+        return true;
+    }
+    if n <= last {
+        return true;
+    }
+    if levels <= level {
+        return true;
+    }
+    false
+}
+
+// 18 for the positions and the level, then 13 for the clock; 0 for none.
+fn own_refusal(n: usize, levels: usize, first: usize, last: usize, level: usize, t: u32) -> u32
+    ensures { λ r. ⌜ First (own-checks n levels first last level t) r ⌝ }
+{
+    let absent = is_absent(n, levels, first, last, level);
+    if absent {
+        return 18;
+    }
+    if rules::LAST_CLOCK < t {
+        return 13;
+    }
+    0
+}
+
+// The deadline of an action as it counts: 0 stands for the cycle.
+fn due_at(image: &[u8], levels: usize, a: usize, cycle: u32) -> u32
+    requires { ⌜ HasRecord (now image) levels a × (cycle ≡ profile (now image) .cycle) ⌝ }
+    ensures { λ r. ⌜ r ≡ due (profile (now (image .entry))) a ⌝ }
+{
+    let deadline = read::deadline_at(image, levels, a);
+    if deadline == 0 { cycle } else { deadline }
+}
+
+// Average and margin of the positions, from the last one back.
+fn stretch(
+    image: &[u8],
+    levels: usize,
+    actions: &[u8; 64],
+    first: usize,
+    last: usize,
+    level: usize,
+) -> Stretch
+    requires { ⌜ Readable (now image) levels (now actions) first last level ⌝ }
+    ensures { λ r. ⌜ Of (listed (now (image .entry)) (now (actions .entry))) first last level r × Small r ⌝ }
+{
+    let mut s = ratio::nothing();
+    let mut j = last + 1;
+    while first < j {
+        j -= 1;
+        let a = actions[j] as usize;
+        let average = read::average_at(image, levels, a, level);
+        let worst = read::worst_at(image, levels, a, level);
+        let worst0 = read::worst_at(image, levels, a, 0);
+        s = ratio::longer(s, average, worst, worst0);
+    }
+    s
+}
+
+// The reading of positions `first` to `last` at the level and time t, any values.
+pub fn speed_reading(image: &[u8], first: usize, last: usize, level: usize, t: u32) -> Reading
+    ensures { λ r. ⌜ Reads (now (image .entry)) first last level t r ⌝ }
+{
+    let checked = whole::checked(image);
+    let number = checked.refusal.number;
+    if number != 0 {
+        return Reading::Refused(number);
+    }
+    let levels = checked.levels;
+    let own = own_refusal(checked.n, levels, first, last, level, t);
+    if own != 0 {
+        return Reading::Refused(own);
+    }
+    let actions = checked.order;
+    let s = stretch(image, levels, &actions, first, last, level);
+    let deadline = due_at(image, levels, actions[last] as usize, checked.cycle);
+    ratio::read(s.average, deadline, s.margin, t)
+}
+
+// Whether the reading is a ratio of at most 1: the positions, begun at t, end in time at the level.
+pub fn on_time(image: &[u8], first: usize, last: usize, level: usize, t: u32) -> bool
+    ensures { λ b. ⌜ Tells (now (image .entry)) first last level t b ⌝ }
+{
+    match speed_reading(image, first, last, level, t) {
+        Reading::Ratio(x) => ratio::at_most_one(x),
+        Reading::Spent => false,
+        Reading::Refused(_) => false,
+    }
+}
