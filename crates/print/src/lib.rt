@@ -1,4 +1,5 @@
 // What the programs print. A refusal is one line, `refused` and the number.
+use dry::Dried;
 use text::put_byte;
 use text::put_bytes;
 use text::put_number;
@@ -97,4 +98,89 @@ pub fn plan_text(image: &[u8], out: &mut [u8]) -> usize
     let b = put_field(&mut *out, a, levels as u32, b' ');
     let c = put_field(&mut *out, b, planned.cycle, b'\n');
     put_positions(out, c, &order, &limits, n, levels)
+}
+
+// ---- the dry run
+
+// The durations that the bytes say, four bytes each, high byte first, as far as `out` has room. Answers how many.
+fn take_durations(bytes: &[u8], out: &mut [u32]) -> usize
+    ensures { λ r. ⌜ r ≤ length (now (out .entry)) ⌝ }
+{
+    let said = bytes.len() / 4;
+    let mut k = 0;
+    while k < out.len() {
+        if said <= k {
+            return k;
+        }
+        out[k] = fields::be32(bytes, k * 4);
+        k += 1;
+    }
+    k
+}
+
+// Position, action, level and decided, for each position.
+fn put_steps(out: &mut [u8], order: &[u8], given: &[u8], marks: &[u8], n: usize) -> usize
+    requires { ⌜ (n ≤ 64) × (n ≤ length (now order)) × (n ≤ length (now given)) × (n ≤ length (now marks)) ⌝ }
+    ensures { λ r. ⌜ r ≤ length (now (out .entry)) ⌝ }
+{
+    let mut to = 0;
+    let mut i = 0;
+    while i < n {
+        let a = put_field(&mut *out, to, i as u32, b' ');
+        let b = put_field(&mut *out, a, fields::wide32(order[i]), b' ');
+        let c = put_field(&mut *out, b, fields::wide32(given[i]), b' ');
+        to = put_field(&mut *out, c, fields::wide32(marks[i]), b'\n');
+        i += 1;
+    }
+    to
+}
+
+fn one_if(b: bool) -> u32 {
+    if b { 1 } else { 0 }
+}
+
+// Decisions, end, overrun, late.
+fn put_end(out: &mut [u8], at: usize, dried: Dried) -> usize
+    requires { ⌜ at ≤ length (now out) ⌝ }
+    ensures { λ r. ⌜ r ≤ length (now (out .entry)) ⌝ }
+{
+    let a = put_field(&mut *out, at, dried.decisions, b' ');
+    let b = put_field(&mut *out, a, dried.end, b' ');
+    let c = put_field(&mut *out, b, one_if(dried.overrun), b' ');
+    put_field(out, c, one_if(dried.late), b'\n')
+}
+
+// Position, action, level and decided; then decisions, end, overrun, late. Answers how much of `out` it wrote.
+pub fn dry_text(image: &[u8], bytes: &[u8], out: &mut [u8]) -> usize
+    ensures { λ r. ⌜ r ≤ length (now (out .entry)) ⌝ }
+{
+    let mut order = [0u8; 64];
+    let mut limits = [0i32; 512];
+    let mut worst = [0u32; 512];
+    let mut bounds = [0i32; 8192];
+    let planned = planner::plan(image, &mut order, &mut limits, &mut worst, &mut bounds);
+    let refusal = planned.refusal;
+    if refusal.number != 0 {
+        return put_refusal(out, refusal.number);
+    }
+    let n = planned.n;
+    let mut durations = [0u32; 512];
+    let count = take_durations(bytes, &mut durations);
+    let mut given = [0u8; 64];
+    let mut marks = [0u8; 64];
+    let dried = dry::dry_run(
+        n,
+        planned.levels,
+        &limits,
+        &worst,
+        &bounds,
+        &durations[..count],
+        &mut given,
+        &mut marks,
+    );
+    if dried.refusal != 0 {
+        return put_refusal(out, dried.refusal);
+    }
+    let at = put_steps(&mut *out, &order, &given, &marks, n);
+    put_end(out, at, dried)
 }

@@ -3,3 +3,4 @@ pub mod Coast
 pub mod Fewest
 pub mod Steps
 pub mod Record
+pub mod Alike

@@ -1,0 +1,94 @@
+-- The text stays within its buffer. Assumes nothing.
+use native.Mathlib.Omega.{arith}
+use lib.ListN.{length-take}
+use borrow.Author.Needs.{needs}
+use Rattle.cases.proofs.plans.Statement.{statement}
+use Rattle.cases.proofs.plans.Tie as tie
+use Rattle.cases.proofs.plans.Reads as reads
+use Rattle.cases.proofs.plans.Lts as lts
+use Rattle.check.proofs.same.Reads as same-reads
+use Rattle.files.proofs.read_file.Reads as read-file-reads
+use Rattle.io.proofs.buffer.Reads as buffer-reads
+use Rattle.io.proofs.large_buffer.Reads as large-buffer-reads
+use Rattle.print.proofs.plan_text.Reads as plan-text-reads
+
+buffer-requires : tie.Need-buffer-requires
+buffer-requires c κs = search needs
+
+slice-aggregate-read-file : tie.Need-slice-aggregate-read-file
+slice-aggregate-read-file c = search needs
+
+slice-aggregate-read-file-2 : tie.Need-slice-aggregate-read-file-2
+slice-aggregate-read-file-2 c = search needs
+
+read-file-requires : tie.Need-read-file-requires
+read-file-requires c κs = search needs
+
+large-buffer-requires : tie.Need-large-buffer-requires
+large-buffer-requires c κs = search needs
+
+slice-aggregate-read-file-3 : tie.Need-slice-aggregate-read-file-3
+slice-aggregate-read-file-3 c = search needs
+
+slice-aggregate-read-file-4 : tie.Need-slice-aggregate-read-file-4
+slice-aggregate-read-file-4 c = search needs
+
+read-file-requires-2 : tie.Need-read-file-requires-2
+read-file-requires-2 c κs = search needs
+
+large-buffer-requires-2 : tie.Need-large-buffer-requires-2
+large-buffer-requires-2 c κs = search needs
+
+array-share-prefix-image : tie.Need-array-share-prefix-image
+array-share-prefix-image c = search needs
+
+slice-aggregate-plan-text : tie.Need-slice-aggregate-plan-text
+slice-aggregate-plan-text c = search needs
+
+slice-aggregate-plan-text-2 : tie.Need-slice-aggregate-plan-text-2
+slice-aggregate-plan-text-2 c = search needs
+
+plan-text-requires : tie.Need-plan-text-requires
+plan-text-requires c κs = search needs
+
+array-share-prefix-out : tie.Need-array-share-prefix-out
+array-share-prefix-out c = search needs
+
+slice-aggregate-same : tie.Need-slice-aggregate-same
+slice-aggregate-same c = simp length-take (omega arith)
+
+array-share-prefix-want : tie.Need-array-share-prefix-want
+array-share-prefix-want c = search needs
+
+slice-aggregate-same-2 : tie.Need-slice-aggregate-same-2
+slice-aggregate-same-2 c = search needs
+
+same-requires : tie.Need-same-requires
+same-requires c κs = search needs
+
+returns : tie.Need-returns
+returns c = search needs
+
+pub plans-spec : {M : Type 1} → statement M
+plans-spec =
+    tie.close
+    (tie.spec
+    buffer-requires
+    slice-aggregate-read-file
+    slice-aggregate-read-file-2
+    read-file-requires
+    large-buffer-requires
+    slice-aggregate-read-file-3
+    slice-aggregate-read-file-4
+    read-file-requires-2
+    large-buffer-requires-2
+    array-share-prefix-image
+    slice-aggregate-plan-text
+    slice-aggregate-plan-text-2
+    plan-text-requires
+    array-share-prefix-out
+    slice-aggregate-same
+    array-share-prefix-want
+    slice-aggregate-same-2
+    same-requires
+    returns)

@@ -1,0 +1,71 @@
+-- Assumes nothing.
+use borrow.Author.Needs.{needs}
+use Prim.Native.Nat.{_≤_, _-_}
+use mathlib.Core.Path.{_≡_}
+use lib.ListN.{length}
+use Rattle.print.proofs.take_durations.Statement.{statement}
+use Rattle.print.proofs.take_durations.Tie as tie
+use Rattle.print.proofs.take_durations.Reads as reads
+use Rattle.print.proofs.take_durations.Lts as lts
+use Rattle.fields.proofs.be32.Reads as be32-reads
+
+abbrev Inv-loop : tie.InvT-loop
+Inv-loop bytes out₀ said k₀ out k = (length out ≡ length out₀) × (k ≤ length out₀)
+
+abbrev μ-loop : tie.MeasureT-loop
+μ-loop bytes out₀ said k₀ out k = length out₀ - k
+
+loop-holds : tie.Need-loop-holds Inv-loop μ-loop
+loop-holds c = search needs
+
+same-length : tie.Need-same-length Inv-loop μ-loop
+same-length c = search needs
+
+returns : tie.Need-returns Inv-loop μ-loop
+returns c = search needs
+
+mul-be32 : tie.Need-mul-be32 Inv-loop μ-loop
+mul-be32 c = search needs
+
+be32-requires : tie.Need-be32-requires Inv-loop μ-loop
+be32-requires c κs = search needs
+
+mul-out : tie.Need-mul-out Inv-loop μ-loop
+mul-out c = search needs
+
+slice-write-out : tie.Need-slice-write-out Inv-loop μ-loop
+slice-write-out c = search needs
+
+add-k : tie.Need-add-k Inv-loop μ-loop
+add-k c = search needs
+
+loop-less : tie.Need-loop-less Inv-loop μ-loop
+loop-less c = search needs
+
+loop-again : tie.Need-loop-again Inv-loop μ-loop
+loop-again c = search needs
+
+same-length-2 : tie.Need-same-length-2 Inv-loop μ-loop
+same-length-2 c = search needs
+
+returns-2 : tie.Need-returns-2 Inv-loop μ-loop
+returns-2 c = search needs
+
+pub take-durations-spec : {M : Type 1} → statement M
+take-durations-spec =
+    tie.close
+    (tie.spec
+    Inv-loop
+    μ-loop
+    loop-holds
+    same-length
+    returns
+    mul-be32
+    be32-requires
+    mul-out
+    slice-write-out
+    add-k
+    loop-less
+    loop-again
+    same-length-2
+    returns-2)
