@@ -6,3 +6,4 @@ pub mod Splice
 pub mod Cats
 pub mod Tabs
 pub mod Rows
+pub mod Written

@@ -1,7 +1,8 @@
-// Big-endian numbers of a slice of bytes, read and written.
+// Big-endian numbers of a slice of bytes, read and written; bytes copied.
 ghost use mathlib.Core.Path.{_≡_};
 ghost use Prim.Native.Nat.{_+_, _≤_, _<_, _^_};
-ghost use lib.ListN.{length};
+ghost use lib.ListN.{length, getD};
+ghost use Rattle.rules.specs.Words.{tab};
 ghost use Rattle.rules.specs.Image.{be, bytes};
 ghost use Rattle.fields.specs.Fields.{splice};
 
@@ -95,4 +96,16 @@ pub fn put64(out: &mut [u8], at: usize, v: u64)
     ensures { λ r. ⌜ now (out .exit) ≡ splice (now (out .entry)) at (bytes 8 v) ⌝ }
 {
     put_be(out, at, v, 8);
+}
+
+// Copies the first n bytes.
+pub fn copy_front(from: &[u8], n: usize, out: &mut [u8])
+    requires { ⌜ (n ≤ length (now from)) × (n ≤ length (now out)) ⌝ }
+    ensures { λ r. ⌜ now (out .exit) ≡ splice (now (out .entry)) 0 (tab (λ k. getD (now (from .entry)) k 0) n) ⌝ }
+{
+    let mut k = 0;
+    while k < n {
+        out[k] = from[k];
+        k += 1;
+    }
 }

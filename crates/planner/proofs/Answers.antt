@@ -19,14 +19,14 @@ use Rattle.planner.specs.Planning.{rooms, Plans, Given, SomeGiven, Writt
 
 -- ---- what is kept
 
-kept-old : {A : Type 0} (k : ℕ) (new old : A) → k ≢ 0 → old ≡ kept k new old
+pub kept-old : {A : Type 0} (k : ℕ) (new old : A) → k ≢ 0 → old ≡ kept k new old
 kept-old k new old h = rw (ne-eqb k 0 h)
 
-kept-new : {A : Type 0} (k : ℕ) {x : A} (new old : A) → k ≡ 0 → x ≡ new → x ≡ kept k new old
+pub kept-new : {A : Type 0} (k : ℕ) {x : A} (new old : A) → k ≡ 0 → x ≡ new → x ≡ kept k new old
 kept-new k new old h e = rw h e
 
 -- the actions by number: an order that is there for every n
-by-number : (n : ℕ) → Order n
+pub by-number : (n : ℕ) → Order n
 by-number n = record { at = λ k. k; pos = λ a. a; at-lt = λ k l. l; pos-lt = λ a l. l; pos-at = λ k l. refl; at-pos = λ a l. refl }
 
 -- ---- room

@@ -21,7 +21,7 @@ use Rattle.planner.specs.Planning.{rooms, Plans}
 use Rattle.planner.proofs.Alike.{Alike, limits-alike, worst-alike, bounds-alike}
 
 -- two orders of one profile give the same tables
-settled-alike : {F : Profile} {o p : Order (F .n)} → (Count F → ⊥) → TheOrder F o → TheOrder F p
+pub settled-alike : {F : Profile} {o p : Order (F .n)} → (Count F → ⊥) → TheOrder F o → TheOrder F p
     → Alike (tables F o) (tables F p) (F .n) (F .levels)
 settled-alike {F} {o} counts x y =
     let at = order-settled x y in
@@ -35,7 +35,7 @@ settled-alike {F} {o} counts x y =
     }
 
 -- what is kept is the same where what is new is, if there is anything new
-kept-one : {A : Type 0} (k m : ℕ) {x y : A} (new new′ old : A) → k ≡ m → (k ≡ 0 → new ≡ new′) → x ≡ kept k new old → y ≡ kept m new′ old → x ≡ y
+pub kept-one : {A : Type 0} (k m : ℕ) {x y : A} (new new′ old : A) → k ≡ m → (k ≡ 0 → new ≡ new′) → x ≡ kept k new old → y ≡ kept m new′ old → x ≡ y
 kept-one {A} k m new new′ old e same f g = f ∙ both (ℕ-discrete k 0) ∙ sym (rw (← e) at g)
   where
     both : Dec (k ≡ 0) → kept k new old ≡ kept k new′ old

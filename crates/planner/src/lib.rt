@@ -86,18 +86,6 @@ fn times_of(image: &[u8], levels: usize, a: usize) -> Times
 
 // ---- the tables
 
-// The actions in order.
-fn store_order(actions: &[u8; 64], n: usize, out: &mut [u8])
-    requires { ⌜ (n ≤ 64) × (n ≤ length (now out)) ⌝ }
-    ensures { λ r. ⌜ now (out .exit) ≡ splice (now (out .entry)) 0 (tab (λ k. getD (now (actions .entry)) k 0) n) ⌝ }
-{
-    let mut k = 0;
-    while k < n {
-        out[k] = actions[k];
-        k += 1;
-    }
-}
-
 // A row of worst times goes to the lent table.
 fn store(row: [u32; 8], out: &mut [u32], from: usize, levels: usize)
     requires { ⌜ (levels ≤ 8) × (from + levels ≤ length (now out)) ⌝ }
@@ -161,7 +149,7 @@ fn fill(
         → Written (now (image .entry)) (now (order .entry)) (now (limits .entry)) (now (worst .entry)) (now (bounds .entry))
         (now (order .exit)) (now (limits .exit)) (now (worst .exit)) (now (bounds .exit)) o) ⌝ }
 {
-    store_order(actions, n, order);
+    fields::copy_front(actions, n, order);
     work(image, n, levels, cycle, actions, limits, worst);
     rows::bounds(limits, worst, n, levels, bounds);
 }

@@ -1,5 +1,5 @@
 // What the programs print. A refusal is one line, `refused` and the number.
-use dry::Dried;
+use frame::Framed;
 use text::put_byte;
 use text::put_bytes;
 use text::put_number;
@@ -140,47 +140,36 @@ fn one_if(b: bool) -> u32 {
 }
 
 // Decisions, end, overrun, late.
-fn put_end(out: &mut [u8], at: usize, dried: Dried) -> usize
+fn put_end(out: &mut [u8], at: usize, framed: Framed) -> usize
     requires { ⌜ at ≤ length (now out) ⌝ }
     ensures { λ r. ⌜ r ≤ length (now (out .entry)) ⌝ }
 {
-    let a = put_field(&mut *out, at, dried.decisions, b' ');
-    let b = put_field(&mut *out, a, dried.end, b' ');
-    let c = put_field(&mut *out, b, one_if(dried.overrun), b' ');
-    put_field(out, c, one_if(dried.late), b'\n')
+    let a = put_field(&mut *out, at, framed.decisions, b' ');
+    let b = put_field(&mut *out, a, framed.end, b' ');
+    let c = put_field(&mut *out, b, one_if(framed.overrun), b' ');
+    put_field(out, c, one_if(framed.late), b'\n')
 }
 
 // Position, action, level and decided; then decisions, end, overrun, late. Answers how much of `out` it wrote.
 pub fn dry_text(image: &[u8], bytes: &[u8], out: &mut [u8]) -> usize
     ensures { λ r. ⌜ r ≤ length (now (out .entry)) ⌝ }
 {
-    let mut order = [0u8; 64];
-    let mut limits = [0i32; 512];
-    let mut worst = [0u32; 512];
-    let mut bounds = [0i32; 8192];
-    let planned = planner::plan(image, &mut order, &mut limits, &mut worst, &mut bounds);
-    let refusal = planned.refusal;
-    if refusal.number != 0 {
-        return put_refusal(out, refusal.number);
-    }
-    let n = planned.n;
     let mut durations = [0u32; 512];
     let count = take_durations(bytes, &mut durations);
+    let mut order = [0u8; 64];
     let mut given = [0u8; 64];
     let mut marks = [0u8; 64];
-    let dried = dry::dry_run(
-        n,
-        planned.levels,
-        &limits,
-        &worst,
-        &bounds,
+    let framed = frame::dry_frame(
+        image,
         &durations[..count],
+        &mut order,
         &mut given,
         &mut marks,
     );
-    if dried.refusal != 0 {
-        return put_refusal(out, dried.refusal);
+    let refusal = framed.refusal;
+    if refusal.number != 0 {
+        return put_refusal(out, refusal.number);
     }
-    let at = put_steps(&mut *out, &order, &given, &marks, n);
-    put_end(out, at, dried)
+    let at = put_steps(&mut *out, &order, &given, &marks, framed.n);
+    put_end(out, at, framed)
 }

@@ -1,21 +1,20 @@
 -- The coast bounds of lent tables that hold a policy's limits are the rules'. Assumes nothing.
-use Prim.Native.Nat.{ℕ, zero, suc, _+_, _*_, _≤_, _<_, zero-le}
+use Prim.Native.Nat.{ℕ, zero, suc, _+_, _*_, _≤_, _<_}
 use mathlib.Core.Path.{_≡_, sym, _∙_}
 use mathlib.Core.List.{List}
 use native.Mathlib.Nat.{le-refl}
 use native.Mathlib.Decide.{decLt}
 use native.Mathlib.Omega.{arith}
 use lib.IntN.{ℤ, pos}
-use lib.ListN.{length, getD}
+use lib.ListN.{length}
 use lib.Signed.{mag}
 use Rattle.rules.specs.Words.{sum, least-of, cat, rows}
 use Rattle.rules.specs.Limits.{Tables, coast-bound}
 use Rattle.rules.proofs.Sums.{sum-same}
 use Rattle.fields.specs.Fields.{splice}
-use Rattle.fields.proofs.Strides.{cell-fits}
-use Rattle.fields.proofs.Splice.{getD-splice}
 use Rattle.fields.proofs.Cats.{cat-ext}
-use Rattle.fields.proofs.Rows.{rows-ext, length-rows, getD-rows}
+use Rattle.fields.proofs.Rows.{rows-ext}
+use Rattle.fields.proofs.Written.{rows-written}
 use Rattle.rows.specs.Bounds.{limit-at, worst-at, of-list, bound-of, all-bounds, SmallTables}
 use Rattle.rows.proofs.Coast.{term, bound-within, bound-past}
 
@@ -26,21 +25,14 @@ pub record Tabled (S : Tables) (limit : ℕ → ℕ → ℤ) (n levels : ℕ) (l
   pub limit-is : (i q : ℕ) → i < n → q < levels → limit-at limits levels i q ≡ limit i q
   pub worst-is : (i q : ℕ) → i < n → q < levels → worst-at worst levels i q ≡ S .worst i q
 
--- a table that was written is read
-pub written : {A : Type 0} (f : ℕ → ℕ → A) (l₀ : List A) {l : List A} (n m : ℕ) (d : A) → l ≡ splice l₀ 0 (rows f n m)
-    → (i q : ℕ) → i < n → q < m → getD l (i * m + q) d ≡ f i q
-written f l₀ n m d e i q b c =
-    rw e (getD-splice l₀ 0 (rows f n m) zero-le (i * m + q) (i * m + q) d (omega arith) (omega (arith, length-rows f m n, cell-fits i n q m b c))
-    ∙ getD-rows f m n i q d b c)
-
 pub tabled : (S : Tables) (limit : ℕ → ℕ → ℤ) (n levels : ℕ) (limits₀ : List ℤ) (worst₀ : List ℕ) {limits : List ℤ} {worst : List ℕ}
     → n * levels ≤ length limits → n * levels ≤ length worst → limits ≡ splice limits₀ 0 (rows limit n levels)
     → worst ≡ splice worst₀ 0 (rows (S .worst) n levels) → Tabled S limit n levels limits worst
 tabled S limit n levels limits₀ worst₀ a b e f = record {
   limits-held = a;
   worst-held = b;
-  limit-is = written limit limits₀ n levels (pos 0) e;
-  worst-is = written (S .worst) worst₀ n levels 0 f;
+  limit-is = rows-written limit limits₀ n levels (pos 0) e;
+  worst-is = rows-written (S .worst) worst₀ n levels 0 f;
 }
 
 least-same : (f g : ℕ → ℤ) (i m : ℕ) → ((j : ℕ) → i ≤ j → j ≤ i + m → f j ≡ g j) → least-of f i m ≡ least-of g i m

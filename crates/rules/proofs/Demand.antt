@@ -4,3 +4,4 @@ pub mod Fewest
 pub mod Steps
 pub mod Record
 pub mod Alike
+pub mod Along

@@ -1,12 +1,13 @@
 -- The dry run: a whole cycle of decisions and coasts over given durations.
 use Prim.Native.Nat.{ℕ, zero, suc, _+_, _*_, _<_}
 use mathlib.Core.Bool.{Bool}
-use mathlib.Core.List.{List, [], _∷_}
+use mathlib.Core.List.{List, [], _∷_, _++_}
 use lib.IntN.{ℤ}
 use lib.ListN.{getD}
 use Rattle.rules.specs.Words.{tab, one-if}
 use Rattle.rules.specs.Limits.{Plan}
-use Rattle.rules.specs.Refusals.{Ground, _when_, CountsOut, Tight}
+use Rattle.rules.specs.Image.{profile}
+use Rattle.rules.specs.Refusals.{Ground, _when_, CountsOut, Tight, image-checks}
 use Rattle.rules.specs.Run.{Run, begun, decides, given, ended, lent}
 
 -- An action asked for, and reported when the duration d (position, level) has passed; w has the worst times by position and level.
@@ -45,10 +46,15 @@ dry-marks n L limits worst bounds durations = tab (λ i. one-if (decided 16 (len
 unfoldable pub dry-end : ℕ → ℕ → List ℤ → List ℕ → List ℤ → List ℕ → Run
 dry-end n L limits worst bounds durations = before 16 (lent n L limits bounds) (cell worst L) (cell durations L) 0 n
 
--- Refusals 3, 17, 16: an entry above 16,777,215.
+-- 16 Duration: an entry above 16,777,215
+abbrev pub LongEntry : ℕ → List ℕ → Type 0
+LongEntry cells durations = (k : ℕ) × (k < cells) × (16777215 < getD durations k 0)
+
+-- Refusals 3, 17, 16.
 abbrev pub dry-call : ℕ → ℕ → List ℕ → List (ℕ × ℕ) → List Ground
-dry-call n L durations rooms =
-    3 when CountsOut n L
-    ∷ 17 when Tight rooms
-    ∷ 16 when ((k : ℕ) × (k < n * L) × (16777215 < getD durations k 0))
-    ∷ []
+dry-call n L durations rooms = 3 when CountsOut n L ∷ 17 when Tight rooms ∷ 16 when LongEntry (n * L) durations ∷ []
+
+-- Of an image and durations: the image's, then 17, 16.
+abbrev pub frame-call : List ℕ → List ℕ → List (ℕ × ℕ) → List Ground
+frame-call s durations rooms =
+    image-checks s ++ (17 when Tight rooms ∷ 16 when LongEntry (profile s .n * profile s .levels) durations ∷ [])

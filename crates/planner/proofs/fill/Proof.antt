@@ -7,10 +7,11 @@ use Rattle.planner.proofs.Filling.{filled-small, filled-written}
 use Rattle.planner.proofs.fill.Statement.{statement}
 use Rattle.planner.proofs.fill.Tie as tie
 
-store-order-requires : tie.Need-store-order-requires
-store-order-requires c κs =
-    let start = c .before .before .before .before in
-    (records (start .pre .0 .1) .few-actions, start .pre .1 .0 .0)
+copy-front-requires : tie.Need-copy-front-requires
+copy-front-requires c κs =
+    let start = c .before .before .before .before .before in
+    let few = records (start .pre .0 .1) .few-actions in
+    (search needs, start .pre .1 .0 .0)
 
 work-requires : tie.Need-work-requires
 work-requires c κs = search needs
@@ -18,7 +19,7 @@ work-requires c κs = search needs
 bounds-requires : tie.Need-bounds-requires
 bounds-requires c κs =
     let worked = c .before .before .before .before .before .before in
-    let known = worked .before .before .before .before .before .before .before .before .before in
+    let known = worked .before .before .before .before .before .before .before .before .before .before in
     let start = known .before in
     let given = start .pre .0 in
     let lengths = worked .work .kept .1 .1 .1 .1 .1 in
@@ -44,16 +45,16 @@ returns : tie.Need-returns
 returns c o g =
     let worked = c .before .before .before .before .before .before .before .before in
     let stored = worked .before .before .before .before .before in
-    let room = stored .before .before .before .before .before .pre .1 in
+    let room = stored .before .before .before .before .before .before .pre .1 in
     let lengths = worked .work .kept .1 .1 .1 .1 .1 in
     filled-written g _ _ (omega (arith, room .0 .1, lengths .0)) (omega (arith, room .1 .0, lengths .1 .0)) (worked .work .ensures o g)
-    _ _ (stored .store-order .ensures) (c .before .bounds .ensures)
+    _ _ (stored .copy-front .ensures) (c .before .bounds .ensures)
 
 pub fill-spec : {M : Type 1} → statement M
 fill-spec =
     tie.close
     (tie.spec
-    store-order-requires
+    copy-front-requires
     work-requires
     bounds-requires
     same-length

@@ -1,27 +1,27 @@
--- The first k actions are stored. Assumes nothing.
+-- The first k bytes are copied. Assumes nothing.
 use mathlib.Core.Path.{_≡_, refl}
 use Prim.Native.Nat.{_-_, _≤_}
 use native.Mathlib.Omega.{arith}
 use borrow.Author.Needs.{needs}
 use lib.ListN.{length, getD}
 use Rattle.rules.specs.Words.{tab}
 use Rattle.fields.specs.Fields.{splice}
 use Rattle.fields.proofs.Cats.{cat-none, cat-done}
 use Rattle.fields.proofs.Tabs.{tab-more}
-use Rattle.planner.proofs.store_order.Statement.{statement}
-use Rattle.planner.proofs.store_order.Tie as tie
+use Rattle.fields.proofs.copy_front.Statement.{statement}
+use Rattle.fields.proofs.copy_front.Tie as tie
 
 abbrev Inv-loop : tie.InvT-loop
-Inv-loop actions n out₀ k₀ out k = (k ≤ n) × (length out ≡ length out₀) × (out ≡ splice out₀ 0 (tab (λ j. getD actions j 0) k))
+Inv-loop from n out₀ k₀ out k = (k ≤ n) × (length out ≡ length out₀) × (out ≡ splice out₀ 0 (tab (λ j. getD from j 0) k))
 
 abbrev μ-loop : tie.MeasureT-loop
-μ-loop actions n out₀ k₀ out k = n - k
+μ-loop from n out₀ k₀ out k = n - k
 
 loop-holds : tie.Need-loop-holds Inv-loop μ-loop
 loop-holds c = (search needs, search needs, cat-none _ _ _)
 
-element-copy-out-out : tie.Need-element-copy-out-out Inv-loop μ-loop
-element-copy-out-out c = search needs
+shared-slice-read-out : tie.Need-shared-slice-read-out Inv-loop μ-loop
+shared-slice-read-out c = search needs
 
 slice-write-out : tie.Need-slice-write-out Inv-loop μ-loop
 slice-write-out c = search needs
@@ -43,14 +43,14 @@ same-length c = search needs
 returns : tie.Need-returns Inv-loop μ-loop
 returns c = cat-done _ _ 0 (c .before .loop .k) (c .before .before .args .n) (omega arith) (c .before .loop .inv .2)
 
-pub store-order-spec : {M : Type 1} → statement M
-store-order-spec =
+pub copy-front-spec : {M : Type 1} → statement M
+copy-front-spec =
     tie.close
     (tie.spec
     Inv-loop
     μ-loop
     loop-holds
-    element-copy-out-out
+    shared-slice-read-out
     slice-write-out
     add-k
     loop-less

@@ -1,0 +1,3 @@
+pub mod Cycle
+pub mod Answers
+pub mod Settled
