@@ -160,7 +160,7 @@ pub const WORST: [u32; 72] = [
     13000,
 ];
 
-// Writes the encoder's profile: refused only where the image is shorter than its 546 bytes.
+// Writes the encoder's profile: refused only where the image is shorter than its 546 bytes (`Written`, `only-room`).
 pub fn write_image(image: &mut [u8]) -> Written
     ensures { λ r. ⌜ Writes 9 8 320000 masks deadlines averages worsts (now (image .entry)) (now (image .exit)) (r .refusal .number) (r .bytes) ⌝ }
 {
