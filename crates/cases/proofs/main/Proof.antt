@@ -1,22 +1,14 @@
 -- No more agree than there are. Assumes nothing.
-use mathlib.Core.Logic.{⊎-elim}
-use native.Mathlib.Omega.{arith}
-use borrow.Author.Needs.{needs}
 use Prim.Native.Nat.{_≤_, _-_}
+use borrow.Author.Needs.{needs}
 use Rattle.cases.proofs.main.Statement.{statement}
 use Rattle.cases.proofs.main.Tie as tie
-use Rattle.cases.proofs.main.Reads as reads
-use Rattle.cases.proofs.main.Lts as lts
-use Rattle.cases.proofs.dries.Reads as dries-reads
-use Rattle.cases.proofs.plans.Reads as plans-reads
-use Rattle.io.proofs.print_decimal.Reads as print-decimal-reads
-use Rattle.io.proofs.write_all.Reads as write-all-reads
 
 abbrev Inv-loop : tie.InvT-loop
-Inv-loop planned₀ dried₀ case₀ t7 t8 planned dried case = (case ≤ 71) × (planned ≤ case) × (dried ≤ case)
+Inv-loop planned₀ dried₀ case₀ t7 t8 t9 t10 planned dried case = (case ≤ 418) × (planned ≤ case) × (dried ≤ case)
 
 abbrev μ-loop : tie.MeasureT-loop
-μ-loop planned₀ dried₀ case₀ t7 t8 planned dried case = 71 - case
+μ-loop planned₀ dried₀ case₀ t7 t8 t9 t10 planned dried case = 418 - case
 
 loop-holds : tie.Need-loop-holds Inv-loop μ-loop
 loop-holds c = search needs
@@ -42,11 +34,23 @@ add-ones c = search needs
 plans-requires : tie.Need-plans-requires Inv-loop μ-loop
 plans-requires c κs = search needs
 
+slice-aggregate-tell : tie.Need-slice-aggregate-tell Inv-loop μ-loop
+slice-aggregate-tell c = search needs
+
+tell-requires : tie.Need-tell-requires Inv-loop μ-loop
+tell-requires c κs = search needs
+
 add-planned : tie.Need-add-planned Inv-loop μ-loop
 add-planned c = search needs
 
 dries-requires : tie.Need-dries-requires Inv-loop μ-loop
 dries-requires c κs = search needs
+
+slice-aggregate-tell-2 : tie.Need-slice-aggregate-tell-2 Inv-loop μ-loop
+slice-aggregate-tell-2 c = search needs
+
+tell-requires-2 : tie.Need-tell-requires-2 Inv-loop μ-loop
+tell-requires-2 c κs = search needs
 
 add-dried : tie.Need-add-dried Inv-loop μ-loop
 add-dried c = search needs
@@ -58,26 +62,19 @@ loop-less : tie.Need-loop-less Inv-loop μ-loop
 loop-less c = search needs
 
 loop-again : tie.Need-loop-again Inv-loop μ-loop
-loop-again c =
-    ⊎-elim (λ v. ⊎-elim (λ w. omega arith) (λ w. omega arith) (c .before .before .if1 .came)) (λ v. ⊎-elim (λ w. omega arith) (λ w. omega arith) (c .before .before .if1 .came)) (c .if2 .came)
+loop-again c = search needs
 
-print-decimal-requires : tie.Need-print-decimal-requires Inv-loop μ-loop
-print-decimal-requires c κs = search needs
+slice-aggregate-sum-up : tie.Need-slice-aggregate-sum-up Inv-loop μ-loop
+slice-aggregate-sum-up c = search needs
 
-slice-aggregate-write-all : tie.Need-slice-aggregate-write-all Inv-loop μ-loop
-slice-aggregate-write-all c = search needs
+sum-up-requires : tie.Need-sum-up-requires Inv-loop μ-loop
+sum-up-requires c κs = search needs
 
-write-all-requires : tie.Need-write-all-requires Inv-loop μ-loop
-write-all-requires c κs = search needs
+slice-aggregate-sum-up-2 : tie.Need-slice-aggregate-sum-up-2 Inv-loop μ-loop
+slice-aggregate-sum-up-2 c = search needs
 
-print-decimal-requires-2 : tie.Need-print-decimal-requires-2 Inv-loop μ-loop
-print-decimal-requires-2 c κs = search needs
-
-slice-aggregate-write-all-2 : tie.Need-slice-aggregate-write-all-2 Inv-loop μ-loop
-slice-aggregate-write-all-2 c = search needs
-
-write-all-requires-2 : tie.Need-write-all-requires-2 Inv-loop μ-loop
-write-all-requires-2 c κs = search needs
+sum-up-requires-2 : tie.Need-sum-up-requires-2 Inv-loop μ-loop
+sum-up-requires-2 c κs = search needs
 
 returns : tie.Need-returns Inv-loop μ-loop
 returns c = search needs
@@ -96,16 +93,18 @@ main-spec =
     cast-ones
     add-ones
     plans-requires
+    slice-aggregate-tell
+    tell-requires
     add-planned
     dries-requires
+    slice-aggregate-tell-2
+    tell-requires-2
     add-dried
     add-case
     loop-less
     loop-again
-    print-decimal-requires
-    slice-aggregate-write-all
-    write-all-requires
-    print-decimal-requires-2
-    slice-aggregate-write-all-2
-    write-all-requires-2
+    slice-aggregate-sum-up
+    sum-up-requires
+    slice-aggregate-sum-up-2
+    sum-up-requires-2
     returns)
