@@ -1,0 +1,510 @@
+// Runs whole cycles, asked and reported action by action and by the dry run: Three, a long coast with an overrun in it, a late cycle, tables
+// of others; then what the dry run refuses.
+use dry::Dried;
+use run::Answer;
+use run::Run;
+ghost use Prim.Native.Nat.{_≤_, _<_};
+ghost use lib.ListN.{length};
+
+fn main() {
+    io::write_all(
+        1,
+        b"a level; d decided, +r left to coast; l late; ! overrun mark set; x coast cancelled\n",
+    );
+    threes();
+    times();
+    longs();
+    late_coast();
+    longer_coast();
+    risen();
+    refusals();
+}
+
+// ---- Three: a chain 0, 1, 2; cycle 20; 2 and 4 at level 0, 6 and 8 at level 1
+
+fn three() -> [u8; 78] {
+    let masks = [0u64, 1, 2];
+    let deadlines = [0u32; 3];
+    let averages = [2u32, 6, 2, 6, 2, 6];
+    let worst = [4u32, 8, 4, 8, 4, 8];
+    let mut image = [0u8; 78];
+    profile::write(3, 2, 20, &masks, &deadlines, &averages, &worst, &mut image);
+    image
+}
+
+// Cases 1 to 3.
+fn threes() {
+    let image = three();
+    io::write_all(1, b"three 6 8 4\n");
+    both(&image, 3, 2, &[6, 8, 4]);
+    io::write_all(1, b"three 0 8 8\n");
+    both(&image, 3, 2, &[0, 8, 8]);
+    io::write_all(1, b"three 8 4 8\n");
+    both(&image, 3, 2, &[8, 4, 8]);
+}
+
+// Cases 4 and 5: the first action ends at a time, and the second is asked for.
+fn times() {
+    time(6);
+    time(7);
+    time(12);
+    time(13);
+}
+
+fn time(t: u32) {
+    let mut order = [0u8; 3];
+    let mut limits = [0i32; 6];
+    let mut worst = [0u32; 6];
+    let mut bounds = [0i32; 96];
+    planner::plan(&three(), &mut order, &mut limits, &mut worst, &mut bounds);
+    let first = Run::start(3, 2).run.ask(&order, &limits, &bounds).run;
+    let asked = first.report(t, &worst).run.ask(&order, &limits, &bounds);
+    let answer = asked.answer;
+    say_number(b"three at position 1, time ", t);
+    io::write_all(1, b":");
+    say_answer(answer, 0);
+    io::write_all(1, b"\n");
+}
+
+// ---- 20 actions, cycle 150: 1 and 2 at level 0, 5 and 9 at level 1, 60 and 80 at level 2
+
+fn long() -> [u8; 606] {
+    let masks = [0u64; 20];
+    let deadlines = [0u32; 20];
+    let averages = by_level(1, 5, 60);
+    let worst = by_level(2, 9, 80);
+    let mut image = [0u8; 606];
+    profile::write(
+        20,
+        3,
+        150,
+        &masks,
+        &deadlines,
+        &averages,
+        &worst,
+        &mut image,
+    );
+    image
+}
+
+fn by_level(a: u32, b: u32, c: u32) -> [u32; 60] {
+    let mut table = [a; 60];
+    let mut k = 0;
+    while k < 20 {
+        table[k * 3 + 1] = b;
+        table[k * 3 + 2] = c;
+        k += 1;
+    }
+    table
+}
+
+fn longs() {
+    io::write_all(1, b"long, each 2\n");
+    long_with(2, 5, 2);
+    io::write_all(1, b"long, each 2, position 5 at its worst time\n");
+    long_with(2, 5, 9);
+    io::write_all(1, b"long, each 2, position 5 one above it\n");
+    long_with(2, 5, 10);
+    io::write_all(1, b"long, each 2, position 9 takes 100\n");
+    long_with(2, 9, 100);
+    io::write_all(
+        1,
+        b"long, each 2, position 9 ends at 130, the next one's limit at level 0\n",
+    );
+    long_with(2, 9, 112);
+    io::write_all(1, b"long, each 2, position 9 ends at 131\n");
+    long_with(2, 9, 113);
+    io::write_all(1, b"long, each 0, position 9 takes 138\n");
+    long_with(0, 9, 138);
+}
+
+// Each action takes the same time but for the one at a position.
+fn long_with(each: u32, at: usize, duration: u32)
+    requires { ⌜ at < 20 ⌝ }
+{
+    let mut durations = [each; 20];
+    durations[at] = duration;
+    both(&long(), 20, 3, &durations);
+}
+
+// ---- both ways
+
+fn both(image: &[u8], n: u32, levels: u32, durations: &[u32])
+    requires { ⌜ n ≤ 64 ⌝ }
+{
+    let mut order = [0u8; 64];
+    let mut limits = [0i32; 512];
+    let mut worst = [0u32; 512];
+    let mut bounds = [0i32; 8192];
+    planner::plan(image, &mut order, &mut limits, &mut worst, &mut bounds);
+    cycle(n, levels, &order, &limits, &worst, &bounds, durations);
+    dried(n, levels, &limits, &worst, &bounds, durations);
+}
+
+// A line on a cycle, asked and reported.
+fn cycle(
+    n: u32,
+    levels: u32,
+    order: &[u8],
+    limits: &[i32],
+    worst: &[u32],
+    bounds: &[i32],
+    durations: &[u32],
+) {
+    let mut run = Run::start(n, levels).run;
+    io::write_all(1, b" run:");
+    let mut k = 0;
+    while k < n {
+        run = step(
+            run,
+            order,
+            limits,
+            worst,
+            bounds,
+            entry(durations, k as usize),
+        );
+        k += 1;
+    }
+    say_end(run.decisions, run.clock, run.overrun, run.late);
+}
+
+// An action asked for, and reported when its duration has passed.
+fn step(
+    run: Run,
+    order: &[u8],
+    limits: &[i32],
+    worst: &[u32],
+    bounds: &[i32],
+    duration: u32,
+) -> Run {
+    let asked = run.ask(order, limits, bounds);
+    let answer = asked.answer;
+    let next = asked.run;
+    say_answer(answer, next.left);
+    let end = std::num::wrapping_add_u32(next.clock, duration);
+    let reported = next.report(end, worst);
+    let ended = reported.run;
+    if reported.refusal != 0 {
+        say_number(b" refused ", reported.refusal);
+    }
+    say_marks(next, ended);
+    ended
+}
+
+fn say_answer(answer: Answer, left: u32) {
+    match answer {
+        Answer::Refused(number) => say_number(b" refused ", number),
+        Answer::Given {
+            action: _,
+            level,
+            decided,
+            late,
+        } => {
+            say_level(level, decided);
+            if decided {
+                say_left(left);
+            }
+            if late {
+                io::write_all(1, b"l");
+            }
+        }
+    }
+}
+
+fn say_level(level: u32, decided: bool) {
+    say_number(b" ", level);
+    if decided {
+        io::write_all(1, b"d");
+    }
+}
+
+fn say_left(left: u32) {
+    if 0 < left {
+        say_number(b"+", left);
+    }
+}
+
+// What the report of an end did to the record.
+fn say_marks(before: Run, after: Run) {
+    if after.overrun {
+        if !before.overrun {
+            io::write_all(1, b"!");
+        }
+    }
+    if after.left < before.left {
+        io::write_all(1, b"x");
+    }
+}
+
+fn say_end(decisions: u32, end: u32, overrun: bool, late: bool) {
+    say_number(b", decisions ", decisions);
+    say_number(b", end ", end);
+    say_number(b", overrun ", one_if(overrun));
+    say_number(b", late ", one_if(late));
+    io::write_all(1, b"\n");
+}
+
+fn say_number(words: &[u8], n: u32) {
+    io::write_all(1, words);
+    io::print_decimal(1, n as u64);
+}
+
+fn one_if(b: bool) -> u32 {
+    if b { 1 } else { 0 }
+}
+
+// ---- the dry run
+
+// A line on the same cycle by the dry run, each position's duration repeated at every level.
+fn dried(n: u32, levels: u32, limits: &[i32], worst: &[u32], bounds: &[i32], durations: &[u32])
+    requires { ⌜ n ≤ 64 ⌝ }
+{
+    let table = repeated(levels as usize, durations);
+    let mut given = [9u8; 64];
+    let mut marks = [9u8; 64];
+    let answer = dry::dry_run(
+        n as usize,
+        levels as usize,
+        limits,
+        worst,
+        bounds,
+        &table,
+        &mut given,
+        &mut marks,
+    );
+    io::write_all(1, b" dry:");
+    say_steps(n as usize, &given, &marks);
+    say_dried(answer);
+}
+
+fn repeated(levels: usize, durations: &[u32]) -> [u32; 512] {
+    let mut table = [0u32; 512];
+    if levels == 0 {
+        return table;
+    }
+    let mut k = 0;
+    while k < 512 {
+        table[k] = entry(durations, k / levels);
+        k += 1;
+    }
+    table
+}
+
+fn entry(table: &[u32], at: usize) -> u32 {
+    if at < table.len() { table[at] } else { 0 }
+}
+
+fn say_steps(n: usize, given: &[u8; 64], marks: &[u8; 64])
+    requires { ⌜ n ≤ 64 ⌝ }
+{
+    let mut k = 0;
+    while k < n {
+        say_level(wide(given[k]), marks[k] == 1);
+        k += 1;
+    }
+}
+
+fn wide(x: u8) -> u32 {
+    x as u32
+}
+
+fn say_dried(answer: Dried) {
+    if answer.refusal != 0 {
+        say_number(b" refused ", answer.refusal);
+    }
+    say_end(answer.decisions, answer.end, answer.overrun, answer.late);
+}
+
+// ---- tables of others, for 5 actions
+
+// No level ever fits, and the coast bounds grant all 5: late at the decision and not in its coast.
+fn late_coast() {
+    io::write_all(1, b"others, no level fits, all bounds 100\n");
+    let limits = [-1i32; 5];
+    let bounds = [100i32; 80];
+    other(1, &limits, &bounds);
+}
+
+// No coast of 1 or 2 qualifies, one of 3 does; after it none does, and r is 1.
+fn longer_coast() {
+    io::write_all(1, b"others, only r 3 qualifies at position 0\n");
+    let limits = [10i32; 5];
+    let mut bounds = [-1i32; 80];
+    bounds[2] = 0;
+    other(1, &limits, &bounds);
+}
+
+// Level 1 fits at position 2 alone, so that a coast at level 0 ends before it.
+fn risen() {
+    io::write_all(1, b"others, level 1 fits at position 2 alone\n");
+    let limits = [10i32, -1, 10, -1, 10, 5, 10, -1, 10, -1];
+    let bounds = [100i32; 160];
+    other(2, &limits, &bounds);
+}
+
+fn other(levels: u32, limits: &[i32], bounds: &[i32]) {
+    let order = [0u8, 1, 2, 3, 4];
+    let worst = [1u32; 10];
+    let durations = [1u32; 5];
+    cycle(5, levels, &order, limits, &worst, bounds, &durations);
+    dried(5, levels, limits, &worst, bounds, &durations);
+}
+
+// ---- what the dry run refuses, for 3 actions at 2 levels
+
+const MOST: usize = 18_446_744_073_709_551_615;
+
+const LONG: u32 = 16_777_216;
+
+fn refusals() {
+    io::write_all(
+        1,
+        b"room is of limits, worst, bounds, durations, levels, marks; 9 is untouched\n",
+    );
+    counts();
+    rooms();
+    entries();
+}
+
+fn counts() {
+    let exact = [6, 6, 96, 6, 3, 3];
+    room(0, 2, exact);
+    room(65, 2, exact);
+    room(MOST, 2, exact);
+    room(3, 0, exact);
+    room(3, 9, exact);
+    room(3, MOST, exact);
+    room(64, 8, exact);
+    room(1, 1, exact);
+}
+
+fn rooms() {
+    room(3, 2, [6, 6, 96, 6, 3, 3]);
+    room(3, 2, [7, 7, 97, 7, 4, 4]);
+    room(3, 2, [5, 6, 96, 6, 3, 3]);
+    room(3, 2, [6, 5, 96, 6, 3, 3]);
+    room(3, 2, [6, 6, 95, 6, 3, 3]);
+    room(3, 2, [6, 6, 96, 5, 3, 3]);
+    room(3, 2, [6, 6, 96, 6, 2, 3]);
+    room(3, 2, [6, 6, 96, 6, 3, 2]);
+    room(3, 2, [0, 6, 96, 6, 3, 3]);
+    room(3, 2, [6, 0, 96, 6, 3, 3]);
+    room(3, 2, [6, 6, 0, 6, 3, 3]);
+    room(3, 2, [6, 6, 96, 0, 3, 3]);
+    room(3, 2, [6, 6, 96, 6, 0, 3]);
+    room(3, 2, [6, 6, 96, 6, 3, 0]);
+}
+
+fn room(n: usize, levels: usize, room: [usize; 6]) {
+    entry_in(n, levels, 0, 1, room);
+}
+
+// Level 1 is given first, so that entry 0 is not used: it is judged all the same, and entry 6, behind the table, is not.
+fn entries() {
+    let exact = [6, 6, 96, 6, 3, 3];
+    entry_in(3, 2, 1, LONG - 1, exact);
+    entry_in(3, 2, 1, LONG, exact);
+    entry_in(3, 2, 0, LONG, exact);
+    entry_in(3, 2, 5, LONG, exact);
+    entry_in(3, 2, 0, 4_294_967_295, exact);
+    entry_in(3, 2, 6, LONG, [7, 7, 97, 7, 4, 4]);
+    // counts before room, room before entries
+    entry_in(0, 2, 0, LONG, [0, 0, 0, 0, 0, 0]);
+    entry_in(3, 2, 0, LONG, [6, 6, 96, 6, 3, 2]);
+}
+
+// A line on the dry run with that much of each table, and durations of 1 but for one entry.
+fn entry_in(n: usize, levels: usize, at: usize, duration: u32, room: [usize; 6]) {
+    let tried = try_dry(n, levels, with(at, duration), room);
+    let answer = tried.answer;
+    let given = tried.given;
+    let marks = tried.marks;
+    say_room(n, levels, room);
+    say_count(b", entry ", at);
+    say_number(b" of ", duration);
+    say_refusal(answer.refusal);
+    say_four(b", levels ", given);
+    say_four(b", marks ", marks);
+    say_end(answer.decisions, answer.end, answer.overrun, answer.late);
+}
+
+fn with(at: usize, duration: u32) -> [u32; 7] {
+    let mut durations = [1u32; 7];
+    if at < 7 {
+        durations[at] = duration;
+    }
+    durations
+}
+
+// What the dry run answers, and the two slices that it was lent, whole.
+struct Tried {
+    answer: Dried,
+    given: [u8; 4],
+    marks: [u8; 4],
+}
+
+fn try_dry(n: usize, levels: usize, durations: [u32; 7], room: [usize; 6]) -> Tried {
+    let limits = [100i32; 7];
+    let worst = [1u32; 7];
+    let bounds = [100i32; 97];
+    let mut given = [9u8; 4];
+    let mut marks = [9u8; 4];
+    let a = least(room[0], 7);
+    let b = least(room[1], 7);
+    let c = least(room[2], 97);
+    let d = least(room[3], 7);
+    let e = least(room[4], 4);
+    let f = least(room[5], 4);
+    let answer = dry::dry_run(
+        n,
+        levels,
+        &limits[..a],
+        &worst[..b],
+        &bounds[..c],
+        &durations[..d],
+        &mut given[..e],
+        &mut marks[..f],
+    );
+    Tried {
+        answer,
+        given,
+        marks,
+    }
+}
+
+fn least(a: usize, b: usize) -> usize
+    ensures { λ r. ⌜ r ≤ b ⌝ }
+{
+    if a < b { a } else { b }
+}
+
+fn say_room(n: usize, levels: usize, room: [usize; 6]) {
+    say_count(b"dry ", n);
+    say_count(b" ", levels);
+    say_count(b", room ", room[0]);
+    say_count(b" ", room[1]);
+    say_count(b" ", room[2]);
+    say_count(b" ", room[3]);
+    say_count(b" ", room[4]);
+    say_count(b" ", room[5]);
+}
+
+fn say_count(words: &[u8], n: usize) {
+    io::write_all(1, words);
+    io::print_decimal(1, n as u64);
+}
+
+fn say_refusal(number: u32) {
+    if number == 0 {
+        io::write_all(1, b": accepted");
+        return;
+    }
+    say_number(b": ", number);
+}
+
+fn say_four(words: &[u8], row: [u8; 4]) {
+    say_number(words, wide(row[0]));
+    say_number(b"", wide(row[1]));
+    say_number(b"", wide(row[2]));
+    say_number(b"", wide(row[3]));
+}
