@@ -4,12 +4,11 @@ use dry::Dried;
 use run::Answer;
 use run::Run;
 ghost use Prim.Native.Nat.{_≤_, _<_};
-ghost use lib.ListN.{length};
 
 fn main() {
     io::write_all(
         1,
-        b"a level; d decided, +r left to coast; l late; ! overrun mark set; x coast cancelled\n",
+        b"action:level; d decided, +r left to coast; l late; ! overrun mark set; x coast cancelled\n",
     );
     threes();
     times();
@@ -60,7 +59,7 @@ fn time(t: u32) {
     let first = Run::start(3, 2).run.ask(&order, &limits, &bounds).run;
     let asked = first.report(t, &worst).run.ask(&order, &limits, &bounds);
     let answer = asked.answer;
-    say_number(b"three at position 1, time ", t);
+    say::number(b"three at position 1, time ", t);
     io::write_all(1, b":");
     say_answer(answer, 0);
     io::write_all(1, b"\n");
@@ -185,7 +184,7 @@ fn step(
     let reported = next.report(end, worst);
     let ended = reported.run;
     if reported.refusal != 0 {
-        say_number(b" refused ", reported.refusal);
+        say::number(b" refused ", reported.refusal);
     }
     say_marks(next, ended);
     ended
@@ -193,14 +192,15 @@ fn step(
 
 fn say_answer(answer: Answer, left: u32) {
     match answer {
-        Answer::Refused(number) => say_number(b" refused ", number),
+        Answer::Refused(number) => say::number(b" refused ", number),
         Answer::Given {
-            action: _,
+            action,
             level,
             decided,
             late,
         } => {
-            say_level(level, decided);
+            say::number(b" ", action);
+            say_level(b":", level, decided);
             if decided {
                 say_left(left);
             }
@@ -211,8 +211,8 @@ fn say_answer(answer: Answer, left: u32) {
     }
 }
 
-fn say_level(level: u32, decided: bool) {
-    say_number(b" ", level);
+fn say_level(words: &[u8], level: u32, decided: bool) {
+    say::number(words, level);
     if decided {
         io::write_all(1, b"d");
     }
@@ -220,7 +220,7 @@ fn say_level(level: u32, decided: bool) {
 
 fn say_left(left: u32) {
     if 0 < left {
-        say_number(b"+", left);
+        say::number(b"+", left);
     }
 }
 
@@ -237,20 +237,11 @@ fn say_marks(before: Run, after: Run) {
 }
 
 fn say_end(decisions: u32, end: u32, overrun: bool, late: bool) {
-    say_number(b", decisions ", decisions);
-    say_number(b", end ", end);
-    say_number(b", overrun ", one_if(overrun));
-    say_number(b", late ", one_if(late));
+    say::number(b", decisions ", decisions);
+    say::number(b", end ", end);
+    say::mark(b", overrun ", overrun);
+    say::mark(b", late ", late);
     io::write_all(1, b"\n");
-}
-
-fn say_number(words: &[u8], n: u32) {
-    io::write_all(1, words);
-    io::print_decimal(1, n as u64);
-}
-
-fn one_if(b: bool) -> u32 {
-    if b { 1 } else { 0 }
 }
 
 // ---- the dry run
@@ -299,18 +290,14 @@ fn say_steps(n: usize, given: &[u8; 64], marks: &[u8; 64])
 {
     let mut k = 0;
     while k < n {
-        say_level(wide(given[k]), marks[k] == 1);
+        say_level(b" ", fields::wide32(given[k]), marks[k] == 1);
         k += 1;
     }
 }
 
-fn wide(x: u8) -> u32 {
-    x as u32
-}
-
 fn say_dried(answer: Dried) {
     if answer.refusal != 0 {
-        say_number(b" refused ", answer.refusal);
+        say::number(b" refused ", answer.refusal);
     }
     say_end(answer.decisions, answer.end, answer.overrun, answer.late);
 }
@@ -343,7 +330,7 @@ fn risen() {
 }
 
 fn other(levels: u32, limits: &[i32], bounds: &[i32]) {
-    let order = [0u8, 1, 2, 3, 4];
+    let order = [4u8, 3, 2, 1, 0];
     let worst = [1u32; 10];
     let durations = [1u32; 5];
     cycle(5, levels, &order, limits, &worst, bounds, &durations);
@@ -420,8 +407,8 @@ fn entry_in(n: usize, levels: usize, at: usize, duration: u32, room: [usize; 6])
     let given = tried.given;
     let marks = tried.marks;
     say_room(n, levels, room);
-    say_count(b", entry ", at);
-    say_number(b" of ", duration);
+    say::count(b", entry ", at);
+    say::number(b" of ", duration);
     say_refusal(answer.refusal);
     say_four(b", levels ", given);
     say_four(b", marks ", marks);
@@ -479,19 +466,14 @@ fn least(a: usize, b: usize) -> usize
 }
 
 fn say_room(n: usize, levels: usize, room: [usize; 6]) {
-    say_count(b"dry ", n);
-    say_count(b" ", levels);
-    say_count(b", room ", room[0]);
-    say_count(b" ", room[1]);
-    say_count(b" ", room[2]);
-    say_count(b" ", room[3]);
-    say_count(b" ", room[4]);
-    say_count(b" ", room[5]);
-}
-
-fn say_count(words: &[u8], n: usize) {
-    io::write_all(1, words);
-    io::print_decimal(1, n as u64);
+    say::count(b"dry ", n);
+    say::count(b" ", levels);
+    say::count(b", room ", room[0]);
+    say::count(b" ", room[1]);
+    say::count(b" ", room[2]);
+    say::count(b" ", room[3]);
+    say::count(b" ", room[4]);
+    say::count(b" ", room[5]);
 }
 
 fn say_refusal(number: u32) {
@@ -499,12 +481,12 @@ fn say_refusal(number: u32) {
         io::write_all(1, b": accepted");
         return;
     }
-    say_number(b": ", number);
+    say::number(b": ", number);
 }
 
 fn say_four(words: &[u8], row: [u8; 4]) {
-    say_number(words, wide(row[0]));
-    say_number(b"", wide(row[1]));
-    say_number(b"", wide(row[2]));
-    say_number(b"", wide(row[3]));
+    say::number(words, fields::wide32(row[0]));
+    say::number(b"", fields::wide32(row[1]));
+    say::number(b"", fields::wide32(row[2]));
+    say::number(b"", fields::wide32(row[3]));
 }

@@ -1,5 +1,7 @@
 // Runs the calls on a run record: starts, records at each edge of each field, tables of odd lengths, calls out of turn, and clocks.
 use run::Answer;
+use run::Asked;
+use run::Reported;
 use run::Run;
 ghost use Prim.Native.Nat.{_≤_};
 
@@ -16,8 +18,8 @@ fn main() {
         b"a number is a refusal that gave the record back as it was\n",
     );
     starts();
-    fields_of_most();
-    fields_of_least();
+    fields_of_greatest();
+    fields_near_the_end();
     ask_rooms();
     report_rooms();
     turns(b"raarraarraarra");
@@ -42,13 +44,7 @@ fn same_counts(a: Run, b: Run) -> bool {
 }
 
 fn same_marks(a: Run, b: Run) -> bool {
-    one_if(a.running) == one_if(b.running)
-        && one_if(a.overrun) == one_if(b.overrun)
-        && one_if(a.late) == one_if(b.late)
-}
-
-fn one_if(b: bool) -> u32 {
-    if b { 1 } else { 0 }
+    a.running == b.running && a.overrun == b.overrun && a.late == b.late
 }
 
 // The number of a refusal, 0 for none, where a refusal gave the record back as it was.
@@ -59,8 +55,7 @@ fn kept(number: u32, before: Run, after: Run) -> u32 {
     if same(before, after) { number } else { CHANGED }
 }
 
-fn ask_number(run: Run, order: &[u8], limits: &[i32], bounds: &[i32]) -> u32 {
-    let asked = run.ask(order, limits, bounds);
+fn ask_number(run: Run, asked: Asked) -> u32 {
     let answer = asked.answer;
     let next = asked.run;
     if let Answer::Refused(number) = answer {
@@ -69,33 +64,27 @@ fn ask_number(run: Run, order: &[u8], limits: &[i32], bounds: &[i32]) -> u32 {
     0
 }
 
-fn report_number(run: Run, clock: u32, worst: &[u32]) -> u32 {
-    let reported = run.report(clock, worst);
+fn report_number(run: Run, reported: Reported) -> u32 {
     let next = reported.run;
     kept(reported.refusal, run, next)
 }
 
-// The same two with tables as long as any record needs.
-fn asked(run: Run) -> u32 {
+// The calls with tables as long as any record needs: every limit and bound 0, every worst time 10.
+fn ask(run: Run) -> Asked {
     let order = [0u8; 64];
     let limits = [0i32; 512];
     let bounds = [0i32; 8192];
-    ask_number(run, &order, &limits, &bounds)
+    run.ask(&order, &limits, &bounds)
 }
 
-fn reported(run: Run, clock: u32) -> u32 {
+fn report(run: Run, clock: u32) -> Reported {
     let worst = [10u32; 512];
-    report_number(run, clock, &worst)
+    run.report(clock, &worst)
 }
 
 // ---- lines
 
-fn say_number(words: &[u8], n: u32) {
-    io::write_all(1, words);
-    io::print_decimal(1, n as u64);
-}
-
-fn say(words: &[u8], number: u32) {
+fn say_answer(words: &[u8], number: u32) {
     io::write_all(1, words);
     if number == 0 {
         io::write_all(1, b"accepted");
@@ -132,16 +121,16 @@ fn starts() {
 fn start(n: u32, levels: u32) {
     let started = Run::start(n, levels);
     let run = started.run;
-    say_number(b"start ", n);
-    say_number(b" ", levels);
-    say(b": ", started.refusal);
+    say::number(b"start ", n);
+    say::number(b" ", levels);
+    say_answer(b": ", started.refusal);
     if started.refusal == 0 {
         say_fresh(run, fresh(n, levels));
     } else {
         say_fresh(run, fresh(0, 0));
     }
-    say(b", ask ", asked(run));
-    say(b", report ", reported(run, 0));
+    say_answer(b", ask ", ask_number(run, ask(run)));
+    say_answer(b", report ", report_number(run, report(run, 0)));
     end_line();
 }
 
@@ -163,8 +152,8 @@ fn fresh(n: u32, levels: u32) -> Run {
 
 fn say_fresh(run: Run, wanted: Run) {
     if same(run, wanted) {
-        say_number(b" with n ", run.n);
-        say_number(b", levels ", run.levels);
+        say::number(b" with n ", run.n);
+        say::number(b", levels ", run.levels);
         io::write_all(1, b", all else 0");
         return;
     }
@@ -199,13 +188,13 @@ fn with(run: Run, field: Field, value: u32) -> Run {
 
 fn say_field(field: Field, value: u32) {
     match field {
-        Field::N => say_number(b"n ", value),
-        Field::Levels => say_number(b"levels ", value),
-        Field::Position => say_number(b"position ", value),
-        Field::Clock => say_number(b"clock ", value),
-        Field::Level => say_number(b"level ", value),
-        Field::Left => say_number(b"left ", value),
-        Field::Decisions => say_number(b"decisions ", value),
+        Field::N => say::number(b"n ", value),
+        Field::Levels => say::number(b"levels ", value),
+        Field::Position => say::number(b"position ", value),
+        Field::Clock => say::number(b"clock ", value),
+        Field::Level => say::number(b"level ", value),
+        Field::Left => say::number(b"left ", value),
+        Field::Decisions => say::number(b"decisions ", value),
     }
 }
 
@@ -247,17 +236,17 @@ fn greatest() -> Run {
 }
 
 fn say_record(run: Run) {
-    say_number(b"of n ", run.n);
-    say_number(b", levels ", run.levels);
-    say_number(b", position ", run.position);
-    say_number(b", clock ", run.clock);
-    say_number(b", level ", run.level);
-    say_number(b", left ", run.left);
-    say_number(b", decisions ", run.decisions);
+    say::number(b"of n ", run.n);
+    say::number(b", levels ", run.levels);
+    say::number(b", position ", run.position);
+    say::number(b", clock ", run.clock);
+    say::number(b", level ", run.level);
+    say::number(b", left ", run.left);
+    say::number(b", decisions ", run.decisions);
     end_line();
 }
 
-fn fields_of_most() {
+fn fields_of_greatest() {
     let most = greatest();
     say_record(most);
     edges(most, Field::N, [0, 63, 64, 65, 66, MOST]);
@@ -269,7 +258,7 @@ fn fields_of_most() {
     edges(most, Field::Decisions, [0, 1, 48, 49, 50, MOST]);
 }
 
-fn fields_of_least() {
+fn fields_near_the_end() {
     let last = with(middle(), Field::Position, 18);
     say_record(last);
     edges(last, Field::Left, [0, 1, 2, 3, 15, MOST]);
@@ -278,6 +267,10 @@ fn fields_of_least() {
     say_record(done);
     edges(done, Field::Position, [1, 2, 19, 20, 21, MOST]);
     edges(done, Field::Left, [14, 15, 16, 17, 18, MOST]);
+    // the last cell of the longest tables
+    let most = with(greatest(), Field::Left, 0);
+    say_record(most);
+    edges(most, Field::Position, [47, 48, 63, 64, 65, MOST]);
     let first = Run::start(1, 1).run;
     say_record(first);
     edges(first, Field::Position, [0, 1, 2, 3, 4, MOST]);
@@ -294,10 +287,11 @@ fn edges(run: Run, field: Field, values: [u32; 6]) {
 
 // A line on a record with a field changed: what asking answers while no action runs, and what a report answers while one does.
 fn edge(run: Run, field: Field, value: u32) {
-    let next = with(run, field, value);
+    let waits = with(run, field, value);
+    let runs = running(waits);
     say_field(field, value);
-    say(b": ask ", asked(next));
-    say(b", report ", reported(running(next), next.clock));
+    say_answer(b": ask ", ask_number(waits, ask(waits)));
+    say_answer(b", report ", report_number(runs, report(runs, runs.clock)));
     end_line();
 }
 
@@ -326,10 +320,10 @@ fn ask_room(run: Run, a: usize, b: usize, c: usize)
     requires { ⌜ (a ≤ 4) × (b ≤ 7) × (c ≤ 97) ⌝ }
 {
     say_state(run);
-    say_number(b", order ", a as u32);
-    say_number(b", limits ", b as u32);
-    say_number(b", bounds ", c as u32);
-    say(b": ask ", ask_front(run, a, b, c));
+    say::count(b", order ", a);
+    say::count(b", limits ", b);
+    say::count(b", bounds ", c);
+    say_answer(b": ask ", ask_front(run, a, b, c));
     end_line();
 }
 
@@ -339,7 +333,8 @@ fn ask_front(run: Run, a: usize, b: usize, c: usize) -> u32
     let order = [0u8; 4];
     let limits = [0i32; 7];
     let bounds = [0i32; 97];
-    ask_number(run, &order[..a], &limits[..b], &bounds[..c])
+    let asked = run.ask(&order[..a], &limits[..b], &bounds[..c]);
+    ask_number(run, asked)
 }
 
 fn report_rooms() {
@@ -364,9 +359,9 @@ fn report_room(run: Run, clock: u32, a: usize)
     requires { ⌜ a ≤ 7 ⌝ }
 {
     say_state(run);
-    say_number(b", worst ", a as u32);
-    say_number(b", clock ", clock);
-    say(b": report ", report_front(run, clock, a));
+    say::count(b", worst ", a);
+    say::number(b", clock ", clock);
+    say_answer(b": report ", report_front(run, clock, a));
     end_line();
 }
 
@@ -374,13 +369,14 @@ fn report_front(run: Run, clock: u32, a: usize) -> u32
     requires { ⌜ a ≤ 7 ⌝ }
 {
     let worst = [0u32; 7];
-    report_number(run, clock, &worst[..a])
+    let reported = run.report(clock, &worst[..a]);
+    report_number(run, reported)
 }
 
 fn say_state(run: Run) {
-    say_number(b"n ", run.n);
-    say_number(b", position ", run.position);
-    say_number(b", running ", one_if(run.running));
+    say::number(b"n ", run.n);
+    say::number(b", position ", run.position);
+    say::mark(b", running ", run.running);
 }
 
 // ---- turns
@@ -398,25 +394,15 @@ fn turns(calls: &[u8]) {
 fn turn(run: Run, call: u8) -> Run {
     say_state(run);
     if call == b'a' {
-        say(b": ask ", asked(run));
+        let asked = ask(run);
+        say_answer(b": ask ", ask_number(run, asked));
         end_line();
-        return after_ask(run);
+        return asked.run;
     }
-    say(b": report ", reported(run, run.clock));
+    let reported = report(run, run.clock);
+    say_answer(b": report ", report_number(run, reported));
     end_line();
-    after_report(run, run.clock)
-}
-
-fn after_ask(run: Run) -> Run {
-    let order = [0u8; 64];
-    let limits = [0i32; 512];
-    let bounds = [0i32; 8192];
-    run.ask(&order, &limits, &bounds).run
-}
-
-fn after_report(run: Run, clock: u32) -> Run {
-    let worst = [10u32; 512];
-    run.report(clock, &worst).run
+    reported.run
 }
 
 // ---- clocks
@@ -437,12 +423,14 @@ fn clocks(run: Run) {
 
 // A line on a report at a clock: the answer, and the fields that it may change.
 fn clock(run: Run, at: u32) {
-    let next = after_report(running(run), at);
-    say_number(b"report at ", at);
-    say(b": ", reported(running(run), at));
-    say_number(b"; position ", next.position);
-    say_number(b", clock ", next.clock);
-    say_number(b", left ", next.left);
-    say_number(b", overrun ", one_if(next.overrun));
+    let runs = running(run);
+    let reported = report(runs, at);
+    let next = reported.run;
+    say::number(b"report at ", at);
+    say_answer(b": ", report_number(runs, reported));
+    say::number(b"; position ", next.position);
+    say::number(b", clock ", next.clock);
+    say::number(b", left ", next.left);
+    say::mark(b", overrun ", next.overrun);
     end_line();
 }

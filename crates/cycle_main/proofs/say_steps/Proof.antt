@@ -5,19 +5,22 @@ use Rattle.cycle_main.proofs.say_steps.Statement.{statement}
 use Rattle.cycle_main.proofs.say_steps.Tie as tie
 
 abbrev Inv-loop : tie.InvT-loop
-Inv-loop n given marks k₀ k = k ≤ n
+Inv-loop n given marks k₀ t5 k = k ≤ n
 
 abbrev μ-loop : tie.MeasureT-loop
-μ-loop n given marks k₀ k = n - k
+μ-loop n given marks k₀ t5 k = n - k
 
 loop-holds : tie.Need-loop-holds Inv-loop μ-loop
 loop-holds c = search needs
 
-element-copy-out-wide : tie.Need-element-copy-out-wide Inv-loop μ-loop
-element-copy-out-wide c = search needs
+slice-aggregate-say-level : tie.Need-slice-aggregate-say-level Inv-loop μ-loop
+slice-aggregate-say-level c = search needs
 
-wide-requires : tie.Need-wide-requires Inv-loop μ-loop
-wide-requires c κs = search needs
+element-copy-out-wide32 : tie.Need-element-copy-out-wide32 Inv-loop μ-loop
+element-copy-out-wide32 c = search needs
+
+wide32-requires : tie.Need-wide32-requires Inv-loop μ-loop
+wide32-requires c κs = search needs
 
 element-copy-out-say-level : tie.Need-element-copy-out-say-level Inv-loop μ-loop
 element-copy-out-say-level c = search needs
@@ -44,8 +47,9 @@ say-steps-spec =
     Inv-loop
     μ-loop
     loop-holds
-    element-copy-out-wide
-    wide-requires
+    slice-aggregate-say-level
+    element-copy-out-wide32
+    wide32-requires
     element-copy-out-say-level
     say-level-requires
     add-k

@@ -8,8 +8,11 @@ use Rattle.run_main.proofs.report_front.Tie as tie
 array-share-prefix-worst : tie.Need-array-share-prefix-worst
 array-share-prefix-worst c = search needs
 
-slice-aggregate-report-number : tie.Need-slice-aggregate-report-number
-slice-aggregate-report-number c = simp length-take (omega arith)
+slice-aggregate-report : tie.Need-slice-aggregate-report
+slice-aggregate-report c = simp length-take (omega arith)
+
+report-requires : tie.Need-report-requires
+report-requires c κs = search needs
 
 report-number-requires : tie.Need-report-number-requires
 report-number-requires c κs = search needs
@@ -22,6 +25,7 @@ report-front-spec =
     tie.close
     (tie.spec
     array-share-prefix-worst
-    slice-aggregate-report-number
+    slice-aggregate-report
+    report-requires
     report-number-requires
     returns)
