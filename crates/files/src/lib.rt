@@ -1,4 +1,6 @@
 // Files of the programs.
+ghost use mathlib.Core.Path.{_≡_};
+ghost use lib.ListN.{length};
 ghost use Rattle.io.specs.Counts.{Counts};
 
 // How much of the file there is at the start of `out`; an absent file is empty.
@@ -12,4 +14,11 @@ pub fn read_file(name: &[u8], out: &mut [u8]) -> usize
     let n = io::read_full(fd, out);
     libc::close(fd);
     n
+}
+
+// 400,000 zeros: room for a trace of one record too many, which has 327,680 bytes. The `ensures` gives the length, so that no caller counts it.
+pub fn long_buffer() -> [u8; 400000]
+    ensures { λ r. ⌜ 400000 ≡ length r ⌝ }
+{
+    [0; 400000]
 }

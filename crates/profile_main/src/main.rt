@@ -4,7 +4,7 @@ ghost use Prim.Native.Nat.{_<_};
 fn main() {
     write_three();
     read_three();
-    let image = one();
+    let image = samples::one();
     say(1, check_front(&image, 5), check_front(&image, 24));
     say(2, check_with(0, 0x20), check_with(0, 0x10));
     say(3, check_with(5, 0), check_with(5, 8));
@@ -34,12 +34,7 @@ fn say(number: u32, refused: u32, accepted: u32) {
     io::write_all(1, b" refused, neighbour accepted\n");
 }
 
-// ---- one action at one level, cycle 1, all times 0
-
-fn one() -> [u8; 24] {
-    *b"\x10\x22\x00\x00\x00\x08\
-\x00\x00\x00\x00\x00\x00\x00\x00\x00\x00\x00\x00\x00\x00\x00\x00\x00\x00"
-}
+// ---- One
 
 // The check of an image's first bytes, of all of it where it has no more.
 fn check_front(image: &[u8], bytes: usize) -> u32 {
@@ -53,14 +48,14 @@ fn check_front(image: &[u8], bytes: usize) -> u32 {
 fn check_with(at: usize, byte: u8) -> u32
     requires { ⌜ at < 24 ⌝ }
 {
-    let mut image = one();
+    let mut image = samples::one();
     image[at] = byte;
     profile::check(&image).number
 }
 
 // The refusal of a lookup; 99 where the part's length is not that of a record, or of nothing with a refusal.
 fn lookup_one(action: usize) -> u32 {
-    let image = one();
+    let image = samples::one();
     let number = profile::lookup_refusal(&image, action).number;
     let bytes = profile::lookup(&image, action).len();
     if number == 0 {
@@ -69,14 +64,7 @@ fn lookup_one(action: usize) -> u32 {
     if bytes == 0 { number } else { 99 }
 }
 
-// ---- Three: a chain 0, 1, 2; cycle 20; deadlines 0; 2 and 4 at level 0, 6 and 8 at level 1
-
-fn three() -> [u8; 78] {
-    *b"\x10\x64\x00\x00\x00\xa0\
-\x00\x00\x00\x00\x00\x00\x00\x00\x00\x00\x00\x00\x00\x00\x02\x00\x00\x04\x00\x00\x06\x00\x00\x08\
-\x00\x00\x00\x00\x00\x00\x00\x01\x00\x00\x00\x00\x00\x00\x02\x00\x00\x04\x00\x00\x06\x00\x00\x08\
-\x00\x00\x00\x00\x00\x00\x00\x02\x00\x00\x00\x00\x00\x00\x02\x00\x00\x04\x00\x00\x06\x00\x00\x08"
-}
+// ---- Three
 
 fn write_three() {
     let masks = [0u64, 1, 2];
@@ -86,7 +74,7 @@ fn write_three() {
     let mut image = [0u8; 78];
     let written = profile::write(3, 2, 20, &masks, &deadlines, &averages, &worst, &mut image);
     if written.refusal.number == 0 {
-        if check::same(&image, &three()) {
+        if check::same(&image, &samples::three()) {
             io::write_all(1, b"three written ");
             io::print_decimal(1, written.bytes as u64);
             io::write_all(1, b"\n");
@@ -95,7 +83,7 @@ fn write_three() {
 }
 
 fn read_three() {
-    let image = three();
+    let image = samples::three();
     let mut masks = [9u64; 3];
     let mut deadlines = [9u32; 3];
     let mut averages = [9u32; 6];
@@ -120,7 +108,7 @@ fn read_three() {
 
 // The refusal of reading it, with this much room for the worst times.
 fn read_into(worst: &mut [u32]) -> u32 {
-    let image = three();
+    let image = samples::three();
     let mut masks = [0u64; 3];
     let mut deadlines = [0u32; 3];
     let mut averages = [0u32; 6];

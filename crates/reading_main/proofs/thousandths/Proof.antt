@@ -1,0 +1,26 @@
+-- The two tests are the range that the cast asks for. Assumes nothing.
+use mathlib.Core.Path.{sym, subst}
+use lib.Dec.{T}
+use lib.Ieee.{ofBits, neg}
+use borrow.Author.Needs.{needs}
+use Rattle.reading_main.proofs.thousandths.Statement.{statement}
+use Rattle.reading_main.proofs.thousandths.Tie as tie
+use Rattle.reading_main.proofs.thousandths.Reads as reads
+use Rattle.reading_main.proofs.thousandths.Lts as lts
+use Rattle.std.proofs.num.truncating_f64_to_u64.Reads as truncating-f64-to-u64-reads
+
+truncating-f64-to-u64-requires : tie.Need-truncating-f64-to-u64-requires
+unfolding ofBits neg
+truncating-f64-to-u64-requires c κs = (subst T (sym (c .before .if1 .taken)) tt, subst T (sym (c .if2 .taken)) tt)
+
+returns : tie.Need-returns
+returns c = search needs
+
+returns-2 : tie.Need-returns-2
+returns-2 c = search needs
+
+returns-3 : tie.Need-returns-3
+returns-3 c = search needs
+
+pub thousandths-spec : {M : Type 1} → statement M
+thousandths-spec = tie.close (tie.spec truncating-f64-to-u64-requires returns returns-2 returns-3)

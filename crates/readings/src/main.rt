@@ -1,0 +1,52 @@
+// Outside readings: each line of readings.txt has an image in hexadecimal, the first position, the last, the level, the time, and the
+// reading as the programs print it.
+use files::read_file;
+use reading_text::put_reading;
+
+// Whether the reading that a line asks for is the one that it says.
+fn agrees(line: &[u8]) -> bool {
+    let mut image = io::buffer();
+    let n = lines::bytes(line, &mut image);
+    let first = lines::number(line, 1) as usize;
+    let last = lines::number(line, 2) as usize;
+    let level = lines::number(line, 3) as usize;
+    let t = lines::number(line, 4);
+    let reading = speed::speed_reading(&image[..n], first, last, level, t);
+    let mut out = [0u8; 32];
+    let k = put_reading(&mut out, reading);
+    let said = lines::word(line, 5);
+    check::same(&out[..k], &line[said..])
+}
+
+fn disagrees(line: u64) {
+    io::write_all(1, b"line ");
+    io::print_decimal(1, line);
+    io::write_all(1, b" does not agree\n");
+}
+
+// How many lines agree of how many, and the number of each that does not, counted from 1.
+fn compare(text: &[u8]) {
+    let mut at = 0;
+    let mut line: u64 = 0;
+    let mut agreed: u64 = 0;
+    while at < text.len() {
+        let end = lines::find(text, at, b'\n');
+        line += 1;
+        if agrees(&text[at..end]) {
+            agreed += 1;
+        } else {
+            disagrees(line);
+        }
+        at = lines::next(text, at, b'\n');
+    }
+    io::print_decimal(1, agreed);
+    io::write_all(1, b" of ");
+    io::print_decimal(1, line);
+    io::write_all(1, b" readings agree\n");
+}
+
+fn main() {
+    let mut text = files::long_buffer();
+    let n = read_file(b"readings.txt", &mut text);
+    compare(&text[..n]);
+}
