@@ -5,6 +5,7 @@ ghost use mathlib.Core.Bool.{false};
 ghost use Rattle.frame.specs.Frame.{Frames};
 
 // The refusal; without one the number of positions, the decisions made, the clock at the end and the two marks, else 0 and no.
+#[repr(C)]
 pub struct Framed {
     pub refusal: Refusal,
     pub n: usize,

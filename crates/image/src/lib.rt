@@ -16,6 +16,7 @@ pub struct Header {
 }
 
 // A number of refusal, 0 for none.
+#[repr(C)]
 pub struct Refusal {
     pub number: u32,
 }

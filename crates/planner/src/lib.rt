@@ -15,6 +15,7 @@ ghost use Rattle.image.specs.Reading.{HasRecord, Column};
 ghost use Rattle.planner.specs.Planning.{rooms, Plans, Given, SomeGiven, Filled, Written};
 
 // The answer of planning: with a refusal all else is 0; without one what the header says.
+#[repr(C)]
 pub struct Planned {
     pub refusal: Refusal,
     pub n: usize,

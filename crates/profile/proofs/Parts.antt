@@ -1,12 +1,14 @@
 -- The record of an action as a part of its image. Assumes nothing.
 use mathlib.Core.Path.{_≡_, refl, ap, _∙_}
-use mathlib.Core.List.{List}
+use mathlib.Core.List.{List, []}
 use Prim.Native.Nat.{ℕ, _+_, _*_, _-_, _/_, _^_, _≤_, _<_}
 use native.Mathlib.Omega.{arith}
 use lib.Dec.{lit<}
+use native.Mathlib.Decide.{ℕ-discrete}
+use borrow.Author.Tests.{ne-eqb}
 use lib.ListN.{length}
 use Rattle.rules.specs.Image.{be, levels, record-bytes, record-at, mask-of, deadline-of, average-of, worst-of, profile}
-use Rattle.rules.specs.Refusals.{_when_, First, lookup-call}
+use Rattle.rules.specs.Refusals.{_when_, First, kept, lookup-call}
 use Rattle.rules.proofs.Refusals.{Sound, accepted-sound}
 use Rattle.fields.specs.Fields.{part}
 use Rattle.fields.proofs.Strides.{stride-more}
@@ -14,7 +16,8 @@ use Rattle.fields.proofs.Parts.{be-part}
 use Rattle.image.specs.Reading.{HasRecord}
 use Rattle.image.proofs.Checks.{has-records}
 use Rattle.image.proofs.Reading.{has-record}
-use Rattle.profile.specs.Calls.{record-of}
+use Rattle.profile.specs.Calls.{Places, record-of}
+use Rattle.profile.specs.declared.Place.{Place}
 use Rattle.profile.proofs.Answers.{none-given}
 
 -- ---- a lookup with no refusal
@@ -43,12 +46,36 @@ pub record-next : (L a : ℕ) → record-at L (a + 1) ≡ record-at L a + record
 unfolding record-at
 record-next L a = omega (arith, stride-more a (record-bytes L))
 
-pub record-is : (s : List ℕ) (a : ℕ) {L start end : ℕ} → L ≡ levels s → start ≡ record-at L a → end ≡ record-at L (a + 1)
-    → part s start (end - start) ≡ record-of s a
-unfolding profile
-record-is s a {L} {start} {end} said starts ends =
-    let size : end - start ≡ record-bytes L = omega (arith, record-next L a) in
-    rw (size, starts, said)
+-- ---- the place of a lookup
+
+module _ (s : List ℕ) (a : ℕ) {r : Place} (x : Places s a r) where
+  -- with a refusal it is empty
+  nowhere : (r .refusal .number ≡ 0 → ⊥) → (r .start ≡ 0) × (r .length ≡ 0)
+  nowhere some =
+      let e = ne-eqb (r .refusal .number) 0 some in
+      (rw e at (x .start), rw e at (x .length))
+
+  -- the part there ends within the image
+  pub placed-within : r .start + r .length ≤ length s
+  placed-within = by (ℕ-discrete (r .refusal .number) 0)
+    where
+      by : Dec (r .refusal .number ≡ 0) → r .start + r .length ≤ length s
+      by (yes none) =
+          let h = has-named (named s a (rw none at (x .given))) in
+          omega (arith, h .within, rw none at (x .start), rw none at (x .length))
+      by (no some) =
+          let (from, size) = nowhere some in
+          omega (arith, from, size)
+
+  -- and is what the lookup hands back
+  pub placed-part : part s (r .start) (r .length) ≡ kept (r .refusal .number) (record-of s a) []
+  placed-part = by (ℕ-discrete (r .refusal .number) 0)
+    where
+      by : Dec (r .refusal .number ≡ 0) → part s (r .start) (r .length) ≡ kept (r .refusal .number) (record-of s a) []
+      by (yes none) = rw (x .length, x .start, none)
+      by (no some) =
+          let (from, size) = nowhere some in
+          rw (size, ne-eqb (r .refusal .number) 0 some)
 
 -- ---- the fields of the part
 

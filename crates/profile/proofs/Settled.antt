@@ -10,7 +10,8 @@ use Rattle.pack.specs.Writing.{Writes}
 use Rattle.pack.proofs.Settled.{writes-one}
 use Rattle.profile.specs.declared.Unpacked.{Unpacked}
 use Rattle.profile.specs.declared.Written.{Written}
-use Rattle.profile.specs.Calls.{rooms, Reads, record-of, LooksUp}
+use Rattle.profile.specs.declared.Place.{Place}
+use Rattle.profile.specs.Calls.{rooms, Reads, Places, record-of, LooksUp}
 
 -- `check`, whose row is the image checks, and `lookup_refusal`, whose row is that of a lookup
 pub refusal-one : (row : List Ground) (r t : Refusal) → First row (r .number) → First row (t .number) → r ≡ t
@@ -39,10 +40,24 @@ module _ {s m d a w : List ℕ} where
           ∙ ap (λ (v : ℕ). made (t .refusal) (t .n) v (r .cycle)) L
           ∙ ap (made (t .refusal) (t .n) (t .levels)) c
 
--- `lookup`: the part that goes with the number of the second call
+-- `lookup` and `lookup_place`: the part that goes with the number of the second call
 module _ {s : List ℕ} {a : ℕ} where
   pub looked-up : {k : ℕ} {x : List ℕ} → First (lookup-call s a) k → LooksUp s a x → x ≡ kept k (record-of s a) []
   looked-up {k} p x = rw (first-one (lookup-call s a) (x .refusal) k (x .given) p) at (x .is)
+
+  pub place-one : {r t : Place} → Places s a r → Places s a t → r ≡ t
+  place-one {r} {t} x y =
+      let e = refusal-one (lookup-call s a) (r .refusal) (t .refusal) (x .given) (y .given) in
+      answer e ((rw e at (x .start)) ∙ sym (y .start)) ((rw e at (x .length)) ∙ sym (y .length))
+    where
+      made : Refusal → ℕ → ℕ → Place
+      made f start length = record { refusal = f; start = start; length = length }
+
+      answer : r .refusal ≡ t .refusal → r .start ≡ t .start → r .length ≡ t .length → r ≡ t
+      answer f start length =
+          ap (λ (v : Refusal). made v (r .start) (r .length)) f
+          ∙ ap (λ (v : ℕ). made (t .refusal) v (r .length)) start
+          ∙ ap (made (t .refusal) (t .start)) length
 
   pub lookup-one : {x y : List ℕ} → LooksUp s a x → LooksUp s a y → x ≡ y
   lookup-one x y = looked-up (y .given) x ∙ sym (y .is)

@@ -8,6 +8,7 @@ use Rattle.rules.specs.Image.{profile, record-at, record-bytes}
 use Rattle.rules.specs.Refusals.{First, kept, image-call, lookup-call}
 use Rattle.fields.specs.Fields.{splice, part}
 use Rattle.profile.specs.declared.Unpacked.{Unpacked}
+use Rattle.profile.specs.declared.Place.{Place}
 
 -- ---- reading
 
@@ -39,6 +40,12 @@ pub record Reads (s m d a w m′ d′ a′ w′ : List ℕ) (r : Unpacked) : Typ
 -- The record of action a in the image s.
 abbrev pub record-of : List ℕ → ℕ → List ℕ
 record-of s a = part s (record-at (profile s .levels) a) (record-bytes (profile s .levels))
+
+-- Where the record of action a lies in the image s; with a refusal nowhere.
+pub record Places (s : List ℕ) (a : ℕ) (r : Place) : Type 0 where
+  pub given : First (lookup-call s a) (r .refusal .number)
+  pub start : r .start ≡ kept (r .refusal .number) (record-at (profile s .levels) a) 0
+  pub length : r .length ≡ kept (r .refusal .number) (record-bytes (profile s .levels)) 0
 
 -- Looking action a up in the image s hands back its record; with a refusal nothing.
 pub record LooksUp (s : List ℕ) (a : ℕ) (found : List ℕ) : Type 0 where

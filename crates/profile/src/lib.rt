@@ -6,9 +6,10 @@ ghost use mathlib.Core.Logic.{_↔_};
 ghost use Prim.Native.Nat.{_≤_};
 ghost use Rattle.rules.specs.Refusals.{First, Tight, image-checks, lookup-call};
 ghost use Rattle.pack.specs.Writing.{Writes};
-ghost use Rattle.profile.specs.Calls.{rooms, Blank, Reads, LooksUp};
+ghost use Rattle.profile.specs.Calls.{rooms, Blank, Reads, Places, LooksUp};
 
 // The answer of reading: the refusal, and without one the counts and the cycle of the profile, else 0.
+#[repr(C)]
 pub struct Unpacked {
     pub refusal: Refusal,
     pub n: usize,
@@ -17,9 +18,18 @@ pub struct Unpacked {
 }
 
 // The answer of writing: the refusal, and the number of bytes written.
+#[repr(C)]
 pub struct Written {
     pub refusal: Refusal,
     pub bytes: usize,
+}
+
+// The answer of a lookup: the refusal, and without one where the action's own part of the image starts and how many bytes it has, else 0.
+#[repr(C)]
+pub struct Place {
+    pub refusal: Refusal,
+    pub start: usize,
+    pub length: usize,
 }
 
 // The check of an image: refusals 1 to 9, in this order, over the whole image.
@@ -112,17 +122,36 @@ pub fn lookup_refusal(image: &[u8], action: usize) -> Refusal
     given
 }
 
-// The action's own part of the image, uncopied; empty with a refusal.
-pub fn lookup(image: &[u8], action: usize) -> &[u8]
-    ensures { λ r. ⌜ LooksUp (now (image .entry)) action (now r) ⌝ }
+// Where the action's own part of the image lies.
+pub fn lookup_place(image: &[u8], action: usize) -> Place
+    ensures { λ r. ⌜ Places (now (image .entry)) action r ⌝ }
 {
-    if lookup_refusal(image, action).number != 0 {
-        return &image[0..0];
+    let looked = lookup_refusal(image, action);
+    if looked.number != 0 {
+        return Place {
+            refusal: looked,
+            start: 0,
+            length: 0,
+        };
     }
     let levels = image::read::header(image).levels;
     let next = action + 1;
     let start = image::read::record_at(levels, action);
     let end = image::read::record_at(levels, next);
+    Place {
+        refusal: looked,
+        start,
+        length: end - start,
+    }
+}
+
+// The action's own part of the image, uncopied; empty with a refusal.
+pub fn lookup(image: &[u8], action: usize) -> &[u8]
+    ensures { λ r. ⌜ LooksUp (now (image .entry)) action (now r) ⌝ }
+{
+    let place = lookup_place(image, action);
+    let start = place.start;
+    let end = start + place.length;
     &image[start..end]
 }
 

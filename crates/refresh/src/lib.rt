@@ -11,6 +11,7 @@ ghost use Rattle.measure.specs.Measure.{Tallied, Divides};
 ghost use Rattle.refresh.specs.Refresh.{Refreshes, Weighed, Renews, Unpacked};
 
 // The answer of a refresh: the refusal, 0 for none, and the bytes of the new image.
+#[repr(C)]
 pub struct Refreshed {
     pub refusal: Refusal,
     pub bytes: usize,

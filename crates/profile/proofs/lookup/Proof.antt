@@ -1,39 +1,28 @@
 -- Assumes nothing.
 use mathlib.Core.Path.{_≡_}
+use Prim.Native.Nat.{_+_, _-_, _≤_}
+use lib.ListN.{length}
 use native.Mathlib.Omega.{arith}
 use denote.Ref.{now}
 use borrow.Author.Needs.{needs}
-use borrow.Author.Tests.{ne-eqb}
-use Rattle.rules.specs.Image.{profile}
-use Rattle.rules.specs.Refusals.{First, lookup-call}
-use Rattle.image.specs.Reading.{HasRecord}
-use Rattle.profile.proofs.Parts.{Named, named, has-named, not-short, record-next, record-is}
+use Rattle.profile.proofs.Parts.{placed-within, placed-part}
 use Rattle.profile.proofs.lookup.Statement.{statement}
 use Rattle.profile.proofs.lookup.Tie as tie
 
--- ---- past the test for a refusal
+-- ---- where the part lies
 
-abbrev past : tie.Else1 → tie.Start
-past c = c .before .before .before .before
-
-given : (c : tie.Else1) → First (lookup-call (now (past c .args .image)) (past c .args .action)) 0
-given c =
-    let r = c .before .before .lookup-refusal in
-    let none : r .result .number ≡ 0 = c .if1 .left in
-    rw none at (r .ensures)
-
-there : (c : tie.Else1) → Named (now (past c .args .image)) (past c .args .action)
-there c = named _ _ (given c)
-
--- the record is there, by the levels that the header says
-has : (c : tie.After-header) → HasRecord (now (past (c .before) .args .image)) (c .header .result .levels) (past (c .before) .args .action)
-unfolding profile
-has c = rw (c .header .ensures .levels) (has-named (there (c .before)))
+within : (c : tie.After-lookup-place) → c .lookup-place .result .start + c .lookup-place .result .length ≤ length (now (c .before .before .args .image))
+within c = placed-within _ (c .before .before .args .action) (c .lookup-place .ensures)
 
 -- ---- the needs
 
-lookup-refusal-requires : tie.Need-lookup-refusal-requires
-lookup-refusal-requires c κs = search needs
+lookup-place-requires : tie.Need-lookup-place-requires
+lookup-place-requires c κs = search needs
+
+add-end : tie.Need-add-end
+add-end c =
+    let w = within (c .before) in
+    search (needs, w)
 
 sub-result : tie.Need-sub-result
 sub-result c = search needs
@@ -42,72 +31,15 @@ part-result-start : tie.Need-part-result-start
 part-result-start c = search needs
 
 part-result-end : tie.Need-part-result-end
-part-result-end c = search needs
+part-result-end c =
+    let w = within (c .before) in
+    omega arith
 
 returns : tie.Need-returns
 returns c =
-    let r = c .before .before .before .lookup-refusal in
-    let some = ne-eqb (r .result .number) 0 (c .before .if1 .taken) in
-    record { refusal = r .result .number; given = r .ensures; is = rw some }
-
-header-requires : tie.Need-header-requires
-header-requires c κs = not-short (there c .sound)
-
-add-next : tie.Need-add-next
-add-next c =
-    let h = has c in
-    omega arith
-
-record-at-requires : tie.Need-record-at-requires
-record-at-requires c κs =
-    let h = has c in
-    (h .few-levels, omega arith)
-
-record-at-requires-2 : tie.Need-record-at-requires-2
-record-at-requires-2 c κs =
-    let h = has (c .before) in
-    (h .few-levels, omega arith)
-
-sub-result-2 : tie.Need-sub-result-2
-sub-result-2 c =
-    let p = c .before .before in
-    omega (arith, record-next (p .header .result .levels) (past (p .before) .args .action))
-
-part-result-start-2 : tie.Need-part-result-start-2
-part-result-start-2 c =
-    let p = c .before .before in
-    let h = has p in
-    omega (arith, record-next (p .header .result .levels) (past (p .before) .args .action))
-
-part-result-end-2 : tie.Need-part-result-end-2
-part-result-end-2 c =
-    let p = c .before .before in
-    let h = has p in
-    omega (arith, record-next (p .header .result .levels) (past (p .before) .args .action))
-
-returns-2 : tie.Need-returns-2
-returns-2 c =
-    let p = c .before .before .before in record {
-      refusal = 0;
-      given = given (p .before);
-      is = record-is _ (past (p .before) .args .action) (p .header .ensures .levels) (c .before .before .record-at .ensures)
-          (c .before .record-at2 .ensures);
-    }
+    let at = c .before .before .lookup-place in
+    let size : at .result .start + at .result .length - at .result .start ≡ at .result .length = omega arith in
+    record { refusal = at .result .refusal .number; given = at .ensures .given; is = rw size (placed-part _ _ (at .ensures)) }
 
 pub lookup-spec : {M : Type 1} → statement M
-lookup-spec =
-    tie.close
-    (tie.spec
-    lookup-refusal-requires
-    sub-result
-    part-result-start
-    part-result-end
-    returns
-    header-requires
-    add-next
-    record-at-requires
-    record-at-requires-2
-    sub-result-2
-    part-result-start-2
-    part-result-end-2
-    returns-2)
+lookup-spec = tie.close (tie.spec lookup-place-requires add-end sub-result part-result-start part-result-end returns)

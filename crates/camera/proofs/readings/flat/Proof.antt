@@ -1,0 +1,28 @@
+-- Each case is laid flat; the literal 0.0 is the float 0. Assumes nothing.
+use borrow.Author.Needs.{needs}
+use lib.Ieee.{ofBits}
+use Rattle.camera.proofs.readings.flat.Statement.{statement}
+use Rattle.camera.proofs.readings.flat.Tie as tie
+
+enum-known-reading : tie.Need-enum-known-reading
+enum-known-reading c = search needs
+
+enum-told : tie.Need-enum-told
+enum-told c = search needs
+
+enum-known-reading-2 : tie.Need-enum-known-reading-2
+enum-known-reading-2 c = search needs
+
+returns : tie.Need-returns
+returns c = rw (c .before .reading .given .1)
+
+returns-2 : tie.Need-returns-2
+unfolding ofBits
+returns-2 c = rw (c .enum-told .given .1)
+
+returns-3 : tie.Need-returns-3
+unfolding ofBits
+returns-3 c = rw (c .before .reading2 .given .1)
+
+pub flat-spec : {M : Type 1} → statement M
+flat-spec = tie.close (tie.spec enum-known-reading enum-told enum-known-reading-2 returns returns-2 returns-3)

@@ -1,0 +1,37 @@
+-- Assumes nothing.
+use mathlib.Core.Path.{_≡_, refl}
+use borrow.Author.Needs.{needs}
+use Rattle.rules.specs.Run as rules
+use Rattle.run.specs.declared.Answer.{Answer}
+use Rattle.run.specs.declared.Answer.the-variants.{Refused, Given as Gives}
+use Rattle.run.specs.declared.Asked.{Asked}
+use Rattle.run.specs.Calls.{run-of, with-run, answer-of}
+use Rattle.camera.specs.declared.runs.Given.{Given}
+use Rattle.camera.specs.Flat.{given-of, next-run, Asks}
+use Rattle.camera.proofs.runs.nyokazerubi_ask_by_value.Statement.{statement}
+use Rattle.camera.proofs.runs.nyokazerubi_ask_by_value.Tie as tie
+
+-- ---- the flat answer of what an asking answers
+
+asks : {g : Given} (a : Asked) → g ≡ given-of (answer-of a) → Asks (answer-of a) (a .run) g
+asks a flat = record { given = flat; run = next (a .answer) }
+  where
+    next : (y : Answer) → run-of (a .run) ≡ next-run (with-run y (run-of (a .run)))
+    next (Refused number) = refl
+    next (Gives action level decided late) = refl
+
+-- ---- the needs
+
+ask-requires : tie.Need-ask-requires
+ask-requires c κs = search needs
+
+flat-requires : tie.Need-flat-requires
+flat-requires c κs = search needs
+
+returns : tie.Need-returns
+returns c =
+    let asked = c .before .before .ask in
+    rw (asked .ensures) at (asks (asked .result) (c .flat .ensures (run-of (asked .result .run))))
+
+pub nyokazerubi-ask-by-value-spec : {M : Type 1} → statement M
+nyokazerubi-ask-by-value-spec = tie.close (tie.spec ask-requires flat-requires returns)
