@@ -5,7 +5,6 @@ use sets::all_below;
 use sets::count;
 use sets::lowest;
 use sets::member;
-use sets::subset;
 use sets::with;
 use sets::without;
 ghost use mathlib.Core.Path.{_≡_};
@@ -15,8 +14,9 @@ ghost use Prim.Native.Nat.{ℕ, _+_, _≤_, _<_};
 ghost use lib.Dec.{eqb};
 ghost use lib.ListN.{length, getD};
 ghost use Rattle.rules.specs.Image.{has, due};
+ghost use Rattle.sets.specs.Sets.{Below};
 ghost use Rattle.order.specs.Lent.{lent, Masked, Timed};
-ghost use Rattle.order.specs.Arranged.{Ready, ReadySet, Next, Placed};
+ghost use Rattle.order.specs.Arranged.{Highest, Parted, Next, Placed};
 ghost use Rattle.order.specs.Judged.{TellsFit, Verdict};
 ghost use Rattle.order.specs.Looped.{Rows, FirstLooped};
 ghost use Rattle.order.specs.Spread.{HandedOn, Passed, Urgent};
@@ -98,17 +98,30 @@ pub fn urgencies(masks: &[u64], deadlines: &[u32], cycle: u32, n: usize) -> [u32
 
 // ---- order
 
-// The ready actions, some of which are known: an action that is ready stays so until it is done.
-fn ready(masks: &[u64], n: usize, done: u64, known: u64) -> u64
-    requires { ⌜ Masked n (now masks) × ((a : ℕ) → has known a ≡ true → Ready n (now masks) done a) ⌝ }
-    ensures { λ r. ⌜ ReadySet n (now (masks .entry)) done r ⌝ }
+// The highest member of a set that has one.
+fn highest(s: u64) -> usize
+    requires { ⌜ 0 < s ⌝ }
+    ensures { λ r. ⌜ Highest s r ⌝ }
 {
-    let mut r = known;
-    let mut t = all_below(n) & !(done | known);
+    63 - u64::leading_zeros(s) as usize
+}
+
+// The ready actions: `free`, and those of `from` that are ready. Each other one of `from` waits with one of its predecessors that are
+// not done, the highest, as the higher numbers tend to be done later. It is looked at again when that one is done.
+fn release(masks: &[u64], from: u64, done: u64, free: u64, waiting: &mut [u64; 64]) -> u64
+    requires { ⌜ Below from (length (now masks)) ⌝ }
+    ensures { λ r. ⌜ ((n : ℕ) → Masked n (now (masks .entry)) → Parted n (now (masks .entry)) done free from (now (waiting .entry)) → Parted n (now (masks .entry)) done r 0 (now (waiting .exit))) ⌝ }
+{
+    let mut r = free;
+    let mut t = from;
     while t != 0 {
         let a = lowest(t);
-        if subset(masks[a], done) {
+        let rest = masks[a] & !done;
+        if rest == 0 {
             r = with(r, a);
+        } else {
+            let b = highest(rest);
+            waiting[b] = with(waiting[b], a);
         }
         t = without(t, a);
     }
@@ -144,18 +157,18 @@ pub fn arrange(masks: &[u64], urgency: &[u32; 64], n: usize) -> Arranged
     ensures { λ r. ⌜ Placed n (now (masks .entry)) (now (urgency .entry)) (r .placed) (r .order) ⌝ }
 {
     let mut order = [0u8; 64];
+    let mut waiting = [0u64; 64];
     let mut done: u64 = 0;
-    let mut free: u64 = 0;
+    let mut free = release(masks, all_below(n), 0, 0, &mut waiting);
     let mut k: usize = 0;
     while k < n {
-        free = ready(masks, n, done, free);
         if free == 0 {
             return Arranged { placed: k, order };
         }
         let a = next(urgency, free);
         order[k] = a as u8;
-        free = without(free, a);
         done = with(done, a);
+        free = release(masks, waiting[a], done, without(free, a), &mut waiting);
         k = count(done) as usize;
     }
     Arranged { placed: k, order }
