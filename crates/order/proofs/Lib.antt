@@ -5,4 +5,5 @@ pub mod Picking
 pub mod Placing
 pub mod Ending
 pub mod Judging
+pub mod Numbering
 pub mod Closing

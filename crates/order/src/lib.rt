@@ -9,6 +9,7 @@ use sets::with;
 use sets::without;
 ghost use mathlib.Core.Path.{_≡_};
 ghost use mathlib.Core.Bool.{true, cond};
+ghost use mathlib.Core.Logic.{_↔_};
 ghost use mathlib.Core.List.{List, []};
 ghost use Prim.Native.Nat.{ℕ, _+_, _≤_, _<_};
 ghost use lib.Dec.{eqb};
@@ -17,7 +18,7 @@ ghost use Rattle.rules.specs.Image.{has, due};
 ghost use Rattle.sets.specs.Sets.{Below};
 ghost use Rattle.order.specs.Lent.{lent, Masked, Timed};
 ghost use Rattle.order.specs.Arranged.{Highest, Parted, Next, Placed};
-ghost use Rattle.order.specs.Judged.{TellsFit, Verdict};
+ghost use Rattle.order.specs.Judged.{ByNumber, Ordered, TellsFit, Verdict};
 ghost use Rattle.order.specs.Looped.{Rows, FirstLooped};
 ghost use Rattle.order.specs.Spread.{HandedOn, Passed, Urgent};
 
@@ -174,6 +175,53 @@ pub fn arrange(masks: &[u64], urgency: &[u32; 64], n: usize) -> Arranged
     Arranged { placed: k, order }
 }
 
+// ---- order of the numbers
+
+// Whether all deadlines are one and each mask names lower numbers alone. Then the order is that of the numbers.
+fn by_number(masks: &[u64], deadlines: &[u32], cycle: u32, n: usize) -> bool
+    requires { ⌜ (n ≤ 64) × (n ≤ length (now masks)) × (n ≤ length (now deadlines)) ⌝ }
+    ensures { λ r. ⌜ (r ≡ true) ↔ ByNumber (lent n cycle (now (masks .entry)) (now (deadlines .entry)) [] 0) ⌝ }
+{
+    if n == 0 {
+        return true;
+    }
+    let first = due(deadlines[0], cycle);
+    let mut odd: u64 = 0;
+    let mut a: usize = 0;
+    while a < n {
+        let other = due(deadlines[a], cycle) ^ first;
+        odd = odd | other as u64 | (masks[a] >> a);
+        a += 1;
+    }
+    odd == 0
+}
+
+// The numbers in order.
+fn numbers() -> [u8; 64]
+    ensures { λ r. ⌜ ((k : ℕ) → k < 64 → getD r k 0 ≡ k) ⌝ }
+{
+    let mut order = [0u8; 64];
+    let mut k: usize = 0;
+    while k < 64 {
+        order[k] = k as u8;
+        k += 1;
+    }
+    order
+}
+
+// The actions in order, as far as the masks allow.
+fn ordered(masks: &[u64], deadlines: &[u32], cycle: u32, n: usize) -> Arranged
+    requires { ⌜ Masked n (now masks) × (n ≤ length (now deadlines)) ⌝ }
+    ensures { λ r. ⌜ Ordered (lent n cycle (now (masks .entry)) (now (deadlines .entry)) [] 0) (r .placed) (r .order) ⌝ }
+{
+    if by_number(masks, deadlines, cycle, n) {
+        let order = numbers();
+        return Arranged { placed: n, order };
+    }
+    let urgency = urgencies(masks, deadlines, cycle, n);
+    arrange(masks, &urgency, n)
+}
+
 // ---- refusals 8 and 9
 
 // Whether every deadline is met at level 0 worst times, the actions one after another as `order` says.
@@ -219,8 +267,7 @@ pub fn judge(
     requires { ⌜ Masked n (now masks) × Timed n (now deadlines) (now worst) stride ⌝ }
     ensures { λ r. ⌜ Verdict (lent n cycle (now (masks .entry)) (now (deadlines .entry)) (now (worst .entry)) stride) (r .refusal) (r .order) ⌝ }
 {
-    let urgency = urgencies(masks, deadlines, cycle, n);
-    let arranged = arrange(masks, &urgency, n);
+    let arranged = ordered(masks, deadlines, cycle, n);
     let order = arranged.order;
     if arranged.placed < n {
         return Judged { refusal: 8, order };
