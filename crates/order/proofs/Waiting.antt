@@ -3,42 +3,19 @@ use mathlib.Core.Path.{_≡_, refl, sym, ap, ap₂, subst, _∙_}
 use mathlib.Core.Bool.{Bool, true, false, not, _&&_}
 use mathlib.Core.Logic.{_⊎_, inl, inr}
 use mathlib.Core.List.{List}
-use Prim.Native.Nat.{ℕ, zero, suc, _+_, _-_, _*_, _/_, _%_, _^_, _≤_, _<_}
-use native.Mathlib.Nat.{pow-suc}
+use Prim.Native.Nat.{ℕ, zero, suc, _-_, _^_, _<_}
 use native.Mathlib.Omega.{arith}
 use lib.Bits.{bitAnd}
-use lib.Count.{leadingZeros, leading-top}
-use lib.Dec.{eqb}
-use lib.Pow.{high}
 use lib.ListN.{getD, set, length-set, replicate, length-replicate}
 use lib.Seq.{getD-set-same, getD-set-other}
 use borrow.Author.Tests.{ltb-true, lt-ltb, not-true}
 use Rattle.rules.specs.Image.{has}
 use Rattle.sets.specs.Sets.{Subset, AllBelow, Lowest, With, Without}
 use Rattle.sets.proofs.Bits.{has-and, has-not, has-empty}
-use Rattle.sets.proofs.Laws.{added, stays, others, either, was, kept, apart, or-gone, lt-below}
+use Rattle.sets.proofs.Laws.{added, stays, others, either, was, kept, apart, or-gone}
 use Rattle.sets.proofs.Cases.{eq-or-ne, bool-cases, true-false, and-both}
 use Rattle.order.specs.Lent.{Masked}
 use Rattle.order.specs.Arranged.{Ready, Highest, WaitsWith, Parted}
-
--- ---- the highest member
-
-has-top : (s j : ℕ) → 2 ^ j ≤ s → s < 2 ^ suc j → has s j ≡ true
-unfolding has
-has-top s j l h =
-    let lo : s ≡ 1 * 2 ^ j + (s - 2 ^ j) = omega arith in
-    let e : s / 2 ^ j ≡ 1 = ap (λ (x : ℕ). x / 2 ^ j) lo ∙ high 1 j (omega (arith, pow-suc 2 j)) in
-    ap (λ (x : ℕ). eqb (x % 2) 1) e
-
-pub highest-is : (s : ℕ) → 0 < s → s < 2 ^ 64 → Highest s (63 - leadingZeros 64 s)
-highest-is s p h =
-    let top = leading-top 64 s p h in
-    let same : top .0 ≡ 63 - leadingZeros 64 s = omega (arith, top .1) in
-    subst (Highest s) same (record {
-      small = omega (arith, top .1);
-      member = has-top s (top .0) (top .2) (top .3);
-      most = λ j q. omega (arith, lt-below (suc (top .0)) s (top .3) j q);
-    })
 
 -- ---- the predecessors that are not done, `mask & !done`
 

@@ -15,12 +15,30 @@ ghost use Prim.Native.Nat.{ℕ, _+_, _≤_, _<_};
 ghost use lib.Dec.{eqb};
 ghost use lib.ListN.{length, getD};
 ghost use Rattle.rules.specs.Image.{has, due};
-ghost use Rattle.sets.specs.Sets.{Below};
+ghost use Rattle.sets.specs.Sets.{Below, Lowest, Without};
 ghost use Rattle.order.specs.Lent.{lent, Masked, Timed};
 ghost use Rattle.order.specs.Arranged.{Highest, Parted, Next, Placed};
 ghost use Rattle.order.specs.Judged.{ByNumber, Ordered, TellsFit, Verdict};
 ghost use Rattle.order.specs.Looped.{Rows, FirstLooped};
 ghost use Rattle.order.specs.Spread.{HandedOn, Passed, Urgent};
+
+// ---- sets
+
+// The highest member of a set that has one.
+fn highest(s: u64) -> usize
+    requires { ⌜ 0 < s ⌝ }
+    ensures { λ r. ⌜ Highest s r ⌝ }
+{
+    63 - u64::leading_zeros(s) as usize
+}
+
+// The members of a set above the lowest.
+fn above_lowest(s: u64) -> u64
+    requires { ⌜ 0 < s ⌝ }
+    ensures { λ r. ⌜ ((b : ℕ) → Lowest s b → Without s b r) ⌝ }
+{
+    s & (s - 1)
+}
 
 // ---- urgency
 
@@ -62,7 +80,7 @@ fn hand_on(mask: u64, a: usize, u: &mut [u32; 64]) -> bool
                 late = true;
             }
         }
-        t = without(t, b);
+        t = above_lowest(t);
     }
     late
 }
@@ -99,14 +117,6 @@ pub fn urgencies(masks: &[u64], deadlines: &[u32], cycle: u32, n: usize) -> [u32
 
 // ---- order
 
-// The highest member of a set that has one.
-fn highest(s: u64) -> usize
-    requires { ⌜ 0 < s ⌝ }
-    ensures { λ r. ⌜ Highest s r ⌝ }
-{
-    63 - u64::leading_zeros(s) as usize
-}
-
 // The ready actions: `free`, and those of `from` that are ready. Each other one of `from` waits with one of its predecessors that are
 // not done, the highest, as the higher numbers tend to be done later. It is looked at again when that one is done.
 fn release(masks: &[u64], from: u64, done: u64, free: u64, waiting: &mut [u64; 64]) -> u64
@@ -124,7 +134,7 @@ fn release(masks: &[u64], from: u64, done: u64, free: u64, waiting: &mut [u64; 6
             let b = highest(rest);
             waiting[b] = with(waiting[b], a);
         }
-        t = without(t, a);
+        t = above_lowest(t);
     }
     r
 }
@@ -135,13 +145,13 @@ fn next(urgency: &[u32; 64], ready: u64) -> usize
     ensures { λ r. ⌜ Next (now (urgency .entry)) ready r ⌝ }
 {
     let mut best = lowest(ready);
-    let mut t = without(ready, best);
+    let mut t = above_lowest(ready);
     while t != 0 {
         let a = lowest(t);
         if urgency[a] < urgency[best] {
             best = a;
         }
-        t = without(t, a);
+        t = above_lowest(t);
     }
     best
 }

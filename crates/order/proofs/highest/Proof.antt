@@ -1,6 +1,6 @@
 use native.Mathlib.Omega.{arith}
 use lib.Count.{leading-le, leading-top}
-use Rattle.order.proofs.Waiting.{highest-is}
+use Rattle.order.proofs.Members.{highest-is}
 use Rattle.order.proofs.highest.Statement.{statement}
 use Rattle.order.proofs.highest.Tie as tie
 

@@ -51,17 +51,19 @@ mul-waiting c = record { fits = omega (arith, c .before .before .highest .ensure
 element-write-waiting : tie.Need-element-write-waiting Inv-loop μ-loop
 element-write-waiting c = c .before .before .highest .ensures .small
 
-without-requires : tie.Need-without-requires Inv-loop μ-loop
-without-requires c κs = c .before .before .lowest .ensures .small
+above-lowest-requires : tie.Need-above-lowest-requires Inv-loop μ-loop
+above-lowest-requires c κs = search needs
 
 loop-less : tie.Need-loop-less Inv-loop μ-loop
-loop-less c = falls (c .without .ensures) (c .before .before .before .lowest .ensures .member)
+loop-less c =
+    let low = c .before .before .before .lowest .ensures in
+    falls (c .above-lowest .ensures _ low) (low .member)
 
 loop-again : tie.Need-loop-again Inv-loop μ-loop
 loop-again c =
     let at = c .before .before .before .before .before in
     let low = c .before .before .before .lowest .ensures in
-    let out = c .without .ensures in
+    let out = c .above-lowest .ensures _ low in
     let d = at .before .before .fits .done .fits in (
       λ j p. at .loop .inv .0 j (was out j p),
       λ n x g. ⊎-elim
@@ -90,7 +92,7 @@ release-spec =
     with-requires-2
     mul-waiting
     element-write-waiting
-    without-requires
+    above-lowest-requires
     loop-less
     loop-again
     returns)
