@@ -14,22 +14,26 @@ use Rattle.rules.proofs.Order.Alike.{Alike, alike-back, looped-alike, fit-alike
 use Rattle.order.specs.Lent.{lent}
 use Rattle.order.specs.Spread.{Urgent}
 use Rattle.order.specs.Arranged.{Lists, Placed}
-use Rattle.order.specs.Judged.{TellsFit, Verdict}
+use Rattle.order.specs.Judged.{Ordered, TellsFit, Verdict}
 
--- The list has the actions in the order of F, unless the masks contain a loop and k falls short of n.
-pub record Ordered (F : Profile) (k : ℕ) (l : List ℕ) : Type 0 where
-  pub looped : (k < F .n) ↔ Looped F
-  pub whole : F .n ≤ k → (o : Order (F .n)) × TheOrder F o × Lists l o
-
--- The urgencies do not depend on the worst times.
-pub ordered : (n cycle : ℕ) (masks deadlines worst : List ℕ) (stride : ℕ) {u : List ℕ} {k : ℕ} {l : List ℕ}
-    → Urgent (lent n cycle masks deadlines [] 0) u → Placed n masks u k l → Ordered (lent n cycle masks deadlines worst stride) k l
-unfolding due
-ordered n cycle masks deadlines worst stride {u} urgent placed = record {
+pub ordered-placed : (n cycle : ℕ) (masks deadlines : List ℕ) {u : List ℕ} {k : ℕ} {l : List ℕ}
+    → Urgent (lent n cycle masks deadlines [] 0) u → Placed n masks u k l → Ordered (lent n cycle masks deadlines [] 0) k l
+ordered-placed n cycle masks deadlines {u} urgent placed = record {
   looped = placed .looped;
   whole = λ all.
       let w = placed .whole (omega (arith, placed .most)) in
       (w .0, record { urgency = λ a. getD u a 0; urgent = urgent; by-urgency = w .1 }, w .2);
+}
+
+-- The order does not depend on the worst times.
+pub ordered-timed : (n cycle : ℕ) (masks deadlines worst : List ℕ) (stride : ℕ) {k : ℕ} {l : List ℕ}
+    → Ordered (lent n cycle masks deadlines [] 0) k l → Ordered (lent n cycle masks deadlines worst stride) k l
+unfolding due
+ordered-timed n cycle masks deadlines worst stride x = record {
+  looped = x .looped;
+  whole = λ all.
+      let w = x .whole all in
+      (w .0, record { urgency = w .1 .urgency; urgent = w .1 .urgent; by-urgency = w .1 .by-urgency }, w .2);
 }
 
 module _ {F : Profile} {k : ℕ} {l : List ℕ} (x : Ordered F k l) where

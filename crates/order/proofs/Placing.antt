@@ -14,13 +14,14 @@ use Rattle.rules.proofs.Order.Best.{by-urgency-permitted}
 use Rattle.rules.proofs.Order.Loops.{no-loop}
 use Rattle.rules.proofs.Order.Stepwise
 use Rattle.rules.proofs.Order.Stepwise.{Earlier, Free, free-same, next-same, stuck-in-loop}
-use Rattle.sets.specs.Sets.{members, With, Without}
+use Rattle.sets.specs.Sets.{members, With}
 use Rattle.sets.proofs.Bits.{has-empty}
-use Rattle.sets.proofs.Laws.{has?, has-no, was, apart, added, stays, either, others}
+use Rattle.sets.proofs.Laws.{has?, has-no, added, stays, either}
 use Rattle.sets.proofs.Members.{members-none, members-with}
 use Rattle.sets.proofs.Cases.{eq-or-ne, true-false}
 use Rattle.order.specs.Lent.{before, Masked}
-use Rattle.order.specs.Arranged.{Ready, ReadySet, Next, Placed}
+use Rattle.order.specs.Arranged.{Ready, Parted, Next, Placed}
+use Rattle.order.proofs.Waiting.{parted-each}
 
 -- ---- what is ready, and what is free
 
@@ -47,44 +48,45 @@ module _ (n : ℕ) (masks u : List ℕ) where
   abbrev NextAfter : List ℕ → ℕ → ℕ → Type 0
   NextAfter l j a = Stepwise.Next n (before masks) (λ b. getD u b 0) (Earlier (λ i. getD l i 0) j) n a
 
-  -- The first k of the list are placed, and done has them; the members of free are ready.
-  pub record Placing (l : List ℕ) (done free k : ℕ) : Type 0 where
+  -- The first k of the list are placed, and done has them; the others are parted into free and waiting.
+  pub record Placing (l w : List ℕ) (done free k : ℕ) : Type 0 where
     pub most : k ≤ n
     pub long : length l ≡ 64
     pub counts : members 64 done ≡ k
     pub exact : (a : ℕ) → (has done a ≡ true) ↔ Earlier (λ i. getD l i 0) k a
-    pub known : (a : ℕ) → has free a ≡ true → Ready n masks done a
+    pub parted : Parted n masks done free 0 w
     pub nexts : (j : ℕ) → j < k → NextAfter l j (getD l j 0)
 
-  pub placing-start : {l : List ℕ} → length l ≡ 64 → Placing l 0 0 0
-  placing-start long = record {
+  pub placing-start : {l w : List ℕ} {free : ℕ} → length l ≡ 64 → Parted n masks 0 free 0 w → Placing l w 0 free 0
+  placing-start long parted = record {
     most = omega arith;
     long = long;
     counts = members-none 64;
     exact = λ a. (λ h. absurd (true-false h (has-empty a)), λ e. absurd (omega (arith, e .1)));
-    known = λ a h. absurd (true-false h (has-empty a));
+    parted = parted;
     nexts = λ j m. absurd (omega arith);
   }
 
-  module _ (x : Masked n masks) {l : List ℕ} {done free k r : ℕ} (g : Placing l done free k) (rs : ReadySet n masks done r) where
+  module _ (x : Masked n masks) {l w : List ℕ} {done free k : ℕ} (g : Placing l w done free k) where
     -- ---- the next one is placed
 
-    module _ {a free′ done′ : ℕ} (nx : Next u r a) (out : Without r a free′) (in′ : With done a done′) where
+    module _ {a done′ : ℕ} (nx : Next u free a) (in′ : With done a done′) where
       now-ready : Ready n masks done a
-      now-ready = rs .only a (nx .member)
+      now-ready = g .parted .ready a (nx .member)
 
       goes : NextAfter l k a
       goes = next-same n (before masks) (λ b. getD u b 0) (g .exact) (record {
         present = now-ready .present;
         free = ready-free x now-ready;
-        first = λ b m f. let h = rs .each b (free-ready x m f) in (nx .least b h, nx .lowest b h);
+        first = λ b m f. let h = parted-each (g .parted) b (free-ready x m f) in (nx .least b h, nx .lowest b h);
       })
 
-      counted : members 64 done′ ≡ suc k
+      pub counted : members 64 done′ ≡ suc k
       counted = members-with in′ 64 (now-ready .waits) (omega (arith, now-ready .present, x .few)) ∙ ap suc (g .counts)
 
-      pub placing-more : k < n → {k′ : ℕ} → k′ ≡ members 64 done′ → (k′ ≡ suc k) × Placing (set l k a) done′ free′ k′
-      placing-more m e = (e ∙ counted, subst (Placing (set l k a) done′ free′) (sym (e ∙ counted)) more)
+      pub placing-more : k < n → {free′ k′ : ℕ} {w′ : List ℕ} → Parted n masks done′ free′ 0 w′ → k′ ≡ members 64 done′
+          → Placing (set l k a) w′ done′ free′ k′
+      placing-more m {free′} {k′} {w′} parted e = subst (Placing (set l k a) w′ done′ free′) (sym (e ∙ counted)) more
         where
           here : getD (set l k a) k 0 ≡ a
           here = getD-set-same l k a 0 (omega (arith, g .long, x .few))
@@ -108,26 +110,19 @@ module _ (n : ℕ) (masks u : List ℕ) where
           from b s (inl q) = subst (λ (c : ℕ). has done′ c ≡ true) (sym here ∙ ap (λ (i : ℕ). getD (set l k a) i 0) (sym q) ∙ s .2) (added in′)
           from b s (inr q) = stays in′ b (g .exact b .1 (s .0, omega (arith, s .1), sym (past (s .0) q) ∙ s .2))
 
-          still : (b : ℕ) → has free′ b ≡ true → Ready n masks done′ b
-          still b h = let y = rs .only b (was out b h) in record {
-            present = y .present;
-            waits = others in′ b (apart out b h) ∙ y .waits;
-            free = λ c p. stays in′ c (y .free c p);
-          }
-
-          more : Placing (set l k a) done′ free′ (suc k)
+          more : Placing (set l k a) w′ done′ free′ (suc k)
           more = record {
             most = m;
             long = length-set l k a ∙ g .long;
             counts = counted;
             exact = λ b. (λ h. to b (either in′ b h), λ s. from b s (eq-or-ne (s .0) k));
-            known = still;
+            parted = parted;
             nexts = λ j h. nexts j h (eq-or-ne j k);
           }
 
     -- ---- nothing is ready
 
-    pub placing-stuck : r ≡ 0 → k < n → Placed n masks u k l
+    pub placing-stuck : free ≡ 0 → k < n → Placed n masks u k l
     placing-stuck e m = record {
       most = omega arith;
       looped = (λ h. loop, λ h. m);
@@ -136,7 +131,7 @@ module _ (n : ℕ) (masks u : List ℕ) where
       where
         none : (a : ℕ) → a < n → Free n (before masks) (Earlier (λ i. getD l i 0) k) a → ⊥
         none a h f = true-false
-            (rs .each a (free-ready x h (free-same n (before masks) (λ b. (g .exact b .1, g .exact b .0)) a f)))
+            (parted-each (g .parted) a (free-ready x h (free-same n (before masks) (λ b. (g .exact b .1, g .exact b .0)) a f)))
             (ap (λ (s : ℕ). has s a) e ∙ has-empty a)
 
         loop : Loop n (before masks)
@@ -144,7 +139,7 @@ module _ (n : ℕ) (masks u : List ℕ) where
 
   -- ---- all are placed
 
-  pub placing-whole : {l : List ℕ} {done free k : ℕ} → Placing l done free k → n ≤ k → Placed n masks u k l
+  pub placing-whole : {l w : List ℕ} {done free k : ℕ} → Placing l w done free k → n ≤ k → Placed n masks u k l
   placing-whole {l} {k = k} g m = record {
     most = g .most;
     looped = (λ h. absurd (omega arith), λ h. absurd (no-loop o (by-urgency-permitted o by) h));

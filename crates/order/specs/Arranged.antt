@@ -2,9 +2,9 @@
 use Prim.Native.Nat.{ℕ, _≤_, _<_}
 use mathlib.Core.Path.{_≡_}
 use mathlib.Core.Bool.{true, false}
-use mathlib.Core.Logic.{_↔_}
+use mathlib.Core.Logic.{_⊎_, _↔_}
 use mathlib.Core.List.{List}
-use lib.ListN.{getD}
+use lib.ListN.{length, getD}
 use Rattle.rules.specs.Image.{has}
 use Rattle.rules.specs.Order.{Order, Loop, ByUrgency}
 use Rattle.sets.specs.Sets.{Subset}
@@ -16,10 +16,28 @@ pub record Ready (n : ℕ) (masks : List ℕ) (done a : ℕ) : Type 0 where
   pub waits : has done a ≡ false
   pub free : Subset (getD masks a 0) done
 
--- r has the actions that are ready, and no other.
-pub record ReadySet (n : ℕ) (masks : List ℕ) (done r : ℕ) : Type 0 where
-  pub only : (a : ℕ) → has r a ≡ true → Ready n masks done a
-  pub each : (a : ℕ) → Ready n masks done a → has r a ≡ true
+-- r is the highest member of s.
+pub record Highest (s r : ℕ) : Type 0 where
+  pub small : r < 64
+  pub member : has s r ≡ true
+  pub most : (j : ℕ) → has s j ≡ true → j ≤ r
+
+-- Action a waits with b: neither is done, and b comes before a.
+pub record WaitsWith (n : ℕ) (masks : List ℕ) (done b a : ℕ) : Type 0 where
+  pub present : a < n
+  pub waits : has done a ≡ false
+  pub held : has done b ≡ false
+  pub before : has (getD masks a 0) b ≡ true
+
+-- The actions that are not done are in t, those still to be looked at, or in free, where all are ready, or each waits with another: w has
+-- for each action that is not done the set of those that wait with it.
+pub record Parted (n : ℕ) (masks : List ℕ) (done free t : ℕ) (w : List ℕ) : Type 0 where
+  pub long : length w ≡ 64
+  pub left : (a : ℕ) → has t a ≡ true → (a < n) × (has done a ≡ false)
+  pub ready : (a : ℕ) → has free a ≡ true → Ready n masks done a
+  pub waiting : (b a : ℕ) → has done b ≡ false → has (getD w b 0) a ≡ true → WaitsWith n masks done b a
+  pub each : (a : ℕ) → a < n → has done a ≡ false → has t a ≡ false
+      → (has free a ≡ true) ⊎ ((b : ℕ) × (has done b ≡ false) × (has (getD w b 0) a ≡ true))
 
 -- Of the members of s action a is next: the one of least urgency, ties to the lowest number.
 pub record Next (u : List ℕ) (s a : ℕ) : Type 0 where

@@ -1,13 +1,24 @@
--- Refusals 8 and 9.
-use Prim.Native.Nat.{ℕ}
+-- The order of a profile, and refusals 8 and 9.
+use Prim.Native.Nat.{ℕ, _≤_, _<_}
 use mathlib.Core.Path.{_≡_}
 use mathlib.Core.Bool.{Bool, true}
 use mathlib.Core.Logic.{_↔_}
 use mathlib.Core.List.{List, [], _∷_}
-use Rattle.rules.specs.Image.{Profile}
+use Rattle.rules.specs.Image.{Profile, due}
 use Rattle.rules.specs.Order.{Order, TheOrder, Fit}
 use Rattle.rules.specs.Refusals.{_when_, First, Looped, Unfit}
+use Rattle.sets.specs.Sets.{Below}
 use Rattle.order.specs.Arranged.{Lists}
+
+-- All deadlines are one, and each mask names lower numbers alone.
+pub record ByNumber (F : Profile) : Type 0 where
+  pub one : (a b : ℕ) → a < F .n → b < F .n → due F a ≡ due F b
+  pub lower : (a : ℕ) → a < F .n → Below (F .mask a) a
+
+-- The list has the actions in the order of F, unless the masks contain a loop and k falls short of n.
+pub record Ordered (F : Profile) (k : ℕ) (l : List ℕ) : Type 0 where
+  pub looped : (k < F .n) ↔ Looped F
+  pub whole : F .n ≤ k → (o : Order (F .n)) × TheOrder F o × Lists l o
 
 -- r tells whether F is fit, where the list has the actions in the order of F.
 abbrev pub TellsFit : Profile → List ℕ → Bool → Type 0

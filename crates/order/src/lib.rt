@@ -5,21 +5,40 @@ use sets::all_below;
 use sets::count;
 use sets::lowest;
 use sets::member;
-use sets::subset;
 use sets::with;
 use sets::without;
 ghost use mathlib.Core.Path.{_≡_};
 ghost use mathlib.Core.Bool.{true, cond};
+ghost use mathlib.Core.Logic.{_↔_};
 ghost use mathlib.Core.List.{List, []};
 ghost use Prim.Native.Nat.{ℕ, _+_, _≤_, _<_};
 ghost use lib.Dec.{eqb};
 ghost use lib.ListN.{length, getD};
 ghost use Rattle.rules.specs.Image.{has, due};
+ghost use Rattle.sets.specs.Sets.{Below, Lowest, Without};
 ghost use Rattle.order.specs.Lent.{lent, Masked, Timed};
-ghost use Rattle.order.specs.Arranged.{Ready, ReadySet, Next, Placed};
-ghost use Rattle.order.specs.Judged.{TellsFit, Verdict};
+ghost use Rattle.order.specs.Arranged.{Highest, Parted, Next, Placed};
+ghost use Rattle.order.specs.Judged.{ByNumber, Ordered, TellsFit, Verdict};
 ghost use Rattle.order.specs.Looped.{Rows, FirstLooped};
 ghost use Rattle.order.specs.Spread.{HandedOn, Passed, Urgent};
+
+// ---- sets
+
+// The highest member of a set that has one.
+fn highest(s: u64) -> usize
+    requires { ⌜ 0 < s ⌝ }
+    ensures { λ r. ⌜ Highest s r ⌝ }
+{
+    63 - u64::leading_zeros(s) as usize
+}
+
+// The members of a set above the lowest.
+fn above_lowest(s: u64) -> u64
+    requires { ⌜ 0 < s ⌝ }
+    ensures { λ r. ⌜ ((b : ℕ) → Lowest s b → Without s b r) ⌝ }
+{
+    s & (s - 1)
+}
 
 // ---- urgency
 
@@ -61,7 +80,7 @@ fn hand_on(mask: u64, a: usize, u: &mut [u32; 64]) -> bool
                 late = true;
             }
         }
-        t = without(t, b);
+        t = above_lowest(t);
     }
     late
 }
@@ -98,19 +117,24 @@ pub fn urgencies(masks: &[u64], deadlines: &[u32], cycle: u32, n: usize) -> [u32
 
 // ---- order
 
-// The ready actions, some of which are known: an action that is ready stays so until it is done.
-fn ready(masks: &[u64], n: usize, done: u64, known: u64) -> u64
-    requires { ⌜ Masked n (now masks) × ((a : ℕ) → has known a ≡ true → Ready n (now masks) done a) ⌝ }
-    ensures { λ r. ⌜ ReadySet n (now (masks .entry)) done r ⌝ }
+// The ready actions: `free`, and those of `from` that are ready. Each other one of `from` waits with one of its predecessors that are
+// not done, the highest, as the higher numbers tend to be done later. It is looked at again when that one is done.
+fn release(masks: &[u64], from: u64, done: u64, free: u64, waiting: &mut [u64; 64]) -> u64
+    requires { ⌜ Below from (length (now masks)) ⌝ }
+    ensures { λ r. ⌜ ((n : ℕ) → Masked n (now (masks .entry)) → Parted n (now (masks .entry)) done free from (now (waiting .entry)) → Parted n (now (masks .entry)) done r 0 (now (waiting .exit))) ⌝ }
 {
-    let mut r = known;
-    let mut t = all_below(n) & !(done | known);
+    let mut r = free;
+    let mut t = from;
     while t != 0 {
         let a = lowest(t);
-        if subset(masks[a], done) {
+        let rest = masks[a] & !done;
+        if rest == 0 {
             r = with(r, a);
+        } else {
+            let b = highest(rest);
+            waiting[b] = with(waiting[b], a);
         }
-        t = without(t, a);
+        t = above_lowest(t);
     }
     r
 }
@@ -121,13 +145,13 @@ fn next(urgency: &[u32; 64], ready: u64) -> usize
     ensures { λ r. ⌜ Next (now (urgency .entry)) ready r ⌝ }
 {
     let mut best = lowest(ready);
-    let mut t = without(ready, best);
+    let mut t = above_lowest(ready);
     while t != 0 {
         let a = lowest(t);
         if urgency[a] < urgency[best] {
             best = a;
         }
-        t = without(t, a);
+        t = above_lowest(t);
     }
     best
 }
@@ -144,21 +168,68 @@ pub fn arrange(masks: &[u64], urgency: &[u32; 64], n: usize) -> Arranged
     ensures { λ r. ⌜ Placed n (now (masks .entry)) (now (urgency .entry)) (r .placed) (r .order) ⌝ }
 {
     let mut order = [0u8; 64];
+    let mut waiting = [0u64; 64];
     let mut done: u64 = 0;
-    let mut free: u64 = 0;
+    let mut free = release(masks, all_below(n), 0, 0, &mut waiting);
     let mut k: usize = 0;
     while k < n {
-        free = ready(masks, n, done, free);
         if free == 0 {
             return Arranged { placed: k, order };
         }
         let a = next(urgency, free);
         order[k] = a as u8;
-        free = without(free, a);
         done = with(done, a);
+        free = release(masks, waiting[a], done, without(free, a), &mut waiting);
         k = count(done) as usize;
     }
     Arranged { placed: k, order }
+}
+
+// ---- order of the numbers
+
+// Whether all deadlines are one and each mask names lower numbers alone. Then the order is that of the numbers.
+fn by_number(masks: &[u64], deadlines: &[u32], cycle: u32, n: usize) -> bool
+    requires { ⌜ (n ≤ 64) × (n ≤ length (now masks)) × (n ≤ length (now deadlines)) ⌝ }
+    ensures { λ r. ⌜ (r ≡ true) ↔ ByNumber (lent n cycle (now (masks .entry)) (now (deadlines .entry)) [] 0) ⌝ }
+{
+    if n == 0 {
+        return true;
+    }
+    let first = due(deadlines[0], cycle);
+    let mut odd: u64 = 0;
+    let mut a: usize = 0;
+    while a < n {
+        let other = due(deadlines[a], cycle) ^ first;
+        odd = odd | other as u64 | (masks[a] >> a);
+        a += 1;
+    }
+    odd == 0
+}
+
+// The numbers in order.
+fn numbers() -> [u8; 64]
+    ensures { λ r. ⌜ ((k : ℕ) → k < 64 → getD r k 0 ≡ k) ⌝ }
+{
+    let mut order = [0u8; 64];
+    let mut k: usize = 0;
+    while k < 64 {
+        order[k] = k as u8;
+        k += 1;
+    }
+    order
+}
+
+// The actions in order, as far as the masks allow.
+fn ordered(masks: &[u64], deadlines: &[u32], cycle: u32, n: usize) -> Arranged
+    requires { ⌜ Masked n (now masks) × (n ≤ length (now deadlines)) ⌝ }
+    ensures { λ r. ⌜ Ordered (lent n cycle (now (masks .entry)) (now (deadlines .entry)) [] 0) (r .placed) (r .order) ⌝ }
+{
+    if by_number(masks, deadlines, cycle, n) {
+        let order = numbers();
+        return Arranged { placed: n, order };
+    }
+    let urgency = urgencies(masks, deadlines, cycle, n);
+    arrange(masks, &urgency, n)
 }
 
 // ---- refusals 8 and 9
@@ -206,8 +277,7 @@ pub fn judge(
     requires { ⌜ Masked n (now masks) × Timed n (now deadlines) (now worst) stride ⌝ }
     ensures { λ r. ⌜ Verdict (lent n cycle (now (masks .entry)) (now (deadlines .entry)) (now (worst .entry)) stride) (r .refusal) (r .order) ⌝ }
 {
-    let urgency = urgencies(masks, deadlines, cycle, n);
-    let arranged = arrange(masks, &urgency, n);
+    let arranged = ordered(masks, deadlines, cycle, n);
     let order = arranged.order;
     if arranged.placed < n {
         return Judged { refusal: 8, order };

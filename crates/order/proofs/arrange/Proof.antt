@@ -1,37 +1,56 @@
-use mathlib.Core.Path.{_≡_, refl}
-use Prim.Native.Nat.{suc, _-_, _<_}
+use mathlib.Core.Path.{refl}
+use Prim.Native.Nat.{_-_, _<_}
 use native.Mathlib.Omega.{arith}
 use borrow.Author.Needs.{needs}
-use lib.ListN.{set}
+use lib.ListN.{getD}
 use Rattle.sets.proofs.Members.{members-le}
-use Rattle.order.proofs.Placing.{Placing, placing-start, placing-more, placing-stuck, placing-whole}
+use Rattle.order.specs.Arranged.{Parted}
+use Rattle.order.proofs.Waiting.{parted-start, parted-done}
+use Rattle.order.proofs.Placing.{Placing, placing-start, counted, placing-more, placing-stuck, placing-whole}
 use Rattle.order.proofs.arrange.Statement.{statement}
 use Rattle.order.proofs.arrange.Tie as tie
 
 abbrev Inv-loop : tie.InvT-loop
-Inv-loop masks urgency n order₀ done₀ free₀ k₀ order done free k = Placing n masks urgency order done free k
+Inv-loop masks urgency n order₀ waiting₀ done₀ free₀ k₀ order waiting done free k = Placing n masks urgency order waiting done free k
 
 abbrev μ-loop : tie.MeasureT-loop
-μ-loop masks urgency n order₀ done₀ free₀ k₀ order done free k = n - k
-
-loop-holds : tie.Need-loop-holds Inv-loop μ-loop
-loop-holds c = placing-start _ _ _ refl
+μ-loop masks urgency n order₀ waiting₀ done₀ free₀ k₀ order waiting done free k = n - k
 
 -- the action that is taken is below 64
 next-small : (c : tie.After-next Inv-loop μ-loop) → c .next .result < 64
 next-small c = omega (
   arith,
-  c .before .before .ready .ensures .only (c .next .result) (c .next .ensures .member) .present,
-  c .before .before .before .before .before .before .pre .few,
+  c .before .before .before .loop .inv .parted .ready (c .next .result) (c .next .ensures .member) .present,
+  c .before .before .before .before .before .before .before .before .pre .few,
 )
 
-ready-requires : tie.Need-ready-requires Inv-loop μ-loop
-ready-requires c κs = (c .before .before .before .pre, c .before .loop .inv .known)
+-- those that wait with it are to be looked at
+one-done : (c : tie.After-waiting2 Inv-loop μ-loop)
+    → let at = c .before .before .before .before .before .before in
+    let start = at .before .before .before .before .before in
+    Parted (start .args .n) (start .args .masks .now) (c .before .before .with .result) (c .before .without .result)
+    (getD (at .loop .waiting) (c .before .before .before .next .result) 0) (at .loop .waiting)
+one-done c =
+    let at = c .before .before .before .before .before .before in
+    parted-done (at .loop .inv .parted) (c .before .before .before .next .ensures .member) (c .before .without .ensures) (c .before .before .with .ensures)
+
+all-below-requires : tie.Need-all-below-requires Inv-loop μ-loop
+all-below-requires c κs = c .before .pre .few
+
+release-requires : tie.Need-release-requires Inv-loop μ-loop
+release-requires c κs =
+    let start = c .before .before .before in
+    λ j p. omega (arith, parted-start (start .args .n) (start .args .masks .now) (c .before .all-below .ensures) .left j p .0, start .pre .long)
+
+loop-holds : tie.Need-loop-holds Inv-loop μ-loop
+loop-holds c =
+    let start = c .before .before .before .before in
+    placing-start _ _ _ refl (c .release .ensures _ (start .pre) (parted-start _ _ (c .before .before .all-below .ensures)))
 
 returns : tie.Need-returns Inv-loop μ-loop
 returns c =
-    let at = c .before .before .before in
-    placing-stuck _ _ _ (at .before .before .pre) (at .loop .inv) (c .before .ready .ensures) (c .if1 .taken) (c .before .before .loop-test .taken)
+    let at = c .before .before in
+    placing-stuck _ _ _ (at .before .before .before .before .before .pre) (at .loop .inv) (c .if1 .taken) (c .before .loop-test .taken)
 
 next-requires : tie.Need-next-requires Inv-loop μ-loop
 next-requires c κs = omega arith
@@ -40,39 +59,46 @@ cast-order : tie.Need-cast-order Inv-loop μ-loop
 cast-order c = record { fits = omega (arith, next-small c) }
 
 array-write-order : tie.Need-array-write-order Inv-loop μ-loop
-array-write-order c = omega (arith, c .before .before .before .before .before .before .pre .few)
-
-without-requires : tie.Need-without-requires Inv-loop μ-loop
-without-requires c κs = next-small c
+array-write-order c = omega (arith, c .before .before .before .before .before .before .before .before .pre .few)
 
 with-requires : tie.Need-with-requires Inv-loop μ-loop
-with-requires c κs = next-small (c .before)
+with-requires c κs = next-small c
+
+mul-release : tie.Need-mul-release Inv-loop μ-loop
+mul-release c = record { fits = omega (arith, next-small (c .before)) }
+
+array-read-release : tie.Need-array-read-release Inv-loop μ-loop
+array-read-release c = next-small (c .before)
+
+without-requires : tie.Need-without-requires Inv-loop μ-loop
+without-requires c κs = next-small (c .before)
+
+release-requires-2 : tie.Need-release-requires-2 Inv-loop μ-loop
+release-requires-2 c κs = λ j p. omega (arith, one-done c .left j p .0, c .before .before .before .before .before .before .before .before .before .before .before .pre .long)
 
 count-requires : tie.Need-count-requires Inv-loop μ-loop
 count-requires c κs = search needs
 
 cast-k : tie.Need-cast-k Inv-loop μ-loop
-cast-k c = record { fits = omega (arith, c .count .ensures, members-le 64 (c .before .with .result)) }
-
--- one turn
-turn : (c : tie.After-count Inv-loop μ-loop)
-    → let at = c .before .before .before .before .before .before .before in
-    let start = at .before .before in
-    (c .count .result ≡ suc (at .loop .k))
-    × Placing (start .args .n) (start .args .masks .now) (start .args .urgency .now)
-    (set (at .loop .order) (at .loop .k) (c .before .before .before .next .result)) (c .before .with .result) (c .before .before .without .result)
-    (c .count .result)
-turn c =
-    let taken = c .before .before .before in
-    let at = taken .before .before .before .before in
-    placing-more _ _ _ (at .before .before .pre) (at .loop .inv) (taken .before .before .ready .ensures) (taken .next .ensures)
-    (c .before .before .without .ensures) (c .before .with .ensures) (taken .before .before .before .loop-test .taken) (c .count .ensures)
+cast-k c = record { fits = omega (arith, c .count .ensures, members-le 64 (c .before .before .before .before .with .result)) }
 
 loop-less : tie.Need-loop-less Inv-loop μ-loop
-loop-less c = omega (arith, turn c .0)
+loop-less c =
+    let set = c .before .before .before .before in
+    let at = set .before .before .before .before in
+    omega (
+      arith,
+      c .count .ensures,
+      counted _ _ _ (at .before .before .before .before .before .pre) (at .loop .inv) (set .before .next .ensures) (set .with .ensures),
+    )
 
 loop-again : tie.Need-loop-again Inv-loop μ-loop
-loop-again c = turn c .1
+loop-again c =
+    let set = c .before .before .before .before in
+    let at = set .before .before .before .before in
+    let pre = at .before .before .before .before .before .pre in
+    placing-more _ _ _ pre (at .loop .inv) (set .before .next .ensures) (set .with .ensures) (set .before .before .before .loop-test .taken)
+    (c .before .release2 .ensures _ pre (one-done (c .before .before))) (c .count .ensures)
 
 returns-2 : tie.Need-returns-2 Inv-loop μ-loop
 returns-2 c = placing-whole _ _ _ (c .before .loop .inv) (c .loop-test .left)
@@ -83,14 +109,18 @@ arrange-spec =
     (tie.spec
     Inv-loop
     μ-loop
+    all-below-requires
+    release-requires
     loop-holds
-    ready-requires
     returns
     next-requires
     cast-order
     array-write-order
-    without-requires
     with-requires
+    mul-release
+    array-read-release
+    without-requires
+    release-requires-2
     count-requires
     cast-k
     loop-less

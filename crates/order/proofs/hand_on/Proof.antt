@@ -36,17 +36,19 @@ mul-u c = record { fits = omega (arith, c .before .before .lowest .ensures .smal
 element-write-u : tie.Need-element-write-u Inv-loop μ-loop
 element-write-u c = c .before .before .lowest .ensures .small
 
-without-requires : tie.Need-without-requires Inv-loop μ-loop
-without-requires c κs = c .before .before .lowest .ensures .small
+above-lowest-requires : tie.Need-above-lowest-requires Inv-loop μ-loop
+above-lowest-requires c κs = search needs
 
 loop-less : tie.Need-loop-less Inv-loop μ-loop
-loop-less c = falls (c .without .ensures) (c .before .before .before .lowest .ensures .member)
+loop-less c =
+    let low = c .before .before .before .lowest .ensures in
+    falls (c .above-lowest .ensures _ low) (low .member)
 
 loop-again : tie.Need-loop-again Inv-loop μ-loop
 loop-again c =
     let inv = c .before .before .before .before .before .loop .inv in
     let low = c .before .before .before .lowest .ensures in
-    let rest = c .without .ensures in
+    let rest = c .above-lowest .ensures _ low in
     ⊎-elim (λ w. rw (w .2, w .3) (handing-late inv low rest (w .0 .taken) (w .1 .taken)))
     (⊎-elim (λ w. rw (w .2, w .3) (handing-early inv low rest (w .0 .taken) (w .1 .left)))
     (λ w. rw (w .1, w .2) (handing-keep inv low rest (w .0 .left))))
@@ -69,7 +71,7 @@ hand-on-spec =
     element-copy-out-if1
     mul-u
     element-write-u
-    without-requires
+    above-lowest-requires
     loop-less
     loop-again
     returns)

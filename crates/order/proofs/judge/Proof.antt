@@ -1,7 +1,8 @@
 use borrow.Author.Needs.{needs}
 use Rattle.rules.specs.Image.{Profile}
 use Rattle.order.specs.Lent.{lent}
-use Rattle.order.proofs.Judging.{Ordered, ordered, verdict-loop, listed-below, verdict-fit, verdict-unfit}
+use Rattle.order.specs.Judged.{Ordered}
+use Rattle.order.proofs.Judging.{ordered-timed, verdict-loop, listed-below, verdict-fit, verdict-unfit}
 use Rattle.order.proofs.judge.Statement.{statement}
 use Rattle.order.proofs.judge.Tie as tie
 
@@ -9,40 +10,35 @@ use Rattle.order.proofs.judge.Tie as tie
 abbrev said : tie.Start → Profile
 said c = lent (c .args .n) (c .args .cycle) (c .args .masks .now) (c .args .deadlines .now) (c .args .worst .now) (c .args .stride)
 
-known : (c : tie.After-arrange)
-    → Ordered (said (c .before .before .before .before .before .before)) (c .arrange .result .placed) (c .arrange .result .order)
+known : (c : tie.After-ordered) → Ordered (said (c .before .before .before .before)) (c .ordered .result .placed) (c .ordered .result .order)
 known c =
-    let s = c .before .before .before .before .before .before .args in
-    ordered (s .n) (s .cycle) (s .masks .now) (s .deadlines .now) (s .worst .now) (s .stride)
-    (c .before .before .urgencies .ensures) (c .arrange .ensures)
+    let s = c .before .before .before .before .args in
+    ordered-timed (s .n) (s .cycle) (s .masks .now) (s .deadlines .now) (s .worst .now) (s .stride) (c .ordered .ensures)
 
-urgencies-requires : tie.Need-urgencies-requires
-urgencies-requires c κs = let start = c .before .before .before in (start .pre .0 .few, start .pre .0 .long, start .pre .1 .dues)
-
-arrange-requires : tie.Need-arrange-requires
-arrange-requires c κs = search needs
+ordered-requires : tie.Need-ordered-requires
+ordered-requires c κs = search needs
 
 returns : tie.Need-returns
 returns c = verdict-loop (known (c .before .before .before)) (c .if1 .taken)
 
 fit-requires : tie.Need-fit-requires
 fit-requires c κs =
-    let start = c .before .before .before .before .before .before .before .before .before .before in
+    let start = c .before .before .before .before .before .before .before .before in
     (start .pre .0 .few, start .pre .1, listed-below (known (c .before .before .before .before)) (c .before .if1 .left))
 
 returns-2 : tie.Need-returns-2
 returns-2 c =
     let at = c .before .before .before in
     let placed = at .before .before .before in
-    let masks = placed .before .before .before .before .before .before .args .masks .now in
+    let masks = placed .before .before .before .before .args .masks .now in
     verdict-fit (known placed) (at .if1 .left) (c .before .fit .ensures masks) (c .if2 .taken)
 
 returns-3 : tie.Need-returns-3
 returns-3 c =
     let at = c .before .before .before in
     let placed = at .before .before .before in
-    let masks = placed .before .before .before .before .before .before .args .masks .now in
+    let masks = placed .before .before .before .before .args .masks .now in
     verdict-unfit (known placed) (at .if1 .left) (c .before .fit .ensures masks) (c .if2 .left)
 
 pub judge-spec : {M : Type 1} → statement M
-judge-spec = tie.close (tie.spec urgencies-requires arrange-requires returns fit-requires returns-2 returns-3)
+judge-spec = tie.close (tie.spec ordered-requires returns fit-requires returns-2 returns-3)

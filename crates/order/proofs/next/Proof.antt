@@ -19,11 +19,11 @@ best-small c = lt-below 64 _ (c .before .before .before .fits .ready .fits) (c .
 lowest-requires : tie.Need-lowest-requires Inv-loop μ-loop
 lowest-requires c κs = c .pre
 
-without-requires : tie.Need-without-requires Inv-loop μ-loop
-without-requires c κs = c .lowest .ensures .small
+above-lowest-requires : tie.Need-above-lowest-requires Inv-loop μ-loop
+above-lowest-requires c κs = c .before .pre
 
 loop-holds : tie.Need-loop-holds Inv-loop μ-loop
-loop-holds c = best-start _ (c .before .lowest .ensures) (c .without .ensures)
+loop-holds c = let low = c .before .lowest .ensures in best-start _ low (c .above-lowest .ensures _ low)
 
 lowest-requires-2 : tie.Need-lowest-requires-2 Inv-loop μ-loop
 lowest-requires-2 c κs = search needs
@@ -40,18 +40,21 @@ mul-if1-2 c = record { fits = omega (arith, best-small (c .before .before .befor
 element-copy-out-if1-2 : tie.Need-element-copy-out-if1-2 Inv-loop μ-loop
 element-copy-out-if1-2 c = best-small (c .before .before .before)
 
-without-requires-2 : tie.Need-without-requires-2 Inv-loop μ-loop
-without-requires-2 c κs = c .before .before .before .lowest2 .ensures .small
+above-lowest-requires-2 : tie.Need-above-lowest-requires-2 Inv-loop μ-loop
+above-lowest-requires-2 c κs = search needs
 
 loop-less : tie.Need-loop-less Inv-loop μ-loop
-loop-less c = falls (c .without2 .ensures) (c .before .before .before .before .lowest2 .ensures .member)
+loop-less c =
+    let low = c .before .before .before .before .lowest2 .ensures in
+    falls (c .above-lowest2 .ensures _ low) (low .member)
 
 loop-again : tie.Need-loop-again Inv-loop μ-loop
 loop-again c =
     let inv = c .before .before .before .before .before .before .loop .inv in
     let low = c .before .before .before .before .lowest2 .ensures in
-    ⊎-elim (λ w. rw (w .1) (best-take _ inv low (c .without2 .ensures) (w .0 .taken)))
-    (λ w. rw (w .1) (best-keep _ inv low (c .without2 .ensures) (w .0 .left)))
+    let rest = c .above-lowest2 .ensures _ low in
+    ⊎-elim (λ w. rw (w .1) (best-take _ inv low rest (w .0 .taken)))
+    (λ w. rw (w .1) (best-keep _ inv low rest (w .0 .left)))
     (c .before .if1 .came)
 
 returns : tie.Need-returns Inv-loop μ-loop
@@ -64,14 +67,14 @@ next-spec =
     Inv-loop
     μ-loop
     lowest-requires
-    without-requires
+    above-lowest-requires
     loop-holds
     lowest-requires-2
     mul-if1
     element-copy-out-if1
     mul-if1-2
     element-copy-out-if1-2
-    without-requires-2
+    above-lowest-requires-2
     loop-less
     loop-again
     returns)

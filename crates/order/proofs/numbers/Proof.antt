@@ -1,0 +1,54 @@
+use mathlib.Core.Path.{_≡_, refl}
+use Prim.Native.Nat.{_-_, _≤_}
+use native.Mathlib.Omega.{arith}
+use borrow.Author.Needs.{needs}
+use lib.ListN.{length, length-set}
+use Rattle.order.proofs.Lists.{Filled, filled-more}
+use Rattle.order.proofs.numbers.Statement.{statement}
+use Rattle.order.proofs.numbers.Tie as tie
+
+abbrev Inv-loop : tie.InvT-loop
+Inv-loop order₀ k₀ order k = (k ≤ 64) × (length order ≡ 64) × Filled (λ j. j) k order
+
+abbrev μ-loop : tie.MeasureT-loop
+μ-loop order₀ k₀ order k = 64 - k
+
+loop-holds : tie.Need-loop-holds Inv-loop μ-loop
+loop-holds c = (omega arith, refl, λ j l. absurd (omega arith))
+
+cast-order : tie.Need-cast-order Inv-loop μ-loop
+cast-order c = record { fits = omega arith }
+
+array-write-order : tie.Need-array-write-order Inv-loop μ-loop
+array-write-order c = omega arith
+
+add-k : tie.Need-add-k Inv-loop μ-loop
+add-k c = search needs
+
+loop-less : tie.Need-loop-less Inv-loop μ-loop
+loop-less c = omega arith
+
+loop-again : tie.Need-loop-again Inv-loop μ-loop
+loop-again c =
+    let at = c .before in (
+      omega arith,
+      simp length-set (at .loop .inv .1),
+      filled-more (λ j. j) (at .loop .k) (at .loop .k) (at .loop .order) (omega (arith, at .loop .inv .1)) (at .loop .inv .2) refl,
+    )
+
+returns : tie.Need-returns Inv-loop μ-loop
+returns c = λ k l. c .before .loop .inv .2 k (omega arith)
+
+pub numbers-spec : {M : Type 1} → statement M
+numbers-spec =
+    tie.close
+    (tie.spec
+    Inv-loop
+    μ-loop
+    loop-holds
+    cast-order
+    array-write-order
+    add-k
+    loop-less
+    loop-again
+    returns)

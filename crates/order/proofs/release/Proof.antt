@@ -1,0 +1,98 @@
+use mathlib.Core.Logic.{⊎-elim}
+use Prim.Native.Nat.{ℕ}
+use native.Mathlib.Omega.{arith}
+use borrow.Author.Needs.{needs}
+use lib.ListN.{length}
+use Rattle.sets.specs.Sets.{Below}
+use Rattle.sets.proofs.Laws.{falls, was}
+use Rattle.order.specs.Lent.{Masked}
+use Rattle.order.specs.Arranged.{Parted}
+use Rattle.order.proofs.Waiting.{parted-free, parted-held}
+use Rattle.order.proofs.release.Statement.{statement}
+use Rattle.order.proofs.release.Tie as tie
+
+abbrev Inv-loop : tie.InvT-loop
+Inv-loop masks from done free waiting₀ r₀ t₀ waiting r t = Below t (length masks)
+    × ((n : ℕ) → Masked n masks → Parted n masks done free from waiting₀ → Parted n masks done r t waiting)
+
+abbrev μ-loop : tie.MeasureT-loop
+μ-loop masks from done free waiting₀ r₀ t₀ waiting r t = t
+
+loop-holds : tie.Need-loop-holds Inv-loop μ-loop
+loop-holds c = (c .before .pre, λ n x g. g)
+
+lowest-requires : tie.Need-lowest-requires Inv-loop μ-loop
+lowest-requires c κs = search needs
+
+mul-rest : tie.Need-mul-rest Inv-loop μ-loop
+mul-rest c = record { fits = omega (arith, c .lowest .ensures .small) }
+
+shared-slice-read-rest : tie.Need-shared-slice-read-rest Inv-loop μ-loop
+shared-slice-read-rest c = c .before .before .before .loop .inv .0 _ (c .before .lowest .ensures .member)
+
+with-requires : tie.Need-with-requires Inv-loop μ-loop
+with-requires c κs = c .before .before .lowest .ensures .small
+
+highest-requires : tie.Need-highest-requires Inv-loop μ-loop
+highest-requires c κs = omega (arith, c .if1 .left)
+
+mul-with : tie.Need-mul-with Inv-loop μ-loop
+mul-with c = record { fits = omega (arith, c .highest .ensures .small) }
+
+element-copy-out-with : tie.Need-element-copy-out-with Inv-loop μ-loop
+element-copy-out-with c = c .highest .ensures .small
+
+with-requires-2 : tie.Need-with-requires-2 Inv-loop μ-loop
+with-requires-2 c κs = c .before .before .before .before .lowest .ensures .small
+
+mul-waiting : tie.Need-mul-waiting Inv-loop μ-loop
+mul-waiting c = record { fits = omega (arith, c .before .before .highest .ensures .small) }
+
+element-write-waiting : tie.Need-element-write-waiting Inv-loop μ-loop
+element-write-waiting c = c .before .before .highest .ensures .small
+
+above-lowest-requires : tie.Need-above-lowest-requires Inv-loop μ-loop
+above-lowest-requires c κs = search needs
+
+loop-less : tie.Need-loop-less Inv-loop μ-loop
+loop-less c =
+    let low = c .before .before .before .lowest .ensures in
+    falls (c .above-lowest .ensures _ low) (low .member)
+
+loop-again : tie.Need-loop-again Inv-loop μ-loop
+loop-again c =
+    let at = c .before .before .before .before .before in
+    let low = c .before .before .before .lowest .ensures in
+    let out = c .above-lowest .ensures _ low in
+    let d = at .before .before .fits .done .fits in (
+      λ j p. at .loop .inv .0 j (was out j p),
+      λ n x g. ⊎-elim
+          (λ w. rw (w .2, w .3) (parted-free x d (at .loop .inv .1 n x g) low out (w .0 .taken) (w .1 .ensures)))
+          (λ w. rw (w .4, w .5) (parted-held x d (at .loop .inv .1 n x g) low out (w .1 .ensures) (w .3 .ensures)))
+          (c .before .if1 .came),
+    )
+
+returns : tie.Need-returns Inv-loop μ-loop
+returns c = λ n x g. rw (c .loop-test .left) at (c .before .loop .inv .1 n x g)
+
+pub release-spec : {M : Type 1} → statement M
+release-spec =
+    tie.close
+    (tie.spec
+    Inv-loop
+    μ-loop
+    loop-holds
+    lowest-requires
+    mul-rest
+    shared-slice-read-rest
+    with-requires
+    highest-requires
+    mul-with
+    element-copy-out-with
+    with-requires-2
+    mul-waiting
+    element-write-waiting
+    above-lowest-requires
+    loop-less
+    loop-again
+    returns)
