@@ -1,13 +1,13 @@
-// Limits by rows of eight and coast bounds, from times by position.
+// A limit from the limits after it, and coast bounds, from times by position.
 ghost use mathlib.Core.Path.{_≡_};
 ghost use Prim.Native.Nat.{ℕ, _+_, _*_, _≤_, _<_};
 ghost use lib.IntN.{pos, _-ℤ_};
 ghost use lib.ListN.{length, getD};
 ghost use lib.Signed.{mag};
-ghost use Rattle.rules.specs.Words.{minZ, tab};
+ghost use Rattle.rules.specs.Words.{minZ};
 ghost use Rattle.rules.specs.Limits.{absent};
 ghost use Rattle.fields.specs.Fields.{splice};
-ghost use Rattle.rows.specs.Rows.{limit-of, row-of, after-last, SmallLimit, SmallRow};
+ghost use Rattle.rows.specs.Rows.{limit-of, after-last, SmallLimit};
 ghost use Rattle.rows.specs.Bounds.{bound-by, bounds-by, bounds-from, all-bounds, SmallTables, HasBounds, Spares};
 
 fn lesser(a: i32, b: i32) -> i32
@@ -26,7 +26,7 @@ fn minus(limit: i32, time: u32) -> i32
 // ---- limits
 
 // A limit by the limits after it, `first` at level 0 and `after` at its own level.
-fn limit_of(deadline: u32, first: i32, after: i32, worst: u32, average: u32) -> i32
+pub fn limit_of(deadline: u32, first: i32, after: i32, worst: u32, average: u32) -> i32
     requires { ⌜ SmallLimit deadline first after worst average ⌝ }
     ensures { λ r. ⌜ r ≡ limit-of deadline first after worst average ⌝ }
 {
@@ -41,39 +41,6 @@ pub fn after_last() -> [i32; 8]
     ensures { λ r. ⌜ r ≡ after-last ⌝ }
 {
     [1_073_741_823; 8]
-}
-
-// The row at a position from the row after it.
-pub fn row(
-    next: [i32; 8],
-    averages: [u32; 8],
-    worsts: [u32; 8],
-    deadline: u32,
-    levels: usize,
-) -> [i32; 8]
-    requires { ⌜ SmallRow next averages worsts deadline levels ⌝ }
-    ensures { λ r. ⌜ r ≡ row-of next averages worsts deadline levels ⌝ }
-{
-    let mut here = [0i32; 8];
-    let mut q = 0;
-    while q < levels {
-        here[q] = limit_of(deadline, next[0], next[q], worsts[q], averages[q]);
-        q += 1;
-    }
-    here
-}
-
-// A finished row goes to the lent table.
-pub fn store(row: [i32; 8], out: &mut [i32], from: usize, levels: usize)
-    requires { ⌜ (levels ≤ 8) × (from + levels ≤ length (now out)) ⌝ }
-    ensures { λ r. ⌜ now (out .exit) ≡ splice (now (out .entry)) from (tab (λ q. getD row q (pos 0)) levels) ⌝ }
-{
-    let mut k = 0;
-    while k < levels {
-        let limit = row[k];
-        out[from + k] = limit;
-        k += 1;
-    }
 }
 
 // ---- coast bounds
