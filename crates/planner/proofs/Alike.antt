@@ -8,7 +8,7 @@ use Rattle.rules.specs.Words.{sum, greatest-of, least-of, rows}
 use Rattle.rules.specs.Limits.{Tables, safe, average, margin, mixed, limit}
 use Rattle.rules.proofs.Sums.{sum-same}
 use Rattle.fields.proofs.Rows.{rows-ext, length-rows, getD-rows}
-use Rattle.rows.proofs.Planned.{Tabled, tabled-bounds}
+use Rattle.rows.proofs.Planned.{Tabled, tabled-bounds, least-same}
 use Rattle.planner.specs.Planning.{coast-bounds}
 
 pub record Alike (S T : Tables) (n L : ℕ) : Type 0 where
@@ -23,11 +23,6 @@ greatest-same : (f g : ℕ → ℕ) (i m : ℕ) → ((j : ℕ) → i ≤ j → j
 unfolding greatest-of
 greatest-same f g i zero h = h i (le-refl i) (omega arith)
 greatest-same f g i (suc m) h = rw (greatest-same f g i m (λ j a b. h j a (omega arith)), h (i + suc m) (omega arith) (le-refl _))
-
-least-same : (f g : ℕ → ℤ) (i m : ℕ) → ((j : ℕ) → i ≤ j → j ≤ i + m → f j ≡ g j) → least-of f i m ≡ least-of g i m
-unfolding least-of
-least-same f g i zero h = h i (le-refl i) (omega arith)
-least-same f g i (suc m) h = rw (least-same f g i m (λ j a b. h j a (omega arith)), h (i + suc m) (omega arith) (le-refl _))
 
 module _ {S T : Tables} {n L : ℕ} (same : Alike S T n L) where
   module _ (q : ℕ) (l : q < L) where

@@ -18,10 +18,10 @@ use Rattle.fields.proofs.Bytes.{Bytes}
 use Rattle.fields.proofs.Strides.{stride-more}
 use Rattle.fields.proofs.Cats.{cat-from, from-none, from-more, from-done}
 use Rattle.fields.proofs.Tabs.{tab-ext, length-tab}
-use Rattle.image.specs.Reading.{HasRecord, HasRecords, Column}
+use Rattle.image.specs.Reading.{HasRecord, HasRecords}
 use Rattle.image.proofs.Reading.{has-record}
 use Rattle.image.proofs.Checks.{has-records}
-use Rattle.rows.specs.Rows.{row-of, after-last}
+use Rattle.rows.specs.Rows.{limits-of, row-of, after-last}
 use Rattle.rows.proofs.Limits.{Lawful, Position, Worked, worked-none, worked-more, worked-done}
 use Rattle.planner.specs.Planning.{Given}
 
@@ -53,14 +53,13 @@ module _ {s : List ℕ} {n L cycle : ℕ} {actions : List ℕ} {o : Order (profi
     pub present : HasRecord s L (getD actions i 0)
     present = has-record (getD actions i 0) records (omega (arith, action, g .n-is, o .at-lt i (omega (arith, g .n-is))))
 
-    pub position : {averages worsts : List ℕ} {deadline : ℕ} → deadline ≡ due (profile s) (getD actions i 0)
-        → Column (average-of s (getD actions i 0)) L averages → Column (worst-of s (getD actions i 0)) L worsts
-        → Position (tables (profile s) o) L i averages worsts deadline
+    pub position : {deadline : ℕ} → deadline ≡ due (profile s) (getD actions i 0)
+        → Position (tables (profile s) o) L i (average-of s (getD actions i 0)) (worst-of s (getD actions i 0)) deadline
     unfolding profile
-    position e a w = record {
+    position e = record {
       due = e ∙ ap (due (profile s)) action;
-      average = λ q m. a .each q m ∙ ap (λ (k : ℕ). average-of s k q) action;
-      worst = λ q m. w .each q m ∙ ap (λ (k : ℕ). worst-of s k q) action;
+      averages = λ q m. ap (λ (k : ℕ). average-of s k q) action;
+      worsts = λ q m. ap (λ (k : ℕ). worst-of s k q) action;
     }
 
 -- ---- the loop: before it, a turn from position j down to i, and after it
@@ -69,15 +68,15 @@ module _ {S : Tables} {n L : ℕ} (lawful : Lawful S n L) (limits₀ : List ℤ)
   pub back-none : {next : List ℤ} → next ≡ after-last → Back S n L limits₀ worst₀ n next limits₀ worst₀
   back-none e = record { worked = worked-none lawful limits₀ e; stored = from-none (λ k. tab (S .worst k) L) worst₀ (n * L) n }
 
-  pub back-more : {next limits row limits′ : List ℤ} {averages worsts worst worst′ : List ℕ} {deadline : ℕ} (i j : ℕ) → j ≡ i + 1 → j ≤ n
-      → n * L ≤ length limits₀ → n * L ≤ length worst₀ → Back S n L limits₀ worst₀ j next limits worst
-      → Position S L i averages worsts deadline → row ≡ row-of next averages worsts deadline L
-      → limits′ ≡ splice limits (i * L) (tab (λ q. getD row q (pos 0)) L) → worst′ ≡ splice worst (i * L) (tab (λ q. getD worsts q 0) L)
+  pub back-more : {next limits row limits′ : List ℤ} {worst worst′ : List ℕ} {average longest : ℕ → ℕ} {deadline : ℕ} (i j : ℕ)
+      → j ≡ i + 1 → j ≤ n → n * L ≤ length limits₀ → n * L ≤ length worst₀ → Back S n L limits₀ worst₀ j next limits worst
+      → Position S L i average longest deadline → row ≡ row-of next average longest deadline L
+      → limits′ ≡ splice limits (i * L) (tab (limits-of next average longest deadline) L) → worst′ ≡ splice worst (i * L) (tab longest L)
       → Back S n L limits₀ worst₀ i row limits′ worst′
-  back-more {worsts = worsts} {worst = worst} i j e h room room′ was at is limits-is worst-is =
-      let same = tab-ext (λ q. getD worsts q 0) (S .worst i) L (at .worst) in
+  back-more {worst = worst} {longest = longest} i j e h room room′ was at is limits-are worst-is =
+      let same = tab-ext longest (S .worst i) L (at .worsts) in
       record {
-        worked = worked-more lawful limits₀ i j e h room (was .worked) at is limits-is;
+        worked = worked-more lawful limits₀ i j e h room (was .worked) at is limits-are;
         stored = from-more (λ k. tab (S .worst k) L) L (λ k. length-tab (S .worst k) L) worst₀ i j n (j * L) (i * L) e h
             (ap (λ (k : ℕ). k * L) e ∙ stride-more i L)
             (omega (arith, mul-le-mul-right L h))

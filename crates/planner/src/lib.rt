@@ -5,13 +5,14 @@ use image::whole;
 ghost use mathlib.Core.Path.{_≡_};
 ghost use mathlib.Core.List.{[], _∷_};
 ghost use Prim.Native.Nat.{_+_, _*_, _≤_};
-ghost use lib.ListN.{length, getD};
+ghost use lib.ListN.{length};
 ghost use Rattle.rules.specs.Words.{tab};
 ghost use Rattle.rules.specs.Image.{due, average-of, worst-of, profile};
 ghost use Rattle.rules.specs.Order.{Order};
 ghost use Rattle.rules.specs.Refusals.{_when_, First, Tight};
 ghost use Rattle.fields.specs.Fields.{splice};
-ghost use Rattle.image.specs.Reading.{HasRecord, Column};
+ghost use Rattle.image.specs.Reading.{HasRecord};
+ghost use Rattle.rows.specs.Rows.{limits-of, row-of, SmallRow};
 ghost use Rattle.planner.specs.Planning.{rooms, Plans, Given, SomeGiven, Filled, Written};
 
 // The answer of planning: with a refusal all else is 0; without one what the header says.
@@ -52,9 +53,7 @@ fn tight(
     0
 }
 
-// ---- an action's record
-
-// Its deadline as it counts: 0 stands for the cycle.
+// An action's deadline as it counts: 0 stands for the cycle.
 fn due_at(image: &[u8], levels: usize, a: usize, cycle: u32) -> u32
     requires { ⌜ HasRecord (now image) levels a × (cycle ≡ profile (now image) .cycle) ⌝ }
     ensures { λ r. ⌜ r ≡ due (profile (now (image .entry))) a ⌝ }
@@ -63,40 +62,38 @@ fn due_at(image: &[u8], levels: usize, a: usize, cycle: u32) -> u32
     if deadline == 0 { cycle } else { deadline }
 }
 
-// Its times by level.
-struct Times {
-    averages: [u32; 8],
-    worsts: [u32; 8],
-}
-
-fn times_of(image: &[u8], levels: usize, a: usize) -> Times
-    requires { ⌜ HasRecord (now image) levels a ⌝ }
-    ensures { λ r. ⌜
-        Column (average-of (now (image .entry)) a) levels (r .averages) × Column (worst-of (now (image .entry)) a) levels (r .worsts) ⌝ }
-{
-    let mut averages = [0u32; 8];
-    let mut worsts = [0u32; 8];
-    let mut q = 0;
-    while q < levels {
-        averages[q] = read::average_at(image, levels, a, q);
-        worsts[q] = read::worst_at(image, levels, a, q);
-        q += 1;
-    }
-    Times { averages, worsts }
-}
-
 // ---- the tables
 
-// A row of worst times goes to the lent table.
-fn store(row: [u32; 8], out: &mut [u32], from: usize, levels: usize)
-    requires { ⌜ (levels ≤ 8) × (from + levels ≤ length (now out)) ⌝ }
-    ensures { λ r. ⌜ now (out .exit) ≡ splice (now (out .entry)) from (tab (λ q. getD row q 0) levels) ⌝ }
+// The row of limits at a position from the row after it, for action a. The finished row goes to the lent table, and so do the worst times.
+fn work_row(
+    image: &[u8],
+    levels: usize,
+    a: usize,
+    due: u32,
+    next: [i32; 8],
+    limits: &mut [i32],
+    worst: &mut [u32],
+    from: usize,
+) -> [i32; 8]
+    requires { ⌜ HasRecord (now image) levels a × SmallRow next (average-of (now image) a) (worst-of (now image) a) due levels ⌝ }
+    requires { ⌜ (from + levels ≤ length (now limits)) × (from + levels ≤ length (now worst)) ⌝ }
+    ensures { λ r. ⌜ r ≡ row-of next (average-of (now (image .entry)) a) (worst-of (now (image .entry)) a) due levels ⌝ }
+    ensures { λ r. ⌜ now (limits .exit) ≡ splice (now (limits .entry)) from
+        (tab (limits-of next (average-of (now (image .entry)) a) (worst-of (now (image .entry)) a) due) levels) ⌝ }
+    ensures { λ r. ⌜ now (worst .exit) ≡ splice (now (worst .entry)) from (tab (worst-of (now (image .entry)) a) levels) ⌝ }
 {
-    let mut k = 0;
-    while k < levels {
-        out[from + k] = row[k];
-        k += 1;
+    let mut here = [0i32; 8];
+    let mut q = 0;
+    while q < levels {
+        let average = read::average_at(image, levels, a, q);
+        let longest = read::worst_at(image, levels, a, q);
+        let limit = rows::limit_of(due, next[0], next[q], longest, average);
+        here[q] = limit;
+        limits[from + q] = limit;
+        worst[from + q] = longest;
+        q += 1;
     }
+    here
 }
 
 // The limits and the worst times, from the last position back: the row at a position takes the place of the row after it.
@@ -121,12 +118,7 @@ fn work(
         let a = actions[i] as usize;
         let from = i * levels;
         let due = due_at(image, levels, a, cycle);
-        let times = times_of(image, levels, a);
-        let averages = times.averages;
-        let worsts = times.worsts;
-        let here = rows::row(next, averages, worsts, due, levels);
-        rows::store(here, limits, from, levels);
-        store(worsts, worst, from, levels);
+        let here = work_row(image, levels, a, due, next, limits, worst, from);
         next = here;
     }
 }

@@ -1,62 +1,139 @@
--- Coast bounds worked by a running least and a running sum. Assumes nothing.
-use Prim.Native.Nat.{ℕ, suc, _+_, _-_, _≤_, _<_}
-use mathlib.Core.Path.{_≡_, ap, _∙_}
-use native.Mathlib.Nat.{add-zero}
-use native.Mathlib.Numerals.{add-one}
+-- Coast bounds from those of the position after it. Assumes nothing.
+use Prim.Native.Nat.{ℕ, zero, suc, _+_, _-_, _*_, _≤_, _<_}
+use mathlib.Core.Path.{_≡_, refl, sym, ap, _∙_}
+use mathlib.Core.Logic.{_↔_}
+use mathlib.Core.Bool.{true, false, false≢true}
+use mathlib.Core.List.{List, [], _∷_}
+use native.Mathlib.Nat.{le-refl}
+use native.Mathlib.Decide.{decLt}
 use native.Mathlib.Omega.{arith}
 use borrow.Author.Tests.{le-ltb, lt-ltb}
-use lib.IntN.{ℤ, pos, _-ℤ_}
-use lib.Signed.{mag}
-use Rattle.rules.specs.Words.{sum, span, minZ, least-of}
+use lib.IntN.{ℤ, pos, negsuc, _-ℤ_}
+use lib.ListN.{getD}
+use lib.Signed.{mag, ltZ}
+use Rattle.rules.specs.Words.{sum, span, minZ, least-of, tab}
 use Rattle.rules.specs.Limits.{Tables, absent, coast-bound}
 use Rattle.rules.proofs.Sums.{sum-longer}
-use Rattle.rows.proofs.Signed.{mag-less, lesser-top}
+use Rattle.rules.proofs.Limits.Signed.{AtMost, at-most-min, at-most-less, at-most-sooner, settled, least-all, all-least}
+use Rattle.fields.proofs.Cats.{cat-front}
+use Rattle.fields.proofs.Tabs.{tab-ext}
+use Rattle.rows.specs.Bounds.{bound-by, bounds-by, Spares}
+use Rattle.rows.proofs.Signed.{mag-lesser, mag-less}
 
-module _ (S : Tables) (limit : ℕ → ℕ → ℤ) (i q : ℕ) where
-  -- limit (j, q) minus the worst times at q of positions i to j - 1
-  abbrev pub term : ℕ → ℤ
-  term j = limit j q -ℤ pos (span (λ p. S .worst p q) i j)
+-- what is above the least number of 32 bits is not absent
+above-absent : (z : ℤ) → mag z < 2147483647 → ltZ absent z ≡ true
+above-absent (pos n) h = refl
+above-absent (negsuc n) h = lt-ltb n 2147483647 (omega arith)
 
-  pub bound-within : (r : ℕ) → i + r < S .n → coast-bound S limit i q (suc r) ≡ least-of term i r
+module _ (S : Tables) (limit : ℕ → ℕ → ℤ) where
+  -- the worst times at q of positions i to j - 1
+  abbrev spent : ℕ → ℕ → ℕ → ℕ
+  spent i q j = span (λ p. S .worst p q) i j
+
+  abbrev pub term : ℕ → ℕ → ℕ → ℤ
+  term i q j = limit j q -ℤ pos (spent i q j)
+
+  pub bound-within : (i q r : ℕ) → i + r < S .n → coast-bound S limit i q (suc r) ≡ least-of (term i q) i r
   unfolding coast-bound
-  bound-within r h =
+  bound-within i q r h =
       let e : suc r - 1 ≡ r = omega arith in
       rw (le-ltb (S .n - i) (suc r) (omega arith), e)
 
-  pub bound-past : (r : ℕ) → S .n ≤ i + r → coast-bound S limit i q (suc r) ≡ absent
+  pub bound-past : (i q r : ℕ) → S .n ≤ i + r → coast-bound S limit i q (suc r) ≡ absent
   unfolding coast-bound
-  bound-past r h = rw (lt-ltb (S .n - i) (suc r) (omega arith))
+  bound-past i q r h = rw (lt-ltb (S .n - i) (suc r) (omega arith))
 
-  -- Before position i + r: the worst times up to it, and a number that with its term makes the least up to it.
-  pub record Running (r : ℕ) (least : ℤ) (spent : ℕ) : Type 0 where
-    pub spent-is : spent ≡ span (λ p. S .worst p q) i (i + r)
-    pub least-is : minZ least (term (i + r)) ≡ least-of term i r
+  -- ---- the bound of one action, and of one more from the position after it
 
-  pub running-none : mag (limit i q) ≤ 2147483647 → Running 0 (pos 2147483647) 0
+  at-first : (i q t b : ℕ) → AtMost t b (term i q i) ↔ AtMost t b (limit i q)
+  at-first i q t b = (
+    (λ a. at-most-sooner t (t + spent i q i) b (limit i q) (omega arith) (at-most-less t b (limit i q) (spent i q i) .0 a)),
+    (λ a. at-most-less t b (limit i q) (spent i q i) .1 (at-most-sooner (t + spent i q i) t b (limit i q) (omega arith) a)),
+  )
+
+  pub bound-one : (i q : ℕ) → i < S .n → coast-bound S limit i q 1 ≡ limit i q
   unfolding least-of
-  running-none h = record {
-    spent-is = rw add-zero (omega arith);
-    least-is = rw add-zero (lesser-top 2147483647 (term i) (omega (arith, mag-less (limit i q) (span (λ p. S .worst p q) i i))));
-  }
+  bound-one i q h = bound-within i q 0 (omega arith) ∙ settled _ _ (at-first i q)
 
-  -- After it: the bound up to it, and the same before the next one, if there is one.
-  pub record Passed (r : ℕ) (least : ℤ) (spent : ℕ) : Type 0 where
-    pub bound : least ≡ coast-bound S limit i q (suc r)
-    pub next : i + (r + 1) < S .n → Running (r + 1) least spent
+  -- a term after i, counted from i and from the position after it
+  at-later : (i q t b j : ℕ) → i < j → AtMost t b (term i q j) ↔ AtMost (t + S .worst i q) b (term (suc i) q j)
+  unfolding sum
+  at-later i q t b j l =
+      let w = S .worst i q in
+      let s = t + spent i q j in
+      let s′ = t + w + spent (suc i) q j in
+      let e : s ≡ s′ = omega (arith, sum-longer (λ p. S .worst p q) (suc i) j l) in (
+        (λ a. at-most-less (t + w) b (limit j q) (spent (suc i) q j) .1
+            (at-most-sooner s′ s b (limit j q) (omega arith) (at-most-less t b (limit j q) (spent i q j) .0 a))),
+        (λ a. at-most-less t b (limit j q) (spent i q j) .1
+            (at-most-sooner s s′ b (limit j q) (omega arith) (at-most-less (t + w) b (limit j q) (spent (suc i) q j) .0 a))),
+      )
 
-  pub passed : (r : ℕ) {least here : ℤ} {spent on : ℕ} → i + r < S .n → Running r least spent
-      → here ≡ minZ least (limit (i + r) q -ℤ pos spent) → on ≡ spent + S .worst (i + r) q → Passed r here on
-  unfolding sum least-of
-  passed r {here = here} h was is more =
-      let up-to : here ≡ least-of term i r = is ∙ rw (was .spent-is) (was .least-is) in
-      let e : i + (r + 1) ≡ suc (i + r) = omega arith in
-      record {
-        bound = rw (bound-within r h) up-to;
-        next = λ k. record {
-          spent-is = rw e (omega (arith, was .spent-is, sum-longer (λ p. S .worst p q) i (i + r) (omega arith)));
-          least-is = rw add-one (ap (λ (z : ℤ). minZ z (term (i + suc r))) up-to);
-        };
-      }
+  pub bound-more : (i q r : ℕ) → i + suc r < S .n
+      → coast-bound S limit i q (suc (suc r)) ≡ minZ (limit i q) (coast-bound S limit (suc i) q (suc r) -ℤ pos (S .worst i q))
+  bound-more i q r h =
+      rw (bound-within i q (suc r) h, bound-within (suc i) q r (omega arith)) (settled _ _ (λ t b. (there t b, back t b)))
+    where
+      rest : ℤ
+      rest = least-of (term (suc i) q) (suc i) r
 
-  pub passed-all : (r : ℕ) {here : ℤ} {spent : ℕ} → S .n ≤ i + r → here ≡ absent → Passed r here spent
-  passed-all r h is = record { bound = rw (bound-past r h) is; next = λ k. let no-such : ⊥ = omega arith in absurd no-such }
+      w : ℕ
+      w = S .worst i q
+
+      there : (t b : ℕ) → AtMost t b (least-of (term i q) i (suc r)) → AtMost t b (minZ (limit i q) (rest -ℤ pos w))
+      there t b a =
+          let each = least-all (term i q) t b i (suc r) a in
+          at-most-min t b (limit i q) (rest -ℤ pos w) .1 (
+            at-first i q t b .0 (each i (le-refl i) (omega arith)),
+            at-most-less t b rest w .1
+                (all-least (term (suc i) q) (t + w) b (suc i) r (λ j u v. at-later i q t b j u .0 (each j (omega arith) (omega arith)))),
+          )
+
+      back : (t b : ℕ) → AtMost t b (minZ (limit i q) (rest -ℤ pos w)) → AtMost t b (least-of (term i q) i (suc r))
+      back t b a = all-least (term i q) t b i (suc r) (λ j u v. go j u v (decLt i j))
+        where
+          both : AtMost t b (limit i q) × AtMost t b (rest -ℤ pos w)
+          both = at-most-min t b (limit i q) (rest -ℤ pos w) .0 a
+
+          go : (j : ℕ) → i ≤ j → j ≤ i + suc r → Dec (i < j) → AtMost t b (term i q j)
+          go j u v (yes l) =
+              at-later i q t b j l .1 (least-all (term (suc i) q) (t + w) b (suc i) r (at-most-less t b rest w .0 (both .1)) j l (omega arith))
+          go j u v (no l) =
+              let e : j ≡ i = omega arith in
+              rw e (at-first i q t b .1 (both .0))
+
+  -- ---- numbers so small that every difference fits in 32 bits with a sign
+
+  module _ (q : ℕ) (near : (i : ℕ) → i < S .n → mag (limit i q) < 1073741824) (short : (i : ℕ) → i < S .n → S .worst i q ≤ 16777215) where
+    bound-small : (i r : ℕ) → i + r < S .n → mag (coast-bound S limit i q (suc r)) ≤ 1073741823 + r * 16777215
+    bound-small i zero h = rw (bound-one i q (omega arith)) (omega (arith, near i (omega arith)))
+    bound-small i (suc r) h = rw (bound-more i q r h) (mag-lesser (limit i q) (coast-bound S limit (suc i) q (suc r) -ℤ pos (S .worst i q)) (1073741823 + suc r * 16777215)
+        (omega (arith, near i (omega arith)))
+        (omega (arith, mag-less (coast-bound S limit (suc i) q (suc r)) (S .worst i q), bound-small (suc i) r (omega arith), short i (omega arith))))
+
+    -- the sixteen of position i from those of the position after it
+    module _ (i : ℕ) (l : i < S .n) (after : List ℤ)
+        (are : (k : ℕ) → k < 16 → getD after k (pos 0) ≡ coast-bound S limit (suc i) q (suc k)) where
+      pub after-spares : (k : ℕ) → k < 15 → Spares (S .worst i q) (getD after k (pos 0))
+      after-spares k h = rw (are k (omega arith)) (go (decLt (suc i + k) (S .n)))
+        where
+          go : Dec (suc i + k < S .n) → Spares (S .worst i q) (coast-bound S limit (suc i) q (suc k))
+          go (yes m) t = omega (arith, bound-small (suc i) k m, short i l)
+          go (no m) t =
+              let no-such : false ≡ true = rw (bound-past (suc i) q k (omega arith)) at t in
+              absurd (false≢true no-such)
+
+      one-more : (k : ℕ) → k < 15 → bound-by (limit i q) (S .worst i q) (getD after k (pos 0)) ≡ coast-bound S limit i q (suc (suc k))
+      one-more k h = rw (are k (omega arith)) (go (decLt (suc i + k) (S .n)))
+        where
+          go : Dec (suc i + k < S .n)
+              → bound-by (limit i q) (S .worst i q) (coast-bound S limit (suc i) q (suc k)) ≡ coast-bound S limit i q (suc (suc k))
+          go (yes m) =
+              rw (above-absent (coast-bound S limit (suc i) q (suc k)) (omega (arith, bound-small (suc i) k m))) (sym (bound-more i q k (omega arith)))
+          go (no m) = rw (bound-past (suc i) q k (omega arith), bound-past i q (suc k) (omega arith)) refl
+
+      pub bounds-are : bounds-by (limit i q) (S .worst i q) after ≡ tab (λ k. coast-bound S limit i q (suc k)) 16
+      bounds-are =
+          ap (λ (x : List ℤ). limit i q ∷ x) (tab-ext _ _ 15 one-more)
+          ∙ ap (λ (z : ℤ). z ∷ tab (λ k. coast-bound S limit i q (suc (suc k))) 15) (sym (bound-one i q l))
+          ∙ sym (cat-front (λ k. coast-bound S limit i q (suc k) ∷ []) 15)

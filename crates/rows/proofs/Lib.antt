@@ -1,4 +1,5 @@
 pub mod Signed
 pub mod Limits
 pub mod Coast
+pub mod After
 pub mod Planned

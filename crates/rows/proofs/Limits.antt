@@ -32,10 +32,10 @@ pub record Lawful (S : Tables) (n levels : ℕ) : Type 0 where
   pub small : Small S
 
 -- the deadline and the times of position i
-pub record Position (S : Tables) (levels i : ℕ) (averages worsts : List ℕ) (deadline : ℕ) : Type 0 where
+pub record Position (S : Tables) (levels i : ℕ) (average worst : ℕ → ℕ) (deadline : ℕ) : Type 0 where
   pub due : deadline ≡ S .deadline i
-  pub average : (q : ℕ) → q < levels → getD averages q 0 ≡ S .average i q
-  pub worst : (q : ℕ) → q < levels → getD worsts q 0 ≡ S .worst i q
+  pub averages : (q : ℕ) → q < levels → average q ≡ S .average i q
+  pub worsts : (q : ℕ) → q < levels → worst q ≡ S .worst i q
 
 -- the row at position i, or the one after the last
 pub record RowAt (S : Tables) (n levels i : ℕ) (row : List ℤ) : Type 0 where
@@ -76,8 +76,8 @@ module _ {S : Tables} {n levels : ℕ} (lawful : Lawful S n levels) where
   }
 
   -- the row at i from the row at j, which is after it
-  module _ {next : List ℤ} {averages worsts : List ℕ} {deadline : ℕ} (i j : ℕ) (e : j ≡ i + 1) (h : j ≤ n)
-      (was : RowAt S n levels j next) (at : Position S levels i averages worsts deadline) where
+  module _ {next : List ℤ} {average worst : ℕ → ℕ} {deadline : ℕ} (i j : ℕ) (e : j ≡ i + 1) (h : j ≤ n)
+      (was : RowAt S n levels j next) (at : Position S levels i average worst deadline) where
     here : i < S .n
     here = omega (arith, lawful .positions)
 
@@ -88,22 +88,19 @@ module _ {S : Tables} {n levels : ℕ} (lawful : Lawful S n levels) where
         go (yes l) = rw (was .limits q m l) (limit-near j q l m)
         go (no l) = rw (was .after q m (omega arith)) (omega arith)
 
-    pub row-small : SmallRow next averages worsts deadline levels
-    row-small = record {
-      most = lawful .most;
-      each = λ q m.
-          let short = lawful .small .time i q here (in-levels q m) in
-          record {
-            due = omega (arith, at .due, lawful .small .due i here);
-            first-near = near 0 (omega arith);
-            after-near = near q m;
-            worst-short = omega (arith, at .worst q m);
-            average-short = omega (arith, at .average q m, lawful .sound .ordered i q here (in-levels q m));
-          };
-    }
+    pub row-small : SmallRow next average worst deadline levels
+    row-small q m =
+        let short = lawful .small .time i q here (in-levels q m) in
+        record {
+          due = omega (arith, at .due, lawful .small .due i here);
+          first-near = near 0 (omega arith);
+          after-near = near q m;
+          worst-short = omega (arith, at .worsts q m);
+          average-short = omega (arith, at .averages q m, lawful .sound .ordered i q here (in-levels q m));
+        }
 
-    limit-is : (q : ℕ) → q < levels → limits-of next averages worsts deadline q ≡ limit S i q
-    limit-is q m = rw (at .due, at .average q m, at .worst q m) (go (decLt j n))
+    limit-is : (q : ℕ) → q < levels → limits-of next average worst deadline q ≡ limit S i q
+    limit-is q m = rw (at .due, at .averages q m, at .worsts q m) (go (decLt j n))
       where
         s : j ≡ suc i
         s = e ∙ add-one i
@@ -117,9 +114,9 @@ module _ {S : Tables} {n levels : ℕ} (lawful : Lawful S n levels) where
             (last-limit (S .deadline i) (S .worst i q) (S .average i q) 1073741823 (lawful .small .due i here)
             (lawful .sound .ordered i q here (in-levels q m)))
 
-    pub row-is : {row : List ℤ} → row ≡ row-of next averages worsts deadline levels → RowAt S n levels i row
+    pub row-is : {row : List ℤ} → row ≡ row-of next average worst deadline levels → RowAt S n levels i row
     row-is is = record {
-      limits = λ q m l. rw is (eight-at (limits-of next averages worsts deadline) levels q m ∙ limit-is q m);
+      limits = λ q m l. rw is (eight-at (limits-of next average worst deadline) levels q m ∙ limit-is q m);
       after = λ q m l. let no-such : ⊥ = omega arith in absurd no-such;
     }
 
@@ -128,15 +125,14 @@ module _ {S : Tables} {n levels : ℕ} (lawful : Lawful S n levels) where
   pub worked-none : (out : List ℤ) {next : List ℤ} → next ≡ after-last → Worked S n levels out n next out
   worked-none out e = record { row = row-none e; table = from-none (λ k. tab (limit S k) levels) out (n * levels) n }
 
-  pub worked-more : (out₀ : List ℤ) {next out row out′ : List ℤ} {averages worsts : List ℕ} {deadline : ℕ} (i j : ℕ) → j ≡ i + 1 → j ≤ n
-      → n * levels ≤ length out₀ → Worked S n levels out₀ j next out → Position S levels i averages worsts deadline
-      → row ≡ row-of next averages worsts deadline levels → out′ ≡ splice out (i * levels) (tab (λ q. getD row q (pos 0)) levels)
+  pub worked-more : (out₀ : List ℤ) {next out row out′ : List ℤ} {average worst : ℕ → ℕ} {deadline : ℕ} (i j : ℕ) → j ≡ i + 1 → j ≤ n
+      → n * levels ≤ length out₀ → Worked S n levels out₀ j next out → Position S levels i average worst deadline
+      → row ≡ row-of next average worst deadline levels → out′ ≡ splice out (i * levels) (tab (limits-of next average worst deadline) levels)
       → Worked S n levels out₀ i row out′
-  worked-more out₀ {out = out} {row = row} i j e h room was at is stored =
-      let done : RowAt S n levels i row = row-is i j e h (was .row) at is in
-      let same = tab-ext (λ q. getD row q (pos 0)) (limit S i) levels (λ q m. done .limits q m (omega arith)) in
+  worked-more out₀ {next = next} {out = out} {average = average} {worst = worst} {deadline = deadline} i j e h room was at is stored =
+      let same = tab-ext (limits-of next average worst deadline) (limit S i) levels (limit-is i j e h (was .row) at) in
       record {
-        row = done;
+        row = row-is i j e h (was .row) at is;
         table = from-more (λ k. tab (limit S k) levels) levels (λ k. length-tab (limit S k) levels) out₀ i j n (j * levels) (i * levels) e h
             (ap (λ (k : ℕ). k * levels) e ∙ stride-more i levels)
             (omega (arith, mul-le-mul-right levels h))

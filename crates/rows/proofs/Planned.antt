@@ -35,7 +35,8 @@ tabled S limit n levels limits₀ worst₀ a b e f = record {
   worst-is = rows-written (S .worst) worst₀ n levels 0 f;
 }
 
-least-same : (f g : ℕ → ℤ) (i m : ℕ) → ((j : ℕ) → i ≤ j → j ≤ i + m → f j ≡ g j) → least-of f i m ≡ least-of g i m
+-- the least of equal numbers
+pub least-same : (f g : ℕ → ℤ) (i m : ℕ) → ((j : ℕ) → i ≤ j → j ≤ i + m → f j ≡ g j) → least-of f i m ≡ least-of g i m
 unfolding least-of
 least-same f g i zero h = h i (le-refl i) (omega arith)
 least-same f g i (suc m) h = rw (least-same f g i m (λ j a b. h j a (omega arith)), h (i + suc m) (omega arith) (le-refl _))

@@ -1,11 +1,13 @@
 -- Coast bounds from lent tables, row by row.
 use Prim.Native.Nat.{ℕ, suc, _+_, _*_, _≤_, _<_}
-use mathlib.Core.List.{List}
-use lib.IntN.{ℤ, pos}
+use mathlib.Core.Path.{_≡_}
+use mathlib.Core.Bool.{true, cond}
+use mathlib.Core.List.{List, _∷_}
+use lib.IntN.{ℤ, pos, _-ℤ_}
 use lib.ListN.{length, getD}
-use lib.Signed.{mag}
-use Rattle.rules.specs.Words.{cat, tab, rows}
-use Rattle.rules.specs.Limits.{Tables, coast-bound}
+use lib.Signed.{mag, ltZ}
+use Rattle.rules.specs.Words.{minZ, cat, tab, rows}
+use Rattle.rules.specs.Limits.{Tables, absent, coast-bound}
 
 -- what the lent tables hold at position i and level q
 abbrev pub limit-at : List ℤ → ℕ → ℕ → ℕ → ℤ
@@ -38,3 +40,22 @@ pub record SmallTables (limits : List ℤ) (worst : List ℕ) (n levels : ℕ) :
   pub worst-held : n * levels ≤ length worst
   pub near : (i q : ℕ) → i < n → q < levels → mag (limit-at limits levels i q) < 1073741824
   pub short : (i q : ℕ) → i < n → q < levels → worst-at worst levels i q ≤ 16777215
+
+-- the table has the sixteen of position i at every level
+abbrev pub HasBounds : List ℤ → List ℕ → ℕ → ℕ → ℕ → List ℤ → Type 0
+HasBounds limits worst n levels i out =
+    (q k : ℕ) → q < levels → k < 16 → getD out ((i * levels + q) * 16 + k) (pos 0) ≡ bound-of limits worst n levels i q (suc k)
+
+-- ---- from the position after it
+
+-- a bound from that of the position after it at one action less, and absent where that is
+abbrev pub bound-by : ℤ → ℕ → ℤ → ℤ
+bound-by limit worst after = cond (ltZ absent after) (minZ limit (after -ℤ pos worst)) absent
+
+-- the sixteen from those of the position after it: the limit, and one more action than each of the first fifteen
+abbrev pub bounds-by : ℤ → ℕ → List ℤ → List ℤ
+bounds-by limit worst after = limit ∷ tab (λ k. bound-by limit worst (getD after k (pos 0))) 15
+
+-- unless `after` is absent, after - worst is a number of 32 bits with a sign
+abbrev pub Spares : ℕ → ℤ → Type 0
+Spares worst after = ltZ absent after ≡ true → mag after + worst < 2147483648

@@ -13,16 +13,15 @@ abbrev pub limit-of : ℕ → ℤ → ℤ → ℕ → ℕ → ℤ
 limit-of deadline first after worst average = minZ (minZ (pos deadline) first -ℤ pos worst) (after -ℤ pos average)
 
 -- the same by the row after it, at each level
-abbrev pub limits-of : List ℤ → List ℕ → List ℕ → ℕ → ℕ → ℤ
-limits-of next averages worsts deadline q =
-    limit-of deadline (getD next 0 (pos 0)) (getD next q (pos 0)) (getD worsts q 0) (getD averages q 0)
+abbrev pub limits-of : List ℤ → (ℕ → ℕ) → (ℕ → ℕ) → ℕ → ℕ → ℤ
+limits-of next average worst deadline q = limit-of deadline (getD next 0 (pos 0)) (getD next q (pos 0)) (worst q) (average q)
 
 -- a row of eight: f at each level, then 0
 unfoldable pub eight : (ℕ → ℤ) → ℕ → List ℤ
 eight f levels = splice (replicate 8 (pos 0)) 0 (tab f levels)
 
-abbrev pub row-of : List ℤ → List ℕ → List ℕ → ℕ → ℕ → List ℤ
-row-of next averages worsts deadline levels = eight (limits-of next averages worsts deadline) levels
+abbrev pub row-of : List ℤ → (ℕ → ℕ) → (ℕ → ℕ) → ℕ → ℕ → List ℤ
+row-of next average worst deadline levels = eight (limits-of next average worst deadline) levels
 
 -- the row after the last position: the latest deadline, which no limit is above
 abbrev pub after-last : List ℤ
@@ -37,6 +36,6 @@ pub record SmallLimit (deadline : ℕ) (first after : ℤ) (worst average : ℕ)
   pub worst-short : worst ≤ 16777215
   pub average-short : average ≤ 16777215
 
-pub record SmallRow (next : List ℤ) (averages worsts : List ℕ) (deadline levels : ℕ) : Type 0 where
-  pub most : levels ≤ 8
-  pub each : (q : ℕ) → q < levels → SmallLimit deadline (getD next 0 (pos 0)) (getD next q (pos 0)) (getD worsts q 0) (getD averages q 0)
+abbrev pub SmallRow : List ℤ → (ℕ → ℕ) → (ℕ → ℕ) → ℕ → ℕ → Type 0
+SmallRow next average worst deadline levels =
+    (q : ℕ) → q < levels → SmallLimit deadline (getD next 0 (pos 0)) (getD next q (pos 0)) (worst q) (average q)

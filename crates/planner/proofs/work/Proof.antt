@@ -11,7 +11,7 @@ use Rattle.rules.specs.Limits.{tables}
 use Rattle.fields.proofs.Bytes.{Bytes}
 use Rattle.fields.proofs.Strides.{stride-fits}
 use Rattle.image.specs.Reading.{HasRecord}
-use Rattle.rows.proofs.Limits.{Position, row-small}
+use Rattle.rows.proofs.Limits.{row-small}
 use Rattle.planner.specs.Planning.{Given}
 use Rattle.planner.proofs.Working.{Back, records, lawful, present, position, back-none, back-more, back-done}
 use Rattle.planner.proofs.work.Statement.{statement}
@@ -43,16 +43,6 @@ action : (c : tie.In-loop Inv-loop μ-loop) → let a = c .before .before .befor
     HasRecord (a .image .now) (a .levels) (getD (a .actions .now) (c .before .loop .i - 1) 0)
 action c = present (c .before .before .before .before .before .pre .0 .1) (c .before .loop .i - 1) (omega arith)
 
--- what was read of it
-times : (c : tie.After-worsts Inv-loop μ-loop) → let a = c .before .before .before .before .before .before .before .before .before .before .args in
-    (o : Order (profile (a .image .now) .n)) → Given (a .image .now) (a .n) (a .levels) (a .cycle) (a .actions .now) o
-    → Position (tables (profile (a .image .now)) o) (a .levels) (c .before .before .before .before .before .before .loop .i - 1)
-    (c .before .before .times-of .result .averages) (c .before .before .times-of .result .worsts) (c .before .before .before .due-at .result)
-times c o g =
-    let read = c .before .before .times-of .ensures in
-    let i = c .before .before .before .before .before .before .loop .i in
-    position g (i - 1) (omega arith) (c .before .before .before .due-at .ensures) (read .0) (read .1)
-
 after-last-requires : tie.Need-after-last-requires Inv-loop μ-loop
 after-last-requires c κs = search needs
 
@@ -76,43 +66,36 @@ mul-from c =
 due-at-requires : tie.Need-due-at-requires Inv-loop μ-loop
 due-at-requires c κs = (action (c .before), c .before .before .before .before .before .before .pre .0 .1 .cycle-is)
 
-times-of-requires : tie.Need-times-of-requires Inv-loop μ-loop
-times-of-requires c κs = action (c .before .before)
-
-row-requires : tie.Need-row-requires Inv-loop μ-loop
-row-requires c κs =
-    let t = c .before .before .before .before .before .before in
-    let given = t .before .before .before .before .pre .0 in
-    row-small (lawful (given .1) (bytes (t .before))) (t .loop .i - 1) (t .loop .i) (omega arith) (t .loop .inv .0)
-    (t .loop .inv .3 (given .0) (given .1) .worked .row) (times c (given .0) (given .1))
-
-store-requires : tie.Need-store-requires Inv-loop μ-loop
-store-requires c κs =
-    let in-loop = c .before .before .before .before .before .before .before in
-    let start = in-loop .before .before .before .before .before in
-    (records (start .pre .0 .1) .few-levels, omega (arith, start .pre .1 .0, in-loop .before .loop .inv .1, inside in-loop))
-
-store-requires-2 : tie.Need-store-requires-2 Inv-loop μ-loop
-store-requires-2 c κs =
-    let in-loop = c .before .before .before .before .before .before .before .before .before .before in
-    let start = in-loop .before .before .before .before .before in
-    (records (start .pre .0 .1) .few-levels, omega (arith, start .pre .1 .1, in-loop .before .loop .inv .2, inside in-loop))
+work-row-requires : tie.Need-work-row-requires Inv-loop μ-loop
+work-row-requires c κs =
+    let in-loop = c .before .before .before .before in
+    let t = in-loop .before in
+    let s = t .before .before .before .before in
+    let given = s .pre .0 in
+    let i = t .loop .i in (
+      (
+        action in-loop,
+        row-small (lawful (given .1) (bytes (t .before))) (i - 1) i (omega arith) (t .loop .inv .0)
+            (t .loop .inv .3 (given .0) (given .1) .worked .row) (position (given .1) (i - 1) (omega arith) (c .before .before .due-at .ensures)),
+      ),
+      (omega (arith, s .pre .1 .0, t .loop .inv .1, inside in-loop), omega (arith, s .pre .1 .1, t .loop .inv .2, inside in-loop)),
+    )
 
 loop-less : tie.Need-loop-less Inv-loop μ-loop
 loop-less c = search needs
 
 loop-again : tie.Need-loop-again Inv-loop μ-loop
 loop-again c =
-    let stored = c .before .before .store2 in
-    let limits-stored = c .before .before .before .before .before .store in
-    let row = c .before .before .before .before .before .before .before in
-    let t = row .before .before .before .before .before .before .before in
-    let room = t .before .before .before .before .pre .1 in (
+    let done = c .before .before .before .work-row in
+    let t = c .before .before .before .before .before .before .before .before .before in
+    let due = c .before .before .before .before .before .before .due-at .ensures in
+    let room = t .before .before .before .before .pre .1 in
+    let i = t .loop .i in (
       search needs,
-      limits-stored .kept .1 .0 ∙ t .loop .inv .1,
-      stored .kept .1 .0 ∙ t .loop .inv .2,
-      λ o g. back-more (lawful g (bytes (t .before))) _ _ (t .loop .i - 1) (t .loop .i) (omega arith) (t .loop .inv .0) (room .0) (room .1)
-          (t .loop .inv .3 o g) (times (row .before) o g) (row .row .ensures) (limits-stored .ensures) (stored .ensures),
+      done .kept .1 .1 .1 .1 .1 .0 ∙ t .loop .inv .1,
+      done .kept .1 .1 .1 .1 .1 .1 .0 ∙ t .loop .inv .2,
+      λ o g. back-more (lawful g (bytes (t .before))) _ _ (i - 1) i (omega arith) (t .loop .inv .0) (room .0) (room .1) (t .loop .inv .3 o g)
+          (position g (i - 1) (omega arith) due) (done .ensures .0) (done .ensures .1 .0) (done .ensures .1 .1),
     )
 
 same-length : tie.Need-same-length Inv-loop μ-loop
@@ -139,10 +122,7 @@ work-spec =
     cast-a
     mul-from
     due-at-requires
-    times-of-requires
-    row-requires
-    store-requires
-    store-requires-2
+    work-row-requires
     loop-less
     loop-again
     same-length

@@ -22,7 +22,7 @@ top c = rw (toZ-pos w32 {n = c .before .args .deadline} (omega arith), toZ-ofZ (
 minus-requires : tie.Need-minus-requires
 minus-requires c κs =
     let near = mag-lesser (pos (c .before .args .deadline)) (c .before .args .first) 1073741823 (omega arith) (omega arith) in
-    rw (as-is (c .lesser .result) (c .lesser .ok), top c) (omega (arith, near), omega arith)
+    rw (as-is (c .lesser .result) (c .lesser .ok), top c) (omega (arith, near))
 
 minus-requires-2 : tie.Need-minus-requires-2
 minus-requires-2 c κs = rw (toZ-ofZ (c .before .before .fits .after)) (omega arith)

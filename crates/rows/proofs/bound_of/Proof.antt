@@ -1,0 +1,42 @@
+-- The test and the two calls are of the bits, which say the numbers. Assumes nothing.
+use mathlib.Core.Path.{_≡_}
+use mathlib.Core.Bool.{true, false}
+use native.Mathlib.Omega.{arith}
+use borrow.Author.Needs.{needs}
+use lib.Signed.{ltZ}
+use mir.Facts.{toZ-ofZ}
+use Rattle.rules.specs.Limits.{absent}
+use Rattle.rows.proofs.Signed.{as-is}
+use Rattle.rows.proofs.bound_of.Statement.{statement}
+use Rattle.rows.proofs.bound_of.Tie as tie
+
+there : (c : tie.Then1) → ltZ absent (c .before .args .after) ≡ true
+there c = rw (toZ-ofZ (c .before .fits .after)) at (c .if1 .taken)
+
+minus-requires : tie.Need-minus-requires
+minus-requires c κs = rw (toZ-ofZ (c .before .fits .after)) (c .before .pre (there c))
+
+lesser-requires : tie.Need-lesser-requires
+lesser-requires c κs = search needs
+
+returns : tie.Need-returns
+returns c =
+    let less = c .before .minus in
+    let start = c .before .before .before in
+    rw (
+      as-is _ (c .lesser .ok),
+      c .lesser .ensures,
+      as-is (less .result) (less .ok),
+      less .ensures,
+      toZ-ofZ (start .fits .limit),
+      toZ-ofZ (start .fits .after),
+      there (c .before .before),
+    )
+
+returns-2 : tie.Need-returns-2
+returns-2 c =
+    let t : ltZ absent (c .before .args .after) ≡ false = rw (toZ-ofZ (c .before .fits .after)) at (c .if1 .left) in
+    rw t
+
+pub bound-of-spec : {M : Type 1} → statement M
+bound-of-spec = tie.close (tie.spec minus-requires lesser-requires returns returns-2)
