@@ -8,17 +8,17 @@ ghost use Rattle.run.specs.Calls.{run-of, answer-of, next-of, start-of, 
 
 pub mod decision;
 
-// The fields and their ranges are `in-range` of the rules.
+// The fields and their ranges are `in-range` of the rules. The three marks stand last, so that there is no gap between fields.
 #[repr(C)]
 pub struct Run {
     pub n: u32,
     pub levels: u32,
     pub position: u32,
     pub clock: u32,
-    pub running: bool,
     pub level: u32,
     pub left: u32,
     pub decisions: u32,
+    pub running: bool,
     pub overrun: bool,
     pub late: bool,
 }
@@ -86,10 +86,10 @@ pub fn begun(n: u32, levels: u32) -> Run
         levels: levels,
         position: 0,
         clock: 0,
-        running: false,
         level: 0,
         left: 0,
         decisions: 0,
+        running: false,
         overrun: false,
         late: false,
     }
@@ -185,10 +185,10 @@ impl Run {
                 levels: self.levels,
                 position: self.position,
                 clock: t,
-                running: true,
                 level: level as u32,
                 left: left,
                 decisions: self.decisions + 1,
+                running: true,
                 overrun: self.overrun,
                 late: either(self.late, late),
             },
@@ -206,10 +206,10 @@ impl Run {
             levels: self.levels,
             position: self.position,
             clock: self.clock,
-            running: true,
             level: self.level,
             left: self.left - 1,
             decisions: self.decisions,
+            running: true,
             overrun: self.overrun,
             late: self.late,
         }
@@ -227,10 +227,10 @@ impl Run {
             levels: self.levels,
             position: self.position + 1,
             clock: clock,
-            running: false,
             level: self.level,
             left: unless(over, self.left),
             decisions: self.decisions,
+            running: false,
             overrun: either(self.overrun, over),
             late: self.late,
         }
