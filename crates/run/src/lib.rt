@@ -176,7 +176,7 @@ impl Run {
         let position = self.position as usize;
         let t = self.clock;
         let from = position * levels;
-        let level = decision::level_given(limits, from, levels, t);
+        let level = decision::last_within(limits, from, levels, t);
         let late = !decision::within(limits, from + level, t);
         let left = decision::left_granted(limits, bounds, n, levels, position, level, t);
         Decided {
