@@ -1,19 +1,19 @@
 -- The row of refusals of the dry run, and what is known where none is given. Assumes nothing.
 use Prim.Native.Nat.{ℕ, zero, suc, _+_, _*_, _≤_, _<_}
 use mathlib.Core.Path.{_≡_, refl, sym, _∙_}
-use mathlib.Core.Bool.{Bool, true, false, _&&_, true≢false, false≢true}
+use mathlib.Core.Bool.{Bool, true, false, cond, _&&_, _||_, true≢false, false≢true}
 use mathlib.Core.List.{List}
 use mathlib.Core.Logic.{inl, inr, ⊎-elim}
 use native.Mathlib.Nat.{mul-le-mul}
 use native.Mathlib.Numerals.{add-one}
 use native.Mathlib.Omega.{arith}
 use lib.Bits.{bitOr, or-lt, or-add-and, and-le-l, and-le-r}
-use lib.Dec.{leb, lit<}
+use lib.Dec.{leb, ltb, eqb, lit<}
 use lib.ListN.{length, getD}
-use borrow.Author.Tests.{le-leb, lt-leb, leb-true, leb-false}
+use borrow.Author.Tests.{le-leb, lt-leb, ltb-true, leb-true, leb-false}
 use Rattle.rules.specs.Words.{all-pass}
-use Rattle.rules.specs.Refusals.{First, CountsOut, Tight}
-use Rattle.rules.specs.Run.{begun}
+use Rattle.rules.specs.Refusals.{first, First, CountsOut, Tight}
+use Rattle.rules.specs.Run.{begun, start-refusal}
 use Rattle.rules.specs.Dry.{dry-call}
 use Rattle.rules.proofs.Tests.{failed, and-true, not-both, all-pass-each}
 use Rattle.rules.proofs.Refusals.{None, first-none}
@@ -43,6 +43,18 @@ counts {n} {L} out =
 
 pub counts-in : {n L : ℕ} → Counts n L → CountsOut n L → ⊥
 counts-in c = ⊎-elim (λ h. omega arith) (⊎-elim (λ h. omega arith) (⊎-elim (λ h. omega arith) (λ h. omega arith)))
+
+-- as the run judges them
+pub unfit-counts-out : (n L : ℕ) → false ≡ eqb (start-refusal n L) 0 → CountsOut n L
+unfolding start-refusal first
+unfit-counts-out n L e = by (ltb n 1) (ltb 64 n) (ltb L 1) (ltb 8 L) refl refl refl refl e
+  where
+    by : (a b c d : Bool) → ltb n 1 ≡ a → ltb 64 n ≡ b → ltb L 1 ≡ c → ltb 8 L ≡ d → false ≡ eqb (cond (a || b || c || d) 3 0) 0 → CountsOut n L
+    by true b c d p q r s e = inl (ltb-true n 1 p)
+    by false true c d p q r s e = inr (inl (ltb-true 64 n q))
+    by false false true d p q r s e = inr (inr (inl (ltb-true L 1 r)))
+    by false false false true p q r s e = inr (inr (inr (ltb-true 8 L s)))
+    by false false false false p q r s e = absurd (false≢true e)
 
 pub few-cells : {n L : ℕ} → Counts n L → n * L ≤ 512
 few-cells c = mul-le-mul (c .few) (c .few-levels)

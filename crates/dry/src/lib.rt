@@ -4,7 +4,7 @@ ghost use Prim.Native.Nat.{_+_, _≤_, _<_};
 ghost use lib.Dec.{leb};
 ghost use lib.ListN.{length, getD};
 ghost use Rattle.rules.specs.Words.{all-pass};
-ghost use Rattle.rules.specs.Refusals.{First, CountsOut, Tight};
+ghost use Rattle.rules.specs.Refusals.{First, Tight};
 ghost use Rattle.rules.specs.Run.{ended};
 ghost use Rattle.rules.specs.Dry.{cell, dry-call};
 ghost use Rattle.run.specs.Calls.{run-of};
@@ -122,25 +122,6 @@ fn all_short(durations: &[u32], cells: usize) -> bool
     all <= rules::LONGEST_TIME
 }
 
-// Whether n or L is outside its range.
-fn counts_out(n: usize, levels: usize) -> bool
-    ensures { λ r. ⌜ Says r (CountsOut n levels) ⌝ }
-{
-    if n < 1 {
-        return true;
-    }
-    if rules::MOST_ACTIONS < n {
-        return true;
-    }
-    if levels < 1 {
-        return true;
-    }
-    if rules::MOST_LEVELS < levels {
-        return true;
-    }
-    false
-}
-
 // Whether a slice is shorter than needed, by their lengths.
 fn tight(
     n: usize,
@@ -190,7 +171,7 @@ fn dry_refusal(
     ensures { λ r. ⌜ First (dry-call n levels (now (durations .entry))
         (rooms n levels (tables (now (limits .entry)) (now (worst .entry)) (now (bounds .entry)) (now (durations .entry))) given marks)) r ⌝ }
 {
-    if counts_out(n, levels) {
+    if !run::counts_fit(n, levels) {
         return 3;
     }
     let cells = n * levels;

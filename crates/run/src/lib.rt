@@ -2,6 +2,7 @@
 ghost use mathlib.Core.Path.{_≡_};
 ghost use mathlib.Core.Bool.{not, cond, _||_};
 ghost use Prim.Native.Nat.{_+_, _*_, _<_, _≤_};
+ghost use lib.Dec.{eqb};
 ghost use Rattle.rules.specs.Words.{one-if};
 ghost use Rattle.rules.specs.Run.{in-range, begun, coast, decide, ended, fits, lent, start-refusal, start, ask-refusal, ask, report-refusal, report};
 ghost use Rattle.run.specs.Calls.{run-of, answer-of, next-of, start-of, Open};
@@ -95,22 +96,23 @@ pub fn begun(n: u32, levels: u32) -> Run
     }
 }
 
-fn start_refusal(n: u32, levels: u32) -> u32
-    ensures { λ r. ⌜ r ≡ start-refusal n levels ⌝ }
+// Whether n and L are in their ranges.
+pub fn counts_fit(n: usize, levels: usize) -> bool
+    ensures { λ r. ⌜ r ≡ eqb (start-refusal n levels) 0 ⌝ }
 {
     if n < 1 {
-        return 3;
+        return false;
     }
-    if rules::MOST_ACTIONS < n as usize {
-        return 3;
+    if rules::MOST_ACTIONS < n {
+        return false;
     }
     if levels < 1 {
-        return 3;
+        return false;
     }
-    if rules::MOST_LEVELS < levels as usize {
-        return 3;
+    if rules::MOST_LEVELS < levels {
+        return false;
     }
-    0
+    true
 }
 
 impl Run {
@@ -118,11 +120,10 @@ impl Run {
     pub fn start(n: u32, levels: u32) -> Started
         ensures { λ r. ⌜ start-of r ≡ start n levels ⌝ }
     {
-        let refusal = start_refusal(n, levels);
-        if refusal != 0 {
+        if !counts_fit(n as usize, levels as usize) {
             return Started {
                 run: begun(0, 0),
-                refusal: refusal,
+                refusal: 3,
             };
         }
         Started {
@@ -139,7 +140,7 @@ impl Run {
         let levels = self.levels;
         let position = self.position;
         let left = self.left;
-        if start_refusal(n, levels) != 0 {
+        if !counts_fit(n as usize, levels as usize) {
             return false;
         }
         if n < position {
@@ -236,6 +237,24 @@ impl Run {
         }
     }
 
+    // The record as it was, field by field, so that a refusal stores what every other answer stores, and nothing behind the last field.
+    fn kept(self) -> Run
+        ensures { λ r. ⌜ run-of r ≡ run-of self ⌝ }
+    {
+        Run {
+            n: self.n,
+            levels: self.levels,
+            position: self.position,
+            clock: self.clock,
+            level: self.level,
+            left: self.left,
+            decisions: self.decisions,
+            running: self.running,
+            overrun: self.overrun,
+            late: self.late,
+        }
+    }
+
     // Fields out of range 11, room 17, an action runs 11, all done 10.
     fn ask_refusal(self, order: &[u8], limits: &[i32], bounds: &[i32]) -> u32
         ensures { λ r. ⌜ r ≡ ask-refusal (now (order .entry)) (now (limits .entry)) (now (bounds .entry)) (run-of self) ⌝ }
@@ -270,7 +289,7 @@ impl Run {
         let refusal = self.ask_refusal(order, limits, bounds);
         if refusal != 0 {
             return Asked {
-                run: self,
+                run: self.kept(),
                 answer: Answer::Refused(refusal),
             };
         }
@@ -329,7 +348,7 @@ impl Run {
         let refusal = self.report_refusal(clock, worst);
         if refusal != 0 {
             return Reported {
-                run: self,
+                run: self.kept(),
                 refusal: refusal,
             };
         }
