@@ -15,7 +15,7 @@ use Rattle.rules.specs.Words.{all-pass}
 use Rattle.rules.specs.Refusals.{first, First, CountsOut, Tight}
 use Rattle.rules.specs.Run.{begun, start-refusal}
 use Rattle.rules.specs.Dry.{dry-call}
-use Rattle.rules.proofs.Tests.{failed, and-true, not-both, all-pass-each}
+use Rattle.rules.proofs.Tests.{all-pass-each}
 use Rattle.rules.proofs.Refusals.{None, first-none}
 use Rattle.rules.proofs.Calls.{facts-in-range, begun-in-range}
 use Rattle.run.proofs.Ranges.{Counts}
