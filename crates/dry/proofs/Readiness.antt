@@ -3,10 +3,9 @@ use Prim.Native.Nat.{ℕ, _+_, _-_, _*_, _≤_, _<_}
 use mathlib.Core.Path.{_≡_, refl, sym, ap, _∙_}
 use mathlib.Core.Bool.{Bool, true, false, cond}
 use mathlib.Core.List.{List}
-use mathlib.Core.Logic.{_≢_}
 use native.Mathlib.Nat.{mul-le-mul}
 use native.Mathlib.Omega.{arith}
-use lib.ListN.{length}
+use lib.ListN.{length, set, length-set}
 use borrow.Author.Tests.{eq-eqb, ne-eqb}
 use Rattle.rules.specs.Words.{one-if}
 use Rattle.rules.specs.Run.{Run, in-range, decide, coast, decides, given, ended, lent}
@@ -16,8 +15,8 @@ use Rattle.rules.proofs.Demand.Record.{Same, given-same, given-decided, given-c
 use Rattle.fields.proofs.Strides.{cell-fits}
 use Rattle.run.specs.Calls.{Open}
 use Rattle.dry.specs.Dry.{Tables}
-use Rattle.dry.specs.Cycle.{Ready, Running}
-use Rattle.dry.proofs.Onward.{plan, stepped, Stepped, n-stays, levels-stay}
+use Rattle.dry.specs.Cycle.{Ready, Running, Rest}
+use Rattle.dry.proofs.Onward.{plan, stepped, Stepped, n-stays, levels-stay, step-less, rest-more}
 
 -- ---- the running action
 
@@ -132,10 +131,52 @@ module _ {T : Tables} {p q : ℕ} {r : Run} (ready : Ready T p q r) (more : r .p
     decided-mark = ap one-if (sym (eq-eqb (r .left) 0 none))
 
   -- and else a coast
-  module _ (some : r .left ≢ 0) where
+  module _ (some : 0 < r .left) where
     pub coasted-given : (asked : Run) → asked ≡ coast r → asked ≡ given 16 (plan T r) r
     coasted-given asked e = e ∙ sym (given-coasted 16 (plan T r) r (r .left - 1) (omega arith))
 
     pub coasted-mark : 0 ≡ one-if (decides r)
     unfolding decides
-    coasted-mark = ap one-if (sym (ne-eqb (r .left) 0 some))
+    coasted-mark = ap one-if (sym (ne-eqb (r .left) 0 (λ e. omega arith)))
+
+-- where something is left to coast, an action remains
+pub more-left : {T : Tables} {p q : ℕ} {r : Run} → Ready T p q r → 0 < r .left → r .position < r .n
+more-left {r = r} ready some = omega (arith, in-range-facts r (ready .ranged))
+
+-- ---- several actions on
+
+-- From r₀ on up to r: all that the rest needs, and what the rest from r on gives is what the rest from r₀ on gives.
+pub record Going (T : Tables) (given₀ marks₀ : List ℕ) (r₀ : Run) (given marks : List ℕ) (r : Run) : Type 0 where
+  pub ready : Ready T (length given) (length marks) r
+  pub same-given : length given ≡ length given₀
+  pub same-marks : length marks ≡ length marks₀
+  pub fewer : r .n - r .position ≤ r₀ .n - r₀ .position
+  pub rest : {given′ marks′ : List ℕ} {last : Run} → Rest T given given′ marks marks′ r last → Rest T given₀ given′ marks₀ marks′ r₀ last
+
+pub going-none : {T : Tables} {given marks : List ℕ} {r : Run} → Ready T (length given) (length marks) r → Going T given marks r given marks r
+going-none ready = record { ready = ready; same-given = refl; same-marks = refl; fewer = omega arith; rest = λ rest. rest }
+
+-- One action more: fewer remain than at r.
+pub record Gone (T : Tables) (given₀ marks₀ : List ℕ) (r₀ r : Run) (given marks : List ℕ) (next : Run) : Type 0 where
+  pub going : Going T given₀ marks₀ r₀ given marks next
+  pub less : next .n - next .position < r .n - r .position
+
+pub gone : {T : Tables} {given₀ marks₀ levels marks : List ℕ} {r₀ r : Run} → Going T given₀ marks₀ r₀ levels marks r → r .position < r .n
+    → (asked : Run) → asked ≡ given 16 (plan T r) r → (next : Run)
+    → next ≡ ended (cell (T .worst) (asked .levels) (asked .position) (asked .level))
+    (asked .clock + cell (T .durations) (asked .levels) (asked .position) (asked .level)) asked
+    → (x m : ℕ) → x ≡ asked .level → m ≡ one-if (decides r)
+    → Gone T given₀ marks₀ r₀ r (set levels (r .position) x) (set marks (r .position) m) next
+gone {levels = levels} {marks = marks} going more asked is next ends x m level mark =
+    let ready = going .ready in
+    let done = one-stepped ready more asked is next ends x m level mark in
+    record {
+      going = record {
+        ready = ready-more ready more asked is next ends _ _ (simp length-set) (simp length-set);
+        same-given = simp length-set (going .same-given);
+        same-marks = simp length-set (going .same-marks);
+        fewer = omega (arith, going .fewer, step-less done);
+        rest = λ rest. going .rest (rest-more levels _ marks _ done (ready .gives) (ready .marked) rest);
+      };
+      less = step-less done;
+    }

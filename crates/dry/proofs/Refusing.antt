@@ -1,20 +1,21 @@
 -- The row of refusals of the dry run, and what is known where none is given. Assumes nothing.
 use Prim.Native.Nat.{ℕ, zero, suc, _+_, _*_, _≤_, _<_}
 use mathlib.Core.Path.{_≡_, refl, sym, _∙_}
-use mathlib.Core.Bool.{Bool, true, false, _&&_, true≢false, false≢true}
+use mathlib.Core.Bool.{Bool, true, false, cond, _&&_, _||_, true≢false, false≢true}
 use mathlib.Core.List.{List}
 use mathlib.Core.Logic.{inl, inr, ⊎-elim}
 use native.Mathlib.Nat.{mul-le-mul}
 use native.Mathlib.Numerals.{add-one}
 use native.Mathlib.Omega.{arith}
-use lib.Dec.{leb, lit<}
+use lib.Bits.{bitOr, or-lt, or-add-and, and-le-l, and-le-r}
+use lib.Dec.{leb, ltb, eqb, lit<}
 use lib.ListN.{length, getD}
-use borrow.Author.Tests.{leb-true, leb-false}
+use borrow.Author.Tests.{le-leb, lt-leb, ltb-true, leb-true, leb-false}
 use Rattle.rules.specs.Words.{all-pass}
-use Rattle.rules.specs.Refusals.{First, CountsOut, Tight}
-use Rattle.rules.specs.Run.{begun}
+use Rattle.rules.specs.Refusals.{first, First, CountsOut, Tight}
+use Rattle.rules.specs.Run.{begun, start-refusal}
 use Rattle.rules.specs.Dry.{dry-call}
-use Rattle.rules.proofs.Tests.{failed, and-true, not-both, all-pass-each}
+use Rattle.rules.proofs.Tests.{all-pass-each}
 use Rattle.rules.proofs.Refusals.{None, first-none}
 use Rattle.rules.proofs.Calls.{facts-in-range, begun-in-range}
 use Rattle.run.proofs.Ranges.{Counts}
@@ -42,6 +43,18 @@ counts {n} {L} out =
 
 pub counts-in : {n L : ℕ} → Counts n L → CountsOut n L → ⊥
 counts-in c = ⊎-elim (λ h. omega arith) (⊎-elim (λ h. omega arith) (⊎-elim (λ h. omega arith) (λ h. omega arith)))
+
+-- as the run judges them
+pub unfit-counts-out : (n L : ℕ) → false ≡ eqb (start-refusal n L) 0 → CountsOut n L
+unfolding start-refusal first
+unfit-counts-out n L e = by (ltb n 1) (ltb 64 n) (ltb L 1) (ltb 8 L) refl refl refl refl e
+  where
+    by : (a b c d : Bool) → ltb n 1 ≡ a → ltb 64 n ≡ b → ltb L 1 ≡ c → ltb 8 L ≡ d → false ≡ eqb (cond (a || b || c || d) 3 0) 0 → CountsOut n L
+    by true b c d p q r s e = inl (ltb-true n 1 p)
+    by false true c d p q r s e = inr (inl (ltb-true 64 n q))
+    by false false true d p q r s e = inr (inr (inl (ltb-true L 1 r)))
+    by false false false true p q r s e = inr (inr (inr (ltb-true 8 L s)))
+    by false false false false p q r s e = absurd (false≢true e)
 
 pub few-cells : {n L : ℕ} → Counts n L → n * L ≤ 512
 few-cells c = mul-le-mul (c .few) (c .few-levels)
@@ -80,14 +93,22 @@ module _ (n cells limits worst bounds durations given marks : ℕ) where
 abbrev pub short : List ℕ → ℕ → Bool
 short durations k = leb (getD durations k 0) 16777215
 
+-- two numbers are short where the bits of both together are
+or-short : (a b : ℕ) → leb a 16777215 && leb b 16777215 ≡ leb (bitOr a b) 16777215
+or-short a b = by (leb a 16777215) (leb b 16777215) refl refl
+  where
+    by : (p q : Bool) → leb a 16777215 ≡ p → leb b 16777215 ≡ q → p && q ≡ leb (bitOr a b) 16777215
+    by true true h k = sym (le-leb (bitOr a b) 16777215 (omega (arith, or-lt 24 a b (omega (arith, leb-true a 16777215 h)) (omega (arith, leb-true b 16777215 k)))))
+    by true false h k = sym (lt-leb (bitOr a b) 16777215 (omega (arith, or-add-and a b, and-le-l a b, leb-false b 16777215 k)))
+    by false q h k = sym (lt-leb (bitOr a b) 16777215 (omega (arith, or-add-and a b, and-le-r a b, leb-false a 16777215 h)))
+
+-- the bits of the first k entries together, and of one more
+pub all-short-more : (durations : List ℕ) (k all : ℕ) → all-pass (short durations) k ≡ leb all 16777215
+    → all-pass (short durations) (k + 1) ≡ leb (bitOr all (getD durations k 0)) 16777215
+unfolding all-pass
+all-short-more durations k all h = rw (add-one, h) (or-short all (getD durations k 0))
+
 module _ (test : ℕ → Bool) where
-  pub all-pass-more : (k : ℕ) → all-pass test k ≡ true → test k ≡ true → all-pass test (k + 1) ≡ true
-  unfolding all-pass
-  all-pass-more k h t = rw add-one (and-true (all-pass test k) (test k) .1 (h, t))
-
-  pub all-pass-not : (m k : ℕ) → k < m → test k ≡ false → false ≡ all-pass test m
-  all-pass-not m k l f = sym (failed (all-pass test m) (λ h. not-both (all-pass-each test m h k l) f))
-
   one-fails : (m : ℕ) → all-pass test m ≡ false → (k : ℕ) × (k < m) × (test k ≡ false)
   unfolding all-pass
   one-fails zero h = absurd (true≢false h)

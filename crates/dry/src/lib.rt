@@ -4,7 +4,7 @@ ghost use Prim.Native.Nat.{_+_, _≤_, _<_};
 ghost use lib.Dec.{leb};
 ghost use lib.ListN.{length, getD};
 ghost use Rattle.rules.specs.Words.{all-pass};
-ghost use Rattle.rules.specs.Refusals.{First, CountsOut, Tight};
+ghost use Rattle.rules.specs.Refusals.{First, Tight};
 ghost use Rattle.rules.specs.Run.{ended};
 ghost use Rattle.rules.specs.Dry.{cell, dry-call};
 ghost use Rattle.run.specs.Calls.{run-of};
@@ -32,7 +32,7 @@ fn passed(run: Run, worst: &[u32], durations: &[u32]) -> Run
     run.ended(worst[at], run.clock + durations[at])
 }
 
-// A decision for the action at the record's position, which leads into a coast.
+// Decisions, each for the action at the position reached, up to one that leaves something to coast or no action. It leads into a coast.
 fn decide(
     limits: &[i32],
     worst: &[u32],
@@ -47,12 +47,20 @@ fn decide(
     ensures { λ r. ⌜ Rest (tables (now (limits .entry)) (now (worst .entry)) (now (bounds .entry)) (now (durations .entry)))
         (now (given .entry)) (now (given .exit)) (now (marks .entry)) (now (marks .exit)) (run-of run) (run-of r) ⌝ }
 {
-    let at = run.position as usize;
-    let made = run.decided(limits, bounds);
-    let asked = made.run;
-    given[at] = asked.level as u8;
-    marks[at] = 1;
-    let next = passed(asked, worst, durations);
+    let mut next = run;
+    loop {
+        let at = next.position as usize;
+        let asked = next.decided(limits, bounds).run;
+        given[at] = asked.level as u8;
+        marks[at] = 1;
+        next = passed(asked, worst, durations);
+        if 0 < next.left {
+            break;
+        }
+        if next.position == next.n {
+            break;
+        }
+    }
     coast(
         limits,
         worst,
@@ -78,23 +86,15 @@ fn coast(
     ensures { λ r. ⌜ Rest (tables (now (limits .entry)) (now (worst .entry)) (now (bounds .entry)) (now (durations .entry)))
         (now (given .entry)) (now (given .exit)) (now (marks .entry)) (now (marks .exit)) (run-of run) (run-of r) ⌝ }
 {
-    if run.position < run.n {
-        if run.left == 0 {
-            return decide(
-                limits,
-                worst,
-                bounds,
-                durations,
-                &mut *given,
-                &mut *marks,
-                run,
-            );
-        }
-        let at = run.position as usize;
-        given[at] = run.level as u8;
+    let mut next = run;
+    while 0 < next.left {
+        let at = next.position as usize;
+        given[at] = next.level as u8;
         marks[at] = 0;
-        let next = passed(run.coasted(), worst, durations);
-        coast(
+        next = passed(next.coasted(), worst, durations);
+    }
+    if next.position < next.n {
+        return decide(
             limits,
             worst,
             bounds,
@@ -102,44 +102,24 @@ fn coast(
             &mut *given,
             &mut *marks,
             next,
-        )
-    } else {
-        run
+        );
     }
+    next
 }
 
-// Whether each of the first `cells` durations is at most 16,777,215, used or not.
+// Whether each of the first `cells` durations is at most 16,777,215, used or not: whether their bits together are, so that no test stands in
+// the loop.
 fn all_short(durations: &[u32], cells: usize) -> bool
     requires { ⌜ cells ≤ length (now durations) ⌝ }
     ensures { λ r. ⌜ r ≡ all-pass (λ k. leb (getD (now (durations .entry)) k 0) 16777215) cells ⌝ }
 {
+    let mut all = 0;
     let mut k = 0;
     while k < cells {
-        if rules::LONGEST_TIME < durations[k] {
-            return false;
-        }
+        all = all | durations[k];
         k += 1;
     }
-    true
-}
-
-// Whether n or L is outside its range.
-fn counts_out(n: usize, levels: usize) -> bool
-    ensures { λ r. ⌜ Says r (CountsOut n levels) ⌝ }
-{
-    if n < 1 {
-        return true;
-    }
-    if rules::MOST_ACTIONS < n {
-        return true;
-    }
-    if levels < 1 {
-        return true;
-    }
-    if rules::MOST_LEVELS < levels {
-        return true;
-    }
-    false
+    all <= rules::LONGEST_TIME
 }
 
 // Whether a slice is shorter than needed, by their lengths.
@@ -191,7 +171,7 @@ fn dry_refusal(
     ensures { λ r. ⌜ First (dry-call n levels (now (durations .entry))
         (rooms n levels (tables (now (limits .entry)) (now (worst .entry)) (now (bounds .entry)) (now (durations .entry))) given marks)) r ⌝ }
 {
-    if counts_out(n, levels) {
+    if !run::counts_fit(n, levels) {
         return 3;
     }
     let cells = n * levels;

@@ -1,9 +1,9 @@
 -- Counts and fields in their ranges, as the calls judge them. Assumes nothing.
 use Prim.Native.Nat.{ℕ, _≤_}
-use mathlib.Core.Path.{_≡_, refl, sym}
-use mathlib.Core.Bool.{Bool, true, false, cond, _||_}
-use lib.Dec.{ltb, lit<}
-use borrow.Author.Tests.{le-ltb, ltb-false}
+use mathlib.Core.Path.{_≡_, refl, sym, ap, _∙_}
+use mathlib.Core.Bool.{Bool, true, false, cond, _||_, false≢true}
+use lib.Dec.{ltb, eqb, lit<}
+use borrow.Author.Tests.{le-ltb, ltb-false, eqb-true}
 use Rattle.rules.specs.Refusals.{first}
 use Rattle.rules.specs.Run.{Run, in-range, start-refusal}
 use Rattle.rules.proofs.Tests.{failed}
@@ -26,7 +26,7 @@ counts n L h =
     let s = neither (ltb n 1) (ltb 64 n) (q .0) in
     record { some-action = ltb-false n 1 (s .0); few = ltb-false 64 n (s .1); some-level = ltb-false L 1 (q .1); few-levels = ltb-false 8 L (p .1) }
 
-pub counts-in : (n L : ℕ) → Counts n L → 0 ≡ start-refusal n L
+counts-in : (n L : ℕ) → Counts n L → 0 ≡ start-refusal n L
 unfolding start-refusal first
 counts-in n L c = rw (le-ltb n 1 (c .some-action), le-ltb 64 n (c .few), le-ltb L 1 (c .some-level), le-ltb 8 L (c .few-levels))
 
@@ -37,6 +37,19 @@ counts-out n L out = go (ltb n 1 || ltb 64 n || ltb L 1 || ltb 8 L) (λ e. out (
     go : (b : Bool) → (_≡_ {A = ℕ} (cond b 3 0) 0 → ⊥) → _≡_ {A = ℕ} 3 (cond b 3 0)
     go true h = refl
     go false h = absurd (h refl)
+
+-- whether they are
+pub counts-fit : (n L : ℕ) → Counts n L → true ≡ eqb (start-refusal n L) 0
+counts-fit n L c = ap (λ (k : ℕ). eqb k 0) (counts-in n L c)
+
+pub counts-unfit : (n L : ℕ) → (Counts n L → ⊥) → false ≡ eqb (start-refusal n L) 0
+counts-unfit n L out = ap (λ (k : ℕ). eqb k 0) (counts-out n L out)
+
+pub fit-counts : (n L : ℕ) → true ≡ eqb (start-refusal n L) 0 → Counts n L
+fit-counts n L e = counts n L (eqb-true _ _ (sym e))
+
+pub unfit-counts : (n L : ℕ) → false ≡ eqb (start-refusal n L) 0 → Counts n L → ⊥
+unfit-counts n L e c = false≢true (e ∙ sym (counts-fit n L c))
 
 -- ---- the record
 

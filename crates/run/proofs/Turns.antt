@@ -1,5 +1,5 @@
 -- What a record that may be asked gives, and what the steps of a decision and of an end make of it. Assumes nothing.
-use Prim.Native.Nat.{ℕ, _+_, _*_, _≤_, _<_}
+use Prim.Native.Nat.{ℕ, suc, _+_, _*_, _≤_, _<_}
 use mathlib.Core.Path.{_≡_, sym, ap, _∙_}
 use mathlib.Core.Bool.{Bool, true, false, not, _||_}
 use mathlib.Core.List.{List}
@@ -16,7 +16,7 @@ use Rattle.rules.specs.Limits.{Plan}
 use Rattle.rules.specs.Run.{Run, level-given, fits, left-granted, lent, decide, coast, decides, given, ended}
 use Rattle.rules.specs.Run.{ask-refusal, ask, report-refusal, report}
 use Rattle.rules.specs.Run.Answer.{refused, gives}
-use Rattle.rules.proofs.Tests.{last-is}
+use Rattle.rules.proofs.Tests.{failed, last-is}
 use Rattle.rules.proofs.Calls.{InRange, in-range-facts}
 use Rattle.run.specs.Calls.{Open}
 use Rattle.run.proofs.Rows.{into, past}
@@ -43,6 +43,10 @@ module _ {limits bounds : List ℤ} {r : Run} (o : Open limits bounds r) where
 
   pub level-low : (level : ℕ) (test : ℕ → Bool) → level ≡ last-passing test (r .levels) → level < r .levels
   level-low level test e = omega (arith, last-is test (r .levels) .below (opened .ranges .some-level))
+
+-- no level above the one given fits
+pub none-above : (levels level : ℕ) (test : ℕ → Bool) → level ≡ last-passing test levels → suc level < levels → test (suc level) ≡ false
+none-above levels level test e below = failed (test (suc level)) (last-is test levels .none-above (suc level) (omega (arith, e)) below)
 
 module _ (limits bounds : List ℤ) (r : Run) where
   pub decided-is : (level left : ℕ) (fit late : Bool)

@@ -1,8 +1,7 @@
 // What a decision reads of the lent tables, whoever wrote them: the level given and the coast granted.
 ghost use mathlib.Core.Path.{_≡_};
-ghost use mathlib.Core.Bool.{not, _&&_};
+ghost use mathlib.Core.Bool.{false};
 ghost use Prim.Native.Nat.{suc, _+_, _*_, _<_, _≤_, min};
-ghost use lib.Dec.{leb};
 ghost use lib.IntN.{pos};
 ghost use lib.ListN.{length, getD};
 ghost use lib.Signed.{leZ};
@@ -18,30 +17,19 @@ pub fn within(table: &[i32], at: usize, t: u32) -> bool
     (t as i64) <= (table[at] as i64)
 }
 
-// The greatest level that fits of the row of limits that starts at `from`; if there is none, 0.
-pub fn level_given(limits: &[i32], from: usize, levels: usize, t: u32) -> usize
-    requires { ⌜ from + levels ≤ length (now limits) ⌝ }
-    ensures { λ r. ⌜ r ≡ last-passing (λ q. leZ (pos t) (getD (now (limits .entry)) (from + q) (pos 0))) levels ⌝ }
+// The last of the `many` entries from `from` on that t is at most; if there is none, 0. So of a position's limits the greatest level that fits.
+pub fn last_within(table: &[i32], from: usize, many: usize, t: u32) -> usize
+    requires { ⌜ from + many ≤ length (now table) ⌝ }
+    ensures { λ r. ⌜ r ≡ last-passing (λ k. leZ (pos t) (getD (now (table .entry)) (from + k) (pos 0))) many ⌝ }
 {
-    let mut q = levels;
-    while 0 < q {
-        q -= 1;
-        if within(limits, from + q, t) {
-            return q;
+    let mut k = many;
+    while 0 < k {
+        k -= 1;
+        if within(table, from + k, t) {
+            return k;
         }
     }
     0
-}
-
-// Whether the level above fits at a position, so that a coast at this level may not go on over it.
-fn rises(limits: &[i32], levels: usize, position: usize, level: usize, t: u32) -> bool
-    requires { ⌜ (level < levels) × (position * levels + levels ≤ length (now limits)) ⌝ }
-    ensures { λ r. ⌜ r ≡ not (leb levels (suc level)) && leZ (pos t) (getD (now (limits .entry)) (position * levels + suc level) (pos 0)) ⌝ }
-{
-    if level + 1 < levels {
-        return within(limits, position * levels + (level + 1), t);
-    }
-    false
 }
 
 // The lesser of what is left of the cycle and the longest coast.
@@ -55,8 +43,9 @@ fn most(rest: usize) -> usize
     }
 }
 
-// What a decision at a position, level and time leaves to coast: one less than the greatest r that qualifies. Once the level above fits at a
-// position, no longer coast qualifies. The bounds are anyone's, so that a longer one may qualify where a shorter one does not.
+// What a decision at a position and time for the level given leaves to coast: one less than the greatest r that qualifies. At the top level that
+// is the last bound that t is at most. Below it, once the level above fits at a position, no longer coast qualifies; here it does not fit. The
+// bounds are anyone's, so that a longer coast may qualify where a shorter one does not.
 pub fn left_granted(
     limits: &[i32],
     bounds: &[i32],
@@ -67,14 +56,19 @@ pub fn left_granted(
     t: u32,
 ) -> u32
     requires { ⌜ Cell n levels position level (length (now limits)) (length (now bounds)) ⌝ }
+    requires { ⌜ (suc level < levels → leZ (pos t) (getD (now limits) (position * levels + suc level) (pos 0)) ≡ false) ⌝ }
     ensures { λ r. ⌜ r ≡ left-granted 16 (lent n levels (now (limits .entry)) (now (bounds .entry))) t position level ⌝ }
 {
     let end = most(n - position);
     let from = (position * levels + level) * rules::LONGEST_COAST;
+    let above = level + 1;
+    if above == levels {
+        return last_within(bounds, from, end, t) as u32;
+    }
     let mut left = 0;
-    let mut x = 0;
+    let mut x = 1;
     while x < end {
-        if rises(limits, levels, position + x, level, t) {
+        if within(limits, (position + x) * levels + above, t) {
             return left;
         }
         if within(bounds, from + x, t) {

@@ -2,23 +2,24 @@
 ghost use mathlib.Core.Path.{_≡_};
 ghost use mathlib.Core.Bool.{not, cond, _||_};
 ghost use Prim.Native.Nat.{_+_, _*_, _<_, _≤_};
+ghost use lib.Dec.{eqb};
 ghost use Rattle.rules.specs.Words.{one-if};
 ghost use Rattle.rules.specs.Run.{in-range, begun, coast, decide, ended, fits, lent, start-refusal, start, ask-refusal, ask, report-refusal, report};
 ghost use Rattle.run.specs.Calls.{run-of, answer-of, next-of, start-of, Open};
 
 pub mod decision;
 
-// The fields and their ranges are `in-range` of the rules.
+// The fields and their ranges are `in-range` of the rules. The three marks stand last, so that there is no gap between fields.
 #[repr(C)]
 pub struct Run {
     pub n: u32,
     pub levels: u32,
     pub position: u32,
     pub clock: u32,
-    pub running: bool,
     pub level: u32,
     pub left: u32,
     pub decisions: u32,
+    pub running: bool,
     pub overrun: bool,
     pub late: bool,
 }
@@ -86,31 +87,32 @@ pub fn begun(n: u32, levels: u32) -> Run
         levels: levels,
         position: 0,
         clock: 0,
-        running: false,
         level: 0,
         left: 0,
         decisions: 0,
+        running: false,
         overrun: false,
         late: false,
     }
 }
 
-fn start_refusal(n: u32, levels: u32) -> u32
-    ensures { λ r. ⌜ r ≡ start-refusal n levels ⌝ }
+// Whether n and L are in their ranges.
+pub fn counts_fit(n: usize, levels: usize) -> bool
+    ensures { λ r. ⌜ r ≡ eqb (start-refusal n levels) 0 ⌝ }
 {
     if n < 1 {
-        return 3;
+        return false;
     }
-    if rules::MOST_ACTIONS < n as usize {
-        return 3;
+    if rules::MOST_ACTIONS < n {
+        return false;
     }
     if levels < 1 {
-        return 3;
+        return false;
     }
-    if rules::MOST_LEVELS < levels as usize {
-        return 3;
+    if rules::MOST_LEVELS < levels {
+        return false;
     }
-    0
+    true
 }
 
 impl Run {
@@ -118,11 +120,10 @@ impl Run {
     pub fn start(n: u32, levels: u32) -> Started
         ensures { λ r. ⌜ start-of r ≡ start n levels ⌝ }
     {
-        let refusal = start_refusal(n, levels);
-        if refusal != 0 {
+        if !counts_fit(n as usize, levels as usize) {
             return Started {
                 run: begun(0, 0),
-                refusal: refusal,
+                refusal: 3,
             };
         }
         Started {
@@ -139,7 +140,7 @@ impl Run {
         let levels = self.levels;
         let position = self.position;
         let left = self.left;
-        if start_refusal(n, levels) != 0 {
+        if !counts_fit(n as usize, levels as usize) {
             return false;
         }
         if n < position {
@@ -176,7 +177,7 @@ impl Run {
         let position = self.position as usize;
         let t = self.clock;
         let from = position * levels;
-        let level = decision::level_given(limits, from, levels, t);
+        let level = decision::last_within(limits, from, levels, t);
         let late = !decision::within(limits, from + level, t);
         let left = decision::left_granted(limits, bounds, n, levels, position, level, t);
         Decided {
@@ -185,10 +186,10 @@ impl Run {
                 levels: self.levels,
                 position: self.position,
                 clock: t,
-                running: true,
                 level: level as u32,
                 left: left,
                 decisions: self.decisions + 1,
+                running: true,
                 overrun: self.overrun,
                 late: either(self.late, late),
             },
@@ -206,10 +207,10 @@ impl Run {
             levels: self.levels,
             position: self.position,
             clock: self.clock,
-            running: true,
             level: self.level,
             left: self.left - 1,
             decisions: self.decisions,
+            running: true,
             overrun: self.overrun,
             late: self.late,
         }
@@ -227,11 +228,29 @@ impl Run {
             levels: self.levels,
             position: self.position + 1,
             clock: clock,
-            running: false,
             level: self.level,
             left: unless(over, self.left),
             decisions: self.decisions,
+            running: false,
             overrun: either(self.overrun, over),
+            late: self.late,
+        }
+    }
+
+    // The record as it was, field by field, so that a refusal stores what every other answer stores, and nothing behind the last field.
+    fn kept(self) -> Run
+        ensures { λ r. ⌜ run-of r ≡ run-of self ⌝ }
+    {
+        Run {
+            n: self.n,
+            levels: self.levels,
+            position: self.position,
+            clock: self.clock,
+            level: self.level,
+            left: self.left,
+            decisions: self.decisions,
+            running: self.running,
+            overrun: self.overrun,
             late: self.late,
         }
     }
@@ -270,7 +289,7 @@ impl Run {
         let refusal = self.ask_refusal(order, limits, bounds);
         if refusal != 0 {
             return Asked {
-                run: self,
+                run: self.kept(),
                 answer: Answer::Refused(refusal),
             };
         }
@@ -329,7 +348,7 @@ impl Run {
         let refusal = self.report_refusal(clock, worst);
         if refusal != 0 {
             return Reported {
-                run: self,
+                run: self.kept(),
                 refusal: refusal,
             };
         }

@@ -3,34 +3,36 @@ use mathlib.Core.Path.{refl, sym, _∙_}
 use mathlib.Core.Logic.{inl, inr}
 use native.Mathlib.Omega.{arith}
 use borrow.Author.Needs.{needs}
-use Rattle.rules.specs.Refusals.{CountsOut, Tight}
+use borrow.Author.Tests.{not-true, not-false}
+use Rattle.rules.specs.Refusals.{Tight}
+use Rattle.run.proofs.Ranges.{Counts, fit-counts}
 use Rattle.dry.specs.Dry.{tables, rooms}
-use Rattle.dry.proofs.Refusing.{yes-said, no-said, counts, few-cells, room, one-long, none-long}
+use Rattle.dry.proofs.Refusing.{yes-said, no-said, counts-in, unfit-counts-out, few-cells, room, one-long, none-long}
 use Rattle.dry.proofs.dry_refusal.Statement.{statement}
 use Rattle.dry.proofs.dry_refusal.Tie as tie
 
 -- after the first test and after the second
-counted : (c : tie.Else1) → let a = c .before .before .before .before .args in CountsOut (a .n) (a .levels) → ⊥
-counted c = no-said _ (c .before .counts-out .ensures) (c .if1 .left)
+counted : (c : tie.Else1) → let a = c .before .before .before .before .args in Counts (a .n) (a .levels)
+counted c = fit-counts _ _ (sym (not-false _ (c .if1 .left)) ∙ c .before .counts-fit .ensures)
 
 roomy : (c : tie.Else2) → let a = c .before .before .before .before .before .before .args in
     Tight (rooms (a .n) (a .levels) (tables (a .limits .now) (a .worst .now) (a .bounds .now) (a .durations .now)) (a .given) (a .marks)) → ⊥
 roomy c = no-said _ (c .before .tight .ensures) (c .if2 .left)
 
-counts-out-requires : tie.Need-counts-out-requires
-counts-out-requires c κs = search needs
+counts-fit-requires : tie.Need-counts-fit-requires
+counts-fit-requires c κs = search needs
 
 returns : tie.Need-returns
-returns c = inl (yes-said _ (c .before .counts-out .ensures) (c .if1 .taken), refl)
+returns c = inl (unfit-counts-out _ _ (sym (not-true _ (c .if1 .taken)) ∙ c .before .counts-fit .ensures), refl)
 
 mul-cells : tie.Need-mul-cells
-mul-cells c = omega (arith, few-cells (counts (counted c)))
+mul-cells c = omega (arith, few-cells (counted c))
 
 tight-requires : tie.Need-tight-requires
-tight-requires c κs = omega (arith, few-cells (counts (counted c)))
+tight-requires c κs = omega (arith, few-cells (counted c))
 
 returns-2 : tie.Need-returns-2
-returns-2 c = inr (counted (c .before .before), inl (yes-said _ (c .before .tight .ensures) (c .if2 .taken), refl))
+returns-2 c = inr (counts-in (counted (c .before .before)), inl (yes-said _ (c .before .tight .ensures) (c .if2 .taken), refl))
 
 all-short-requires : tie.Need-all-short-requires
 all-short-requires c κs = room _ _ _ _ _ _ _ _ (roomy c) .lasting
@@ -39,7 +41,7 @@ returns-3 : tie.Need-returns-3
 returns-3 c =
     let a = c .before .before .before .before .before .before .before .before .args in
     inr (
-      counted (c .before .before .before .before),
+      counts-in (counted (c .before .before .before .before)),
       inr (roomy (c .before .before), inr (none-long _ (a .durations .now) (sym (c .before .all-short .ensures) ∙ c .if3 .taken), refl)),
     )
 
@@ -47,9 +49,9 @@ returns-4 : tie.Need-returns-4
 returns-4 c =
     let a = c .before .before .before .before .before .before .before .before .args in
     inr (
-      counted (c .before .before .before .before),
+      counts-in (counted (c .before .before .before .before)),
       inr (roomy (c .before .before), inl (one-long _ (a .durations .now) (sym (c .before .all-short .ensures) ∙ c .if3 .left), refl)),
     )
 
 pub dry-refusal-spec : {M : Type 1} → statement M
-dry-refusal-spec = tie.close (tie.spec counts-out-requires returns mul-cells tight-requires returns-2 all-short-requires returns-3 returns-4)
+dry-refusal-spec = tie.close (tie.spec counts-fit-requires returns mul-cells tight-requires returns-2 all-short-requires returns-3 returns-4)

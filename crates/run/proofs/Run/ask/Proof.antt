@@ -1,8 +1,9 @@
 -- Refused, decided or coasted. Assumes nothing.
-use mathlib.Core.Path.{_≡_, sym, _∙_}
+use mathlib.Core.Path.{_≡_, sym, ap, _∙_}
 use native.Mathlib.Omega.{arith}
 use borrow.Author.Needs.{needs}
 use Rattle.rules.specs.Run.{ask-refusal}
+use Rattle.rules.specs.Run.Answer.{refused}
 use Rattle.run.specs.Calls.{run-of}
 use Rattle.run.proofs.Refusing.{Askable, askable}
 use Rattle.run.proofs.Turns.{ask-refuses, ask-decides, ask-coasts}
@@ -21,8 +22,13 @@ ready c = askable _ _ _ _ (none c)
 ask-refusal-requires : tie.Need-ask-refusal-requires
 ask-refusal-requires c κs = search needs
 
+kept-requires : tie.Need-kept-requires
+kept-requires c κs = search needs
+
 returns : tie.Need-returns
-returns c = ask-refuses _ _ _ _ _ (c .before .ask-refusal .ensures) (c .if1 .taken)
+returns c =
+    let d = c .before .before in
+    ap (refused (d .ask-refusal .result)) (c .kept .ensures) ∙ ask-refuses _ _ _ _ _ (d .ask-refusal .ensures) (c .before .if1 .taken)
 
 cast-position : tie.Need-cast-position
 cast-position c = search needs
@@ -52,6 +58,7 @@ ask-spec =
     tie.close
     (tie.spec
     ask-refusal-requires
+    kept-requires
     returns
     cast-position
     shared-slice-read-action

@@ -2,7 +2,7 @@
 use native.Mathlib.Omega.{arith}
 use borrow.Author.Needs.{needs}
 use Rattle.run.specs.Calls.{run-of}
-use Rattle.run.proofs.Turns.{opened, level-low, decided-is}
+use Rattle.run.proofs.Turns.{opened, level-low, none-above, decided-is}
 use Rattle.run.proofs.Run.decided.Statement.{statement}
 use Rattle.run.proofs.Run.decided.Tie as tie
 
@@ -18,31 +18,34 @@ cast-position c = search needs
 mul-from : tie.Need-mul-from
 mul-from c = omega (arith, opened (c .before .before .before .pre))
 
-level-given-requires : tie.Need-level-given-requires
-level-given-requires c κs = omega (arith, opened (c .before .before .before .pre), c .before .before .before .pre)
+last-within-requires : tie.Need-last-within-requires
+last-within-requires c κs = omega (arith, opened (c .before .before .before .pre), c .before .before .before .pre)
 
 add-within : tie.Need-add-within
-add-within c = let o = c .before .before .before .before .pre in omega (arith, opened o, level-low o _ _ (c .level-given .ensures))
+add-within c = let o = c .before .before .before .before .pre in omega (arith, opened o, level-low o _ _ (c .last-within .ensures))
 
 within-requires : tie.Need-within-requires
-within-requires c κs = let o = c .before .before .before .before .pre in omega (arith, opened o, level-low o _ _ (c .level-given .ensures))
+within-requires c κs = let o = c .before .before .before .before .pre in omega (arith, opened o, level-low o _ _ (c .last-within .ensures))
 
 left-granted-requires : tie.Need-left-granted-requires
 left-granted-requires c κs =
     let o = c .before .before .before .before .before .pre in
-    record {
-      few = opened o .ranges .few;
-      few-levels = opened o .ranges .few-levels;
-      position = o .more;
-      level = level-low o _ _ (c .before .level-given .ensures);
-      limited = o .limited;
-      bounded = o .bounded;
-    }
+    let e = c .before .last-within .ensures in (
+      record {
+        few = opened o .ranges .few;
+        few-levels = opened o .ranges .few-levels;
+        position = o .more;
+        level = level-low o _ _ e;
+        limited = o .limited;
+        bounded = o .bounded;
+      },
+      none-above _ _ _ e,
+    )
 
 cast-t14 : tie.Need-cast-t14
 cast-t14 c =
     let o = c .before .before .before .before .before .before .pre in
-    omega (arith, opened o .ranges .few-levels, level-low o _ _ (c .before .before .level-given .ensures))
+    omega (arith, opened o .ranges .few-levels, level-low o _ _ (c .before .before .last-within .ensures))
 
 add-t15 : tie.Need-add-t15
 add-t15 c = let o = c .before .before .before .before .before .before .before .pre in omega (arith, opened o .counted, opened o .ranges)
@@ -53,7 +56,7 @@ either-requires c κs = search needs
 returns : tie.Need-returns
 returns c =
     let level = c .before .before .before .before in
-    decided-is _ _ (run-of (level .before .before .before .before .args .self)) _ _ _ _ (level .level-given .ensures)
+    decided-is _ _ (run-of (level .before .before .before .before .args .self)) _ _ _ _ (level .last-within .ensures)
     (c .before .before .before .within .ensures) (c .before .before .left-granted .ensures) (c .either .ensures)
 
 pub decided-spec : {M : Type 1} → statement M
@@ -64,7 +67,7 @@ decided-spec =
     cast-levels
     cast-position
     mul-from
-    level-given-requires
+    last-within-requires
     add-within
     within-requires
     left-granted-requires

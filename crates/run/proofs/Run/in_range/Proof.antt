@@ -2,25 +2,32 @@
 use mathlib.Core.Path.{sym, _∙_}
 use native.Mathlib.Omega.{arith}
 use borrow.Author.Needs.{needs}
+use borrow.Author.Tests.{not-true, not-false}
 use Rattle.rules.proofs.Calls.{facts-in-range}
-use Rattle.run.proofs.Ranges.{Counts, counts, counts-in, out-of-range}
+use Rattle.run.proofs.Ranges.{Counts, fit-counts, unfit-counts, out-of-range}
 use Rattle.run.proofs.Run.in_range.Statement.{statement}
 use Rattle.run.proofs.Run.in_range.Tie as tie
 
 -- after the first test
 counted : (c : tie.Else1) → let r = c .before .before .args .self in Counts (r .n) (r .levels)
-counted c = counts _ _ (sym (c .before .start-refusal .ensures) ∙ c .if1 .left)
+counted c = fit-counts _ _ (sym (not-false _ (c .if1 .left)) ∙ c .before .counts-fit .ensures)
 
-start-refusal-requires : tie.Need-start-refusal-requires
-start-refusal-requires c κs = search needs
+cast-counts-fit : tie.Need-cast-counts-fit
+cast-counts-fit c = search needs
+
+cast-counts-fit-2 : tie.Need-cast-counts-fit-2
+cast-counts-fit-2 c = search needs
+
+counts-fit-requires : tie.Need-counts-fit-requires
+counts-fit-requires c κs = search needs
 
 returns : tie.Need-returns
-returns c = out-of-range _ (λ f. c .if1 .taken (c .before .start-refusal .ensures ∙ sym (counts-in _ _ (record {
+returns c = out-of-range _ (λ f. unfit-counts _ _ (sym (not-true _ (c .if1 .taken)) ∙ c .before .counts-fit .ensures) (record {
   some-action = f .some-action;
   few = f .few;
   some-level = f .some-level;
   few-levels = f .few-levels;
-}))))
+}))
 
 returns-2 : tie.Need-returns-2
 returns-2 c = out-of-range _ (λ f. omega arith)
@@ -73,7 +80,9 @@ pub in-range-spec : {M : Type 1} → statement M
 in-range-spec =
     tie.close
     (tie.spec
-    start-refusal-requires
+    cast-counts-fit
+    cast-counts-fit-2
+    counts-fit-requires
     returns
     returns-2
     cast-if3

@@ -1,8 +1,8 @@
 -- Refused or ended. Assumes nothing.
-use mathlib.Core.Path.{_≡_, sym, _∙_}
+use mathlib.Core.Path.{_≡_, sym, ap, _∙_}
 use native.Mathlib.Omega.{arith}
 use borrow.Author.Needs.{needs}
-use Rattle.rules.specs.Run.{report-refusal}
+use Rattle.rules.specs.Run.{Run, report-refusal}
 use Rattle.run.specs.Calls.{run-of}
 use Rattle.run.proofs.Refusing.{Reportable, reportable}
 use Rattle.run.proofs.Turns.{report-refuses, report-ends}
@@ -19,8 +19,14 @@ ready c = reportable _ _ _ (none c)
 report-refusal-requires : tie.Need-report-refusal-requires
 report-refusal-requires c κs = search needs
 
+kept-requires : tie.Need-kept-requires
+kept-requires c κs = search needs
+
 returns : tie.Need-returns
-returns c = report-refuses _ _ _ _ (c .before .report-refusal .ensures) (c .if1 .taken)
+returns c =
+    let d = c .before .before in
+    ap (λ (s : Run). record { number = d .report-refusal .result; run = s }) (c .kept .ensures)
+    ∙ report-refuses _ _ _ _ (d .report-refusal .ensures) (c .before .if1 .taken)
 
 mul-at : tie.Need-mul-at
 mul-at c = omega (arith, ready (c .before))
@@ -48,6 +54,7 @@ report-spec =
     tie.close
     (tie.spec
     report-refusal-requires
+    kept-requires
     returns
     mul-at
     add-at

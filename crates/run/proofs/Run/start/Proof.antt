@@ -1,14 +1,15 @@
--- A start by its refusal. Assumes nothing.
+-- A start by the ranges of n and L. Assumes nothing.
 use mathlib.Core.Path.{sym, _∙_}
 use borrow.Author.Needs.{needs}
-use borrow.Author.Tests.{eq-eqb, ne-eqb}
+use borrow.Author.Tests.{not-true, not-false}
 use Rattle.rules.specs.Run.{start}
 use Rattle.run.proofs.Rows.{into, past}
+use Rattle.run.proofs.Ranges.{counts-out, unfit-counts}
 use Rattle.run.proofs.Run.start.Statement.{statement}
 use Rattle.run.proofs.Run.start.Tie as tie
 
-start-refusal-requires : tie.Need-start-refusal-requires
-start-refusal-requires c κs = search needs
+counts-fit-requires : tie.Need-counts-fit-requires
+counts-fit-requires c κs = search needs
 
 begun-requires : tie.Need-begun-requires
 begun-requires c κs = search needs
@@ -16,8 +17,8 @@ begun-requires c κs = search needs
 returns : tie.Need-returns
 unfolding start
 returns c =
-    let e = c .before .before .start-refusal .ensures in
-    past _ _ _ (ne-eqb _ _ (λ z. c .before .if1 .taken (e ∙ z))) (rw (e, c .begun .ensures))
+    let h = sym (c .before .before .counts-fit .ensures) ∙ not-true _ (c .before .if1 .taken) in
+    past _ _ _ h (rw (sym (counts-out _ _ (unfit-counts _ _ (sym h))), c .begun .ensures))
 
 begun-requires-2 : tie.Need-begun-requires-2
 begun-requires-2 c κs = search needs
@@ -25,8 +26,8 @@ begun-requires-2 c κs = search needs
 returns-2 : tie.Need-returns-2
 unfolding start
 returns-2 c =
-    let e = c .before .before .start-refusal .ensures in
-    into _ _ _ (eq-eqb _ _ (sym e ∙ c .before .if1 .left)) (rw (c .begun2 .ensures))
+    let h = sym (c .before .before .counts-fit .ensures) ∙ not-false _ (c .before .if1 .left) in
+    into _ _ _ h (rw (c .begun2 .ensures))
 
 pub start-spec : {M : Type 1} → statement M
-start-spec = tie.close (tie.spec start-refusal-requires begun-requires returns begun-requires-2 returns-2)
+start-spec = tie.close (tie.spec counts-fit-requires begun-requires returns begun-requires-2 returns-2)
