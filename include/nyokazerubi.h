@@ -195,33 +195,6 @@ struct nyokazerubi_given nyokazerubi_ask(
 /* The running action ended, by the clock since the cycle began. 11, 17, 11, 12, 13. */
 uint32_t nyokazerubi_report(struct nyokazerubi_run *run, uint32_t clock, const uint32_t *worst, size_t worst_length);
 
-/* The same by value: each takes the record and hands the next one back. */
-struct nyokazerubi_started {
-    struct nyokazerubi_run run;
-    uint32_t refusal;
-};
-
-struct nyokazerubi_asked {
-    struct nyokazerubi_run run;
-    struct nyokazerubi_given given;
-};
-
-struct nyokazerubi_reported {
-    struct nyokazerubi_run run;
-    uint32_t refusal;
-};
-
-struct nyokazerubi_started nyokazerubi_start_by_value(uint32_t n, uint32_t levels);
-
-struct nyokazerubi_asked nyokazerubi_ask_by_value(
-    struct nyokazerubi_run run,
-    const uint8_t *order, size_t order_length,
-    const int32_t *limits, size_t limits_length,
-    const int32_t *bounds, size_t bounds_length);
-
-struct nyokazerubi_reported nyokazerubi_report_by_value(
-    struct nyokazerubi_run run, uint32_t clock, const uint32_t *worst, size_t worst_length);
-
 /* ---- the dry run */
 
 /* with a refusal all else is 0 or false */

@@ -1,8 +1,6 @@
-// The run for a host that keeps the record: each call by value, and over the record where it is kept.
+// The run for a host: each call over the record where the host keeps it.
 use run::Answer;
-use run::Reported;
 use run::Run;
-use run::Started;
 ghost use mathlib.Core.Path.{_≡_};
 ghost use Rattle.rules.specs.Run.{start, ask, report};
 ghost use Rattle.rules.specs.Run as rules;
@@ -20,7 +18,6 @@ pub struct Given {
     pub late: bool,
 }
 
-#[repr(C)]
 pub struct Asked {
     pub run: Run,
     pub given: Given,
@@ -52,22 +49,8 @@ fn flat(answer: Answer) -> Given
     }
 }
 
-// ---- by value
-
-#[no_mangle]
-pub extern "C" fn nyokazerubi_start_by_value(n: u32, levels: u32) -> Started
-    ensures { λ r. ⌜ start-of r ≡ start n levels ⌝ }
-{
-    Run::start(n, levels)
-}
-
-#[no_mangle]
-pub extern "C" fn nyokazerubi_ask_by_value(
-    run: Run,
-    order: &[u8],
-    limits: &[i32],
-    bounds: &[i32],
-) -> Asked
+// Asking by value with its answer laid flat. It is not exported: a call within the archive would then stay a call.
+pub fn ask_flat(run: Run, order: &[u8], limits: &[i32], bounds: &[i32]) -> Asked
     ensures { λ r. ⌜ Asks (ask (now (order .entry)) (now (limits .entry)) (now (bounds .entry)) (run-of run)) (r .run) (r .given) ⌝ }
 {
     let asked = run.ask(order, limits, bounds);
@@ -77,13 +60,6 @@ pub extern "C" fn nyokazerubi_ask_by_value(
         run: next,
         given: flat(answer),
     }
-}
-
-#[no_mangle]
-pub extern "C" fn nyokazerubi_report_by_value(run: Run, clock: u32, worst: &[u32]) -> Reported
-    ensures { λ r. ⌜ next-of r ≡ report (now (worst .entry)) clock (run-of run) ⌝ }
-{
-    run.report(clock, worst)
 }
 
 // ---- over the lent record, which takes the next one whole
@@ -106,7 +82,7 @@ pub extern "C" fn nyokazerubi_ask(
 ) -> Given
     ensures { λ r. ⌜ Asks (ask (now (order .entry)) (now (limits .entry)) (now (bounds .entry)) (run-of (now (run .entry)))) (now (run .exit)) r ⌝ }
 {
-    let out = nyokazerubi_ask_by_value(*run, order, limits, bounds);
+    let out = ask_flat(*run, order, limits, bounds);
     *run = out.run;
     out.given
 }

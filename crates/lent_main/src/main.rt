@@ -58,7 +58,7 @@ fn start(run: Run, n: u32, levels: u32) -> Run {
 
 fn ask(run: Run, order: &[u8], limits: &[i32], bounds: &[i32]) -> Run {
     let lent = through::asked(run, order, limits, bounds);
-    let value = camera::runs::nyokazerubi_ask_by_value(run, order, limits, bounds);
+    let value = camera::runs::ask_flat(run, order, limits, bounds);
     let a = lent.given;
     let b = value.given;
     io::write_all(1, b"ask");

@@ -54,10 +54,10 @@ use Rattle.camera.proofs.runs.Asked as P
 use Rattle.camera.proofs.runs.Asked.Laws as P′
 use Rattle.camera.proofs.runs.Given as Q
 use Rattle.camera.proofs.runs.Given.Laws as Q′
-use Rattle.camera.proofs.runs.nyokazerubi_ask_by_value as g
-use Rattle.camera.proofs.runs.nyokazerubi_ask_by_value.Symbol as g-def
-use Rattle.camera.proofs.runs.nyokazerubi_ask_by_value.Symbol.{name as #g}
-use Rattle.camera.proofs.runs.nyokazerubi_ask_by_value.Met as g-thm
+use Rattle.camera.proofs.runs.ask_flat as g
+use Rattle.camera.proofs.runs.ask_flat.Symbol as g-def
+use Rattle.camera.proofs.runs.ask_flat.Symbol.{name as #g}
+use Rattle.camera.proofs.runs.ask_flat.Met as g-thm
 use Rattle.camera.proofs.runs.nyokazerubi_ask.Key.{name as #f}
 use Rattle.camera.proofs.runs.nyokazerubi_ask as f
 use Rattle.camera.proofs.runs.nyokazerubi_ask.Statement as stated
@@ -202,4 +202,4 @@ nyokazerubi-ask-spec 𝓤 H 𝓜 𝓖 𝓡 =
     entered 𝓤 H (tripleOf 𝓤 H (𝓖 .A) f.signature (f.spec 𝓤 H (𝓖 .A) (𝓜 .mem) (𝓡 .run)))
     (tables 𝓤 H 𝓜 𝓡 code.env .C) (tables 𝓤 H 𝓜 𝓡 code.env .Λ) #f code.function (code.unfolded 𝓤 H 𝓜 𝓡)
     (meets 𝓤 H (𝓖 .A) (givenOf 𝓤 H 𝓜 𝓖) (𝓜 .mem) (𝓡 .run) (tablesOf 𝓤 H 𝓜 (tables 𝓤 H 𝓜 𝓡 code.env))
-    (cited 𝓤 H (Callee 𝓤 H (𝓖 .A) (𝓜 .mem) (𝓡 .run)) 𝓜 𝓡 code.env #g g-def.routine code.calls-camera·runs·nyokazerubi-ask-by-value (g-thm.met 𝓤 H 𝓜 𝓖 𝓡)))
+    (cited 𝓤 H (Callee 𝓤 H (𝓖 .A) (𝓜 .mem) (𝓡 .run)) 𝓜 𝓡 code.env #g g-def.routine code.calls-camera·runs·ask-flat (g-thm.met 𝓤 H 𝓜 𝓖 𝓡)))

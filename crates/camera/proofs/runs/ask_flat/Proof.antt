@@ -8,8 +8,8 @@ use Rattle.run.specs.declared.Asked.{Asked}
 use Rattle.run.specs.Calls.{run-of, with-run, answer-of}
 use Rattle.camera.specs.declared.runs.Given.{Given}
 use Rattle.camera.specs.Flat.{given-of, next-run, Asks}
-use Rattle.camera.proofs.runs.nyokazerubi_ask_by_value.Statement.{statement}
-use Rattle.camera.proofs.runs.nyokazerubi_ask_by_value.Tie as tie
+use Rattle.camera.proofs.runs.ask_flat.Statement.{statement}
+use Rattle.camera.proofs.runs.ask_flat.Tie as tie
 
 -- ---- the flat answer of what an asking answers
 
@@ -33,5 +33,5 @@ returns c =
     let asked = c .before .before .ask in
     rw (asked .ensures) at (asks (asked .result) (c .flat .ensures (run-of (asked .result .run))))
 
-pub nyokazerubi-ask-by-value-spec : {M : Type 1} → statement M
-nyokazerubi-ask-by-value-spec = tie.close (tie.spec ask-requires flat-requires returns)
+pub ask-flat-spec : {M : Type 1} → statement M
+ask-flat-spec = tie.close (tie.spec ask-requires flat-requires returns)
