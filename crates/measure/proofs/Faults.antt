@@ -1,5 +1,5 @@
 -- What a record is refused for, and what that says of the trace. Assumes nothing.
-use Prim.Native.Nat.{ℕ, _+_, _*_, _≤_, _<_}
+use Prim.Native.Nat.{ℕ, _+_, _≤_, _<_}
 use mathlib.Core.Path.{_≡_, refl}
 use mathlib.Core.List.{List}
 use mathlib.Core.Logic.{_≢_, inl, inr, ⊎-elim}
@@ -10,7 +10,7 @@ use Rattle.rules.specs.Image.{Profile}
 use Rattle.rules.specs.Refusals.{First}
 use Rattle.rules.specs.Refresh.{records, action-of, level-of, Name, Duration, Fault, FirstFault}
 use Rattle.rules.proofs.Refresh.{NoFault, named-not-longer}
-use Rattle.measure.specs.Measure.{Reads, Has, faults-at, faults}
+use Rattle.measure.specs.Measure.{cell, Reads, Has, faults-at, faults}
 use Rattle.measure.specs.declared.Entry.{Entry}
 
 -- ---- one record
@@ -26,13 +26,13 @@ module _ {e : Entry} {n L : ℕ} {table : List ℕ} {F : Profile} {trace : List 
     pub present : Name F trace r → ⊥
     present = ⊎-elim (λ h. omega arith) (λ h. omega arith)
 
-    worst : F .worst (action-of trace r) (level-of trace r) ≡ getD table (e .action * L + e .level) 0
+    worst : F .worst (action-of trace r) (level-of trace r) ≡ getD table (cell (e .action) (e .level)) 0
     worst = rw (← is .action, ← is .level) (has .worst (e .action) (e .level) action level)
 
-    pub too-long : getD table (e .action * L + e .level) 0 < e .duration → Duration F trace r
+    pub too-long : getD table (cell (e .action) (e .level)) 0 < e .duration → Duration F trace r
     too-long h = omega (arith, worst)
 
-    pub short : e .duration ≤ getD table (e .action * L + e .level) 0 → Duration F trace r → ⊥
+    pub short : e .duration ≤ getD table (cell (e .action) (e .level)) 0 → Duration F trace r → ⊥
     short h d = omega (arith, worst)
 
 -- ---- record by record

@@ -1,7 +1,7 @@
--- Sums and counts by action and level, one record after another. Assumes nothing.
-use Prim.Native.Nat.{ℕ, suc, _+_, _≤_, _<_}
+-- Counts and sums by action and level, one record after another. Assumes nothing.
+use Prim.Native.Nat.{ℕ, suc, _+_, _*_, _^_, _≤_, _<_}
 use mathlib.Core.Path.{_≡_, sym, _∙_}
-use mathlib.Core.Bool.{true, false, cond}
+use mathlib.Core.Bool.{Bool, true, false, cond}
 use mathlib.Core.List.{List}
 use mathlib.Core.Logic.{_≢_}
 use native.Mathlib.Nat.{add-zero}
@@ -10,10 +10,10 @@ use native.Mathlib.Omega.{arith}
 use lib.ListN.{getD, set, replicate, length-set, length-replicate, getD-replicate}
 use lib.Seq.{getD-set-same, getD-set-other}
 use Rattle.rules.specs.Words.{sum}
-use Rattle.rules.specs.Refresh.{measures, counted, summed}
+use Rattle.rules.specs.Refresh.{records, measures, counted, summed}
 use Rattle.rules.proofs.Tests.{failed, not-both}
 use Rattle.rules.proofs.Refresh.{measures-only, counted-step, summed-step, counted-most, summed-most}
-use Rattle.measure.specs.Measure.{Reads, cell, Cells, Tallied, Room}
+use Rattle.measure.specs.Measure.{cell, Reads, Cells, tally, Tallied, Room, Weighs}
 use Rattle.measure.specs.declared.Entry.{Entry}
 use Rattle.measure.proofs.Entries.{bits}
 
@@ -68,37 +68,39 @@ module _ (trace : List ℕ) (m : ℕ) (e : Entry) (is : Reads trace m e) where
         elsewhere : (b p : ℕ) → cell b p ≢ cell (e .action) (e .level) → measures trace b p m ≡ false
         elsewhere b p o = failed (measures trace b p m) (λ t. let (action, level) = own b p t in o (omega arith))
 
-  sum-grows : (a q : ℕ) → summed trace a q (suc m) ≡ summed trace a q m + cond (measures trace a q m) (e .duration) 0
-  sum-grows a q = summed-step trace a q m ∙ rw (is .duration)
+  tally-grows : (a q : ℕ) → tally trace (suc m) a q ≡ tally trace m a q + cond (measures trace a q m) (2 ^ 46 + e .duration) 0
+  tally-grows a q = rw (counted-step trace a q m, summed-step trace a q m, ← is .duration) (go (measures trace a q m))
+    where
+      go : (b : Bool) → (counted trace a q m + cond b 1 0) * 2 ^ 46 + (summed trace a q m + cond b (e .duration) 0)
+          ≡ tally trace m a q + cond b (2 ^ 46 + e .duration) 0
+      go true = omega arith
+      go false = omega arith
 
-  pub not-added : (sums counts : List ℕ) → measures trace (e .action) (e .level) m ≡ false
-      → Tallied trace m sums counts → Tallied trace (suc m) sums counts
-  not-added sums counts h was = record {
-    sum = stays _ _ (e .duration) sum-grows sums h (was .sum);
-    count = stays _ _ 1 (λ a q. counted-step trace a q m) counts h (was .count);
-  }
+  pub not-added : (tallies : List ℕ) → measures trace (e .action) (e .level) m ≡ false → Tallied trace m tallies → Tallied trace (suc m) tallies
+  not-added = stays (tally trace m) (tally trace (suc m)) (2 ^ 46 + e .duration) tally-grows
 
-  pub added : (sums counts : List ℕ) → measures trace (e .action) (e .level) m ≡ true → Tallied trace m sums counts
-      → Tallied trace (suc m) (set sums (cell (e .action) (e .level)) (getD sums (cell (e .action) (e .level)) 0 + e .duration))
-      (set counts (cell (e .action) (e .level)) (getD counts (cell (e .action) (e .level)) 0 + 1))
-  added sums counts h was = record {
-    sum = grown _ _ (e .duration) sum-grows sums h (was .sum);
-    count = grown _ _ 1 (λ a q. counted-step trace a q m) counts h (was .count);
-  }
+  pub added : (tallies : List ℕ) → measures trace (e .action) (e .level) m ≡ true → Tallied trace m tallies
+      → Tallied trace (suc m) (set tallies (cell (e .action) (e .level)) (getD tallies (cell (e .action) (e .level)) 0 + (2 ^ 46 + e .duration)))
+  added = grown (tally trace m) (tally trace (suc m)) (2 ^ 46 + e .duration) tally-grows
 
-  -- The sums of 65,535 records fit.
-  pub room : (sums counts : List ℕ) → m ≤ 65535 → Tallied trace m sums counts → Room e sums counts
-  room sums counts few was =
-      let sum = was .sum .at (e .action) (e .level) (bits is .action) (bits is .level) in
-      let count = was .count .at (e .action) (e .level) (bits is .action) (bits is .level) in
+  -- The tallies of 65,535 records fit.
+  pub room : (tallies : List ℕ) → m ≤ 65535 → Tallied trace m tallies → Room e tallies
+  room tallies few was =
+      let here = was .at (e .action) (e .level) (bits is .action) (bits is .level) in
       record {
         action = bits is .action;
         level = bits is .level;
-        sum = omega (arith, summed-most trace (e .action) (e .level) m, bits is);
-        count = omega (arith, counted-most trace (e .action) (e .level) m);
+        fits = omega (arith, counted-most trace (e .action) (e .level) m, summed-most trace (e .action) (e .level) m, bits is);
       }
 
 -- Of no records.
-pub none-tallied : (trace : List ℕ) → Tallied trace 0 (replicate 512 0) (replicate 512 0)
+pub none-tallied : (trace : List ℕ) → Tallied trace 0 (replicate 512 0)
 unfolding summed counted sum
-none-tallied trace = record { sum = zeros; count = zeros }
+none-tallied trace = zeros
+
+-- Of all records, if they are few: the sums stay below the counts.
+pub weighs : (trace tallies : List ℕ) → records trace ≤ 65535 → Tallied trace (records trace) tallies → Weighs trace tallies
+weighs trace tallies few was a q l k =
+    let here = was .at a q l k in
+    let low = summed-most trace a q (records trace) in
+    record { count = omega arith; sum = omega arith }

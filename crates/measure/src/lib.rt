@@ -1,11 +1,12 @@
-// The trace of a refresh: its records checked, their open durations summed by action and level, and new averages made of the sums.
+// The trace of a refresh: its records checked, the measurements among them counted and summed, and new averages made of that. A table
+// has a cell for each of 8 levels of 64 actions, as many as a profile can have: action a at level q is cell a * 8 + q.
 ghost use mathlib.Core.Path.{_≡_};
 ghost use mathlib.Core.List.{[], _∷_};
-ghost use Prim.Native.Nat.{_+_, _*_, _≤_, _<_, max};
-ghost use lib.ListN.{length, getD};
+ghost use Prim.Native.Nat.{_+_, _*_, _≤_, max};
+ghost use lib.ListN.{length};
 ghost use Rattle.rules.specs.Refusals.{_when_, First};
 ghost use Rattle.rules.specs.Refresh.{records, Trace};
-ghost use Rattle.measure.specs.Measure.{Reads, Checked, Measures, Tallied, Room, Added, Passed, Unmeasured, Averaged, Divides, Renewed};
+ghost use Rattle.measure.specs.Measure.{Reads, Checked, Measures, Tallied, Room, Added, Passed, Unmeasured, Averaged, Raised};
 
 // A record of a trace.
 pub struct Entry {
@@ -42,17 +43,9 @@ pub fn trace_refusal(trace: &[u8]) -> u32
     0
 }
 
-// The time of action a at level q, of a table by action, then level.
-pub fn time_at(table: &[u32], levels: usize, a: usize, q: usize) -> u32
-    requires { ⌜ (a < 64) × (levels ≤ 8) × (q < levels) × (a * levels + levels ≤ length (now table)) ⌝ }
-    ensures { λ r. ⌜ r ≡ getD (now (table .entry)) (a * levels + q) 0 ⌝ }
-{
-    table[a * levels + q]
-}
-
 // The number that a record is refused with, 0 for none.
-pub fn fault(e: Entry, n: usize, levels: usize, worst: &[u32]) -> u32
-    requires { ⌜ (n ≤ 64) × (levels ≤ 8) × (n * levels ≤ length (now worst)) ⌝ }
+pub fn fault(e: Entry, n: usize, levels: usize, worst: &[u32; 512]) -> u32
+    requires { ⌜ (n ≤ 64) × (levels ≤ 8) ⌝ }
     ensures { λ k. ⌜ Checked e n levels (now (worst .entry)) k ⌝ }
 {
     if n <= e.action {
@@ -61,7 +54,7 @@ pub fn fault(e: Entry, n: usize, levels: usize, worst: &[u32]) -> u32
     if levels <= e.level {
         return 15;
     }
-    if time_at(worst, levels, e.action, e.level) < e.duration {
+    if worst[e.action * 8 + e.level] < e.duration {
         return 16;
     }
     0
@@ -74,30 +67,31 @@ pub fn measures(e: Entry) -> bool
     e.open
 }
 
-// A measurement is added to the sum and to the count of its action and level.
-pub fn add(e: Entry, sums: &mut [u64; 512], counts: &mut [u32; 512])
-    requires { ⌜ Room e (now sums) (now counts) ⌝ }
-    ensures { λ r. ⌜ Added e (now (sums .entry)) (now (counts .entry)) (now (sums .exit)) (now (counts .exit)) ⌝ }
+// One measurement in a tally. A tally has the count of some measurements above the sum of their durations: 65,535 durations of 30 bits
+// sum to less than 2^46, so that neither reaches into the other.
+pub const ONE: u64 = 70_368_744_177_664;
+
+// A measurement is added to the tally of its action and level.
+pub fn add(e: Entry, tallies: &mut [u64; 512])
+    requires { ⌜ Room e (now tallies) ⌝ }
+    ensures { λ r. ⌜ Added e (now (tallies .entry)) (now (tallies .exit)) ⌝ }
 {
     if measures(e) {
         let at = e.action * 8 + e.level;
-        sums[at] = sums[at] + e.duration as u64;
-        counts[at] = counts[at] + 1;
+        tallies[at] = tallies[at] + (ONE + e.duration as u64);
     }
 }
 
-// One pass over the trace: each record is checked and, if it is a measurement, added to sums and counts, which start with nothing.
+// One pass over the trace: each record is checked and, if it is a measurement, added to the tallies, which start with nothing.
 pub fn pass(
     trace: &[u8],
     n: usize,
     levels: usize,
-    worst: &[u32],
-    sums: &mut [u64; 512],
-    counts: &mut [u32; 512],
+    worst: &[u32; 512],
+    tallies: &mut [u64; 512],
 ) -> u32
-    requires { ⌜ (n ≤ 64) × (levels ≤ 8) × (n * levels ≤ length (now worst)) ⌝ }
-    requires { ⌜ (records (now trace) ≤ 65535) × Tallied (now trace) 0 (now sums) (now counts) ⌝ }
-    ensures { λ k. ⌜ Passed (now (trace .entry)) n levels (now (worst .entry)) (now (sums .exit)) (now (counts .exit)) k ⌝ }
+    requires { ⌜ (n ≤ 64) × (levels ≤ 8) × (records (now trace) ≤ 65535) × Tallied (now trace) 0 (now tallies) ⌝ }
+    ensures { λ k. ⌜ Passed (now (trace .entry)) n levels (now (worst .entry)) (now (tallies .exit)) k ⌝ }
 {
     let mut r = 0;
     while r < trace.len() / 5 {
@@ -106,7 +100,7 @@ pub fn pass(
         if number != 0 {
             return number;
         }
-        add(e, sums, counts);
+        add(e, tallies);
         r += 1;
     }
     0
@@ -120,42 +114,26 @@ pub fn unmeasured(average: u32) -> u32
 }
 
 // The sum over the count, rounded down.
-pub fn averaged(sum: u64, count: u32, average: u32) -> u32
-    requires { ⌜ sum ≤ count * 1073741823 ⌝ }
-    ensures { λ r. ⌜ Averaged sum count average r ⌝ }
+pub fn averaged(tally: u64, average: u32) -> u64
+    ensures { λ r. ⌜ Averaged tally average r ⌝ }
 {
+    let count = tally / ONE;
     if count == 0 {
-        return unmeasured(average);
+        return unmeasured(average) as u64;
     }
-    (sum / count as u64) as u32
+    tally % ONE / count
 }
 
-fn greater(x: u32, y: u32) -> u32
+fn greater(x: u64, y: u64) -> u64
     ensures { λ r. ⌜ r ≡ max x y ⌝ }
 {
     if x < y { y } else { x }
 }
 
-// The new averages of action a by level: one that is below the one before it takes that value.
-pub fn new_row(
-    averages: &[u32],
-    levels: usize,
-    a: usize,
-    sums: &[u64; 512],
-    counts: &[u32; 512],
-) -> [u32; 8]
-    requires { ⌜ (a < 64) × (levels ≤ 8) × (a * levels + levels ≤ length (now averages)) × Divides a (now sums) (now counts) ⌝ }
-    ensures { λ row. ⌜ Renewed (now (averages .entry)) levels a (now (sums .entry)) (now (counts .entry)) row ⌝ }
+// The new average of a level: one that is below the one before it takes that value. Before level 0 there is 0.
+pub fn raised(before: u64, tally: u64, average: u32) -> u64
+    ensures { λ r. ⌜ Raised before tally average r ⌝ }
 {
-    let mut row = [0u32; 8];
-    let mut last = 0;
-    let mut q = 0;
-    while q < levels {
-        let at = a * 8 + q;
-        let average = averaged(sums[at], counts[at], time_at(averages, levels, a, q));
-        last = greater(last, average);
-        row[q] = last;
-        q += 1;
-    }
-    row
+    let here = averaged(tally, average);
+    greater(before, here)
 }

@@ -2,13 +2,15 @@
 use Prim.Native.Nat.{ℕ, zero, suc, _+_, _-_, _≤_, _<_}
 use mathlib.Core.Path.{_≡_, sym, _∙_}
 use native.Mathlib.Nat.{le-refl}
+use native.Mathlib.Decide.{decLt}
 use native.Mathlib.Omega.{arith}
 use lib.IntN.{ℤ, pos, _-ℤ_}
 use Rattle.rules.specs.Words.{sum, greatest-of, least-of, rows}
-use Rattle.rules.specs.Limits.{Tables, safe, average, margin, mixed, limit}
+use Rattle.rules.specs.Limits.{Tables, safe, average, margin, mixed, limit, coast-bound}
 use Rattle.rules.proofs.Sums.{sum-same}
-use Rattle.fields.proofs.Rows.{rows-ext, length-rows, getD-rows}
-use Rattle.rows.proofs.Planned.{Tabled, tabled-bounds, least-same}
+use Rattle.fields.proofs.Cats.{cat-ext}
+use Rattle.fields.proofs.Rows.{rows-ext}
+use Rattle.rows.proofs.Coast.{term, bound-within, bound-past}
 use Rattle.planner.specs.Planning.{coast-bounds}
 
 pub record Alike (S T : Tables) (n L : ℕ) : Type 0 where
@@ -23,6 +25,11 @@ greatest-same : (f g : ℕ → ℕ) (i m : ℕ) → ((j : ℕ) → i ≤ j → j
 unfolding greatest-of
 greatest-same f g i zero h = h i (le-refl i) (omega arith)
 greatest-same f g i (suc m) h = rw (greatest-same f g i m (λ j a b. h j a (omega arith)), h (i + suc m) (omega arith) (le-refl _))
+
+least-same : (f g : ℕ → ℤ) (i m : ℕ) → ((j : ℕ) → i ≤ j → j ≤ i + m → f j ≡ g j) → least-of f i m ≡ least-of g i m
+unfolding least-of
+least-same f g i zero h = h i (le-refl i) (omega arith)
+least-same f g i (suc m) h = rw (least-same f g i m (λ j a b. h j a (omega arith)), h (i + suc m) (omega arith) (le-refl _))
 
 module _ {S T : Tables} {n L : ℕ} (same : Alike S T n L) where
   module _ (q : ℕ) (l : q < L) where
@@ -58,19 +65,20 @@ module _ {S T : Tables} {n L : ℕ} (same : Alike S T n L) where
   pub worst-alike : rows (S .worst) n L ≡ rows (T .worst) n L
   worst-alike = rows-ext (S .worst) (T .worst) n L (λ i q h l. same .worst i q h l)
 
-  -- both are those of one table of limits and one of worst times
+  bound-alike : (i q r : ℕ) → i < n → q < L → coast-bound S (limit S) i q (suc r) ≡ coast-bound T (limit T) i q (suc r)
+  bound-alike i q r h l = go (decLt (i + r) n)
+    where
+      sums : (k : ℕ) → k ≤ n → sum k (λ p. S .worst p q) ≡ sum k (λ p. T .worst p q)
+      sums k m = sum-same k (λ p. S .worst p q) (λ p. T .worst p q) (λ p b. same .worst p q (omega arith) l)
+
+      go : Dec (i + r < n) → coast-bound S (limit S) i q (suc r) ≡ coast-bound T (limit T) i q (suc r)
+      go (yes m) =
+          bound-within S (limit S) i q r (omega (arith, same .n-left))
+          ∙ least-same (term S (limit S) i q) (term T (limit T) i q) i r
+          (λ j a b. rw (limit-alike q l j (omega arith), sums j (omega arith), sums i (omega arith)))
+          ∙ sym (bound-within T (limit T) i q r (omega (arith, same .n-right)))
+      go (no m) =
+          bound-past S (limit S) i q r (omega (arith, same .n-left)) ∙ sym (bound-past T (limit T) i q r (omega (arith, same .n-right)))
+
   pub bounds-alike : coast-bounds S n L ≡ coast-bounds T n L
-  bounds-alike =
-      let left : Tabled S (limit S) n L (rows (limit S) n L) (rows (S .worst) n L) = record {
-        limits-held = omega (arith, length-rows (limit S) L n);
-        worst-held = omega (arith, length-rows (S .worst) L n);
-        limit-is = λ i q h l. getD-rows (limit S) L n i q (pos 0) h l;
-        worst-is = λ i q h l. getD-rows (S .worst) L n i q 0 h l;
-      } in
-      let right : Tabled T (limit T) n L (rows (limit S) n L) (rows (S .worst) n L) = record {
-        limits-held = left .limits-held;
-        worst-held = left .worst-held;
-        limit-is = λ i q h l. left .limit-is i q h l ∙ limit-alike q l i h;
-        worst-is = λ i q h l. left .worst-is i q h l ∙ same .worst i q h l;
-      } in
-      sym (tabled-bounds left (same .n-left)) ∙ tabled-bounds right (same .n-right)
+  bounds-alike = cat-ext _ _ n (λ i h. rows-ext _ _ L 16 (λ q r l m. bound-alike i q r h l))

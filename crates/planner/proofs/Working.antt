@@ -1,4 +1,4 @@
--- The limits and the worst times of an accepted image, worked from the last position back. Assumes nothing.
+-- The limits, the worst times and the coast bounds of an accepted image, worked from the last position back. Assumes nothing.
 use Prim.Native.Nat.{ℕ, _+_, _*_, _≤_, _<_}
 use mathlib.Core.Path.{_≡_, sym, ap, _∙_}
 use mathlib.Core.List.{List}
@@ -21,14 +21,18 @@ use Rattle.fields.proofs.Tabs.{tab-ext, length-tab}
 use Rattle.image.specs.Reading.{HasRecord, HasRecords}
 use Rattle.image.proofs.Reading.{has-record}
 use Rattle.image.proofs.Checks.{has-records}
-use Rattle.rows.specs.Rows.{limits-of, row-of, after-last}
-use Rattle.rows.proofs.Limits.{Lawful, Position, Worked, worked-none, worked-more, worked-done}
-use Rattle.planner.specs.Planning.{Given}
+use Rattle.rows.specs.Rows.{after-last}
+use Rattle.rows.specs.Bounds.{bounds-from}
+use Rattle.rows.proofs.Limits.{Lawful, Position, Worked, limit-is, worked-none, worked-more, worked-done}
+use Rattle.rows.proofs.Sixteens.{Bounded, bounded-more}
+use Rattle.planner.specs.Planning.{coast-bounds, Given, Works}
 
--- The loop before it works the position in front of i: the row of limits at i, and the rows from i on in both tables.
-pub record Back (S : Tables) (n L : ℕ) (limits₀ : List ℤ) (worst₀ : List ℕ) (i : ℕ) (next limits : List ℤ) (worst : List ℕ) : Type 0 where
+-- The loop before it works the position in front of i: the row of limits at i, and the rows from i on in the three tables.
+pub record Back (S : Tables) (n L : ℕ) (limits₀ : List ℤ) (worst₀ : List ℕ) (bounds₀ : List ℤ)
+    (i : ℕ) (next limits : List ℤ) (worst : List ℕ) (bounds : List ℤ) : Type 0 where
   pub worked : Worked S n L limits₀ i next limits
   pub stored : worst ≡ splice worst₀ (i * L) (cat-from (λ k. tab (S .worst k) L) i n)
+  pub bounded : Bounded S n L bounds₀ i bounds
 
 module _ {s : List ℕ} {n L cycle : ℕ} {actions : List ℕ} {o : Order (profile s .n)} (g : Given s n L cycle actions o) where
   sound : Sound s
@@ -64,30 +68,40 @@ module _ {s : List ℕ} {n L cycle : ℕ} {actions : List ℕ} {o : Order (profi
 
 -- ---- the loop: before it, a turn from position j down to i, and after it
 
-module _ {S : Tables} {n L : ℕ} (lawful : Lawful S n L) (limits₀ : List ℤ) (worst₀ : List ℕ) where
-  pub back-none : {next : List ℤ} → next ≡ after-last → Back S n L limits₀ worst₀ n next limits₀ worst₀
-  back-none e = record { worked = worked-none lawful limits₀ e; stored = from-none (λ k. tab (S .worst k) L) worst₀ (n * L) n }
+module _ {S : Tables} {n L : ℕ} (lawful : Lawful S n L) (limits₀ : List ℤ) (worst₀ : List ℕ) (bounds₀ : List ℤ) where
+  pub back-none : {next : List ℤ} → next ≡ after-last → Back S n L limits₀ worst₀ bounds₀ n next limits₀ worst₀ bounds₀
+  back-none e = record {
+    worked = worked-none lawful limits₀ e;
+    stored = from-none (λ k. tab (S .worst k) L) worst₀ (n * L) n;
+    bounded = from-none (bounds-from S (limit S) L) bounds₀ (n * (L * 16)) n;
+  }
 
-  pub back-more : {next limits row limits′ : List ℤ} {worst worst′ : List ℕ} {average longest : ℕ → ℕ} {deadline : ℕ} (i j : ℕ)
-      → j ≡ i + 1 → j ≤ n → n * L ≤ length limits₀ → n * L ≤ length worst₀ → Back S n L limits₀ worst₀ j next limits worst
-      → Position S L i average longest deadline → row ≡ row-of next average longest deadline L
-      → limits′ ≡ splice limits (i * L) (tab (limits-of next average longest deadline) L) → worst′ ≡ splice worst (i * L) (tab longest L)
-      → Back S n L limits₀ worst₀ i row limits′ worst′
-  back-more {worst = worst} {longest = longest} i j e h room room′ was at is limits-are worst-is =
-      let same = tab-ext longest (S .worst i) L (at .worsts) in
+  pub back-more : {s : List ℕ} {a deadline : ℕ} {next limits row limits′ : List ℤ} {worst worst′ : List ℕ} {bounds bounds′ : List ℤ} (i j : ℕ)
+      → j ≡ i + 1 → j ≤ n → n * L ≤ length limits₀ → n * L ≤ length worst₀ → n * L * 16 ≤ length bounds₀
+      → Back S n L limits₀ worst₀ bounds₀ j next limits worst bounds → Position S L i (average-of s a) (worst-of s a) deadline
+      → Works s L a deadline next (i * L) (n * L) limits worst bounds limits′ worst′ bounds′ row
+      → Back S n L limits₀ worst₀ bounds₀ i row limits′ worst′ bounds′
+  back-more {s} {a} {worst = worst} i j e h room room′ room″ was at is =
+      let same = tab-ext (worst-of s a) (S .worst i) L (at .worsts) in
       record {
-        worked = worked-more lawful limits₀ i j e h room (was .worked) at is limits-are;
+        worked = worked-more lawful limits₀ i j e h room (was .worked) at (is .row-is) (is .limits-are);
         stored = from-more (λ k. tab (S .worst k) L) L (λ k. length-tab (S .worst k) L) worst₀ i j n (j * L) (i * L) e h
             (ap (λ (k : ℕ). k * L) e ∙ stride-more i L)
             (omega (arith, mul-le-mul-right L h))
             (was .stored)
-            (worst-is ∙ ap (splice worst (i * L)) same);
+            (is .worst-is ∙ ap (splice worst (i * L)) same);
+        bounded = bounded-more lawful bounds₀ room″ i j e h (was .bounded) _ (worst-of s a) (limit-is lawful i j e h (was .worked .row) at) (at .worsts)
+            (is .bounds-are);
       }
 
-  pub back-done : {next limits : List ℤ} {worst : List ℕ} (i : ℕ) → i ≡ 0 → Back S n L limits₀ worst₀ i next limits worst
-      → (limits ≡ splice limits₀ 0 (rows (limit S) n L)) × (worst ≡ splice worst₀ 0 (rows (S .worst) n L))
+  pub back-done : {next limits : List ℤ} {worst : List ℕ} {bounds : List ℤ} (i : ℕ) → i ≡ 0
+      → Back S n L limits₀ worst₀ bounds₀ i next limits worst bounds
+      → (limits ≡ splice limits₀ 0 (rows (limit S) n L))
+      × (worst ≡ splice worst₀ 0 (rows (S .worst) n L))
+      × (bounds ≡ splice bounds₀ 0 (coast-bounds S n L))
   back-done i e b =
-      let start : i * L ≡ 0 = ap (λ (k : ℕ). k * L) e ∙ omega arith in (
+      let start : (m : ℕ) → i * m ≡ 0 = λ m. ap (λ (k : ℕ). k * m) e ∙ omega arith in (
         worked-done lawful limits₀ i e (b .worked),
-        from-done (λ k. tab (S .worst k) L) worst₀ 0 i n (i * L) e start (b .stored),
+        from-done (λ k. tab (S .worst k) L) worst₀ 0 i n (i * L) e (start L) (b .stored),
+        from-done (bounds-from S (limit S) L) bounds₀ 0 i n (i * (L * 16)) e (start (L * 16)) (b .bounded),
       )

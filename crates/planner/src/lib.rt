@@ -4,16 +4,13 @@ use image::read;
 use image::whole;
 ghost use mathlib.Core.Path.{_≡_};
 ghost use mathlib.Core.List.{[], _∷_};
-ghost use Prim.Native.Nat.{_+_, _*_, _≤_};
+ghost use Prim.Native.Nat.{_*_, _≤_};
 ghost use lib.ListN.{length};
-ghost use Rattle.rules.specs.Words.{tab};
-ghost use Rattle.rules.specs.Image.{due, average-of, worst-of, profile};
+ghost use Rattle.rules.specs.Image.{due, profile};
 ghost use Rattle.rules.specs.Order.{Order};
 ghost use Rattle.rules.specs.Refusals.{_when_, First, Tight};
-ghost use Rattle.fields.specs.Fields.{splice};
 ghost use Rattle.image.specs.Reading.{HasRecord};
-ghost use Rattle.rows.specs.Rows.{limits-of, row-of, SmallRow};
-ghost use Rattle.planner.specs.Planning.{rooms, Plans, Given, SomeGiven, Filled, Written};
+ghost use Rattle.planner.specs.Planning.{rooms, Plans, Given, SomeGiven, CanWork, Works, Filled, Written};
 
 // The answer of planning: with a refusal all else is 0; without one what the header says.
 #[repr(C)]
@@ -64,23 +61,23 @@ fn due_at(image: &[u8], levels: usize, a: usize, cycle: u32) -> u32
 
 // ---- the tables
 
-// The row of limits at a position from the row after it, for action a. The finished row goes to the lent table, and so do the worst times.
+// The row of limits at the position from entry `from` on, for action a, from the row after it; the finished row goes to the lent table, and
+// so do the worst times and the coast bounds.
 fn work_row(
     image: &[u8],
     levels: usize,
     a: usize,
     due: u32,
     next: [i32; 8],
+    from: usize,
+    entries: usize,
     limits: &mut [i32],
     worst: &mut [u32],
-    from: usize,
+    bounds: &mut [i32],
 ) -> [i32; 8]
-    requires { ⌜ HasRecord (now image) levels a × SmallRow next (average-of (now image) a) (worst-of (now image) a) due levels ⌝ }
-    requires { ⌜ (from + levels ≤ length (now limits)) × (from + levels ≤ length (now worst)) ⌝ }
-    ensures { λ r. ⌜ r ≡ row-of next (average-of (now (image .entry)) a) (worst-of (now (image .entry)) a) due levels ⌝ }
-    ensures { λ r. ⌜ now (limits .exit) ≡ splice (now (limits .entry)) from
-        (tab (limits-of next (average-of (now (image .entry)) a) (worst-of (now (image .entry)) a) due) levels) ⌝ }
-    ensures { λ r. ⌜ now (worst .exit) ≡ splice (now (worst .entry)) from (tab (worst-of (now (image .entry)) a) levels) ⌝ }
+    requires { ⌜ CanWork (now image) levels a due next from entries (now limits) (now worst) (now bounds) ⌝ }
+    ensures { λ r. ⌜ Works (now (image .entry)) levels a due next from entries (now (limits .entry)) (now (worst .entry)) (now (bounds .entry))
+        (now (limits .exit)) (now (worst .exit)) (now (bounds .exit)) r ⌝ }
 {
     let mut here = [0i32; 8];
     let mut q = 0;
@@ -91,12 +88,13 @@ fn work_row(
         here[q] = limit;
         limits[from + q] = limit;
         worst[from + q] = longest;
+        rows::bounds_of(limit, longest, from + q, levels, entries, bounds);
         q += 1;
     }
     here
 }
 
-// The limits and the worst times, from the last position back: the row at a position takes the place of the row after it.
+// The limits, the worst times and the coast bounds, from the last position back: the row at a position takes the place of the row after it.
 fn work(
     image: &[u8],
     n: usize,
@@ -105,12 +103,15 @@ fn work(
     actions: &[u8; 64],
     limits: &mut [i32],
     worst: &mut [u32],
+    bounds: &mut [i32],
 )
     requires { ⌜ SomeGiven (now image) n levels cycle (now actions) ⌝ }
-    requires { ⌜ (n * levels ≤ length (now limits)) × (n * levels ≤ length (now worst)) ⌝ }
+    requires { ⌜ (n * levels ≤ length (now limits)) × (n * levels ≤ length (now worst)) × (n * levels * 16 ≤ length (now bounds)) ⌝ }
     ensures { λ r. ⌜ ((o : Order (profile (now (image .entry)) .n)) → Given (now (image .entry)) n levels cycle (now (actions .entry)) o
-        → Filled (now (image .entry)) n levels (now (limits .entry)) (now (worst .entry)) (now (limits .exit)) (now (worst .exit)) o) ⌝ }
+        → Filled (now (image .entry)) n levels (now (limits .entry)) (now (worst .entry)) (now (bounds .entry))
+        (now (limits .exit)) (now (worst .exit)) (now (bounds .exit)) o) ⌝ }
 {
+    let entries = n * levels;
     let mut next = rows::after_last();
     let mut i = n;
     while 0 < i {
@@ -118,7 +119,18 @@ fn work(
         let a = actions[i] as usize;
         let from = i * levels;
         let due = due_at(image, levels, a, cycle);
-        let here = work_row(image, levels, a, due, next, limits, worst, from);
+        let here = work_row(
+            image,
+            levels,
+            a,
+            due,
+            next,
+            from,
+            entries,
+            limits,
+            worst,
+            bounds,
+        );
         next = here;
     }
 }
@@ -143,8 +155,7 @@ fn fill(
         (now (order .exit)) (now (limits .exit)) (now (worst .exit)) (now (bounds .exit)) o) ⌝ }
 {
     fields::copy_front(actions, n, order);
-    work(image, n, levels, cycle, actions, limits, worst);
-    rows::bounds(limits, worst, n, levels, bounds);
+    work(image, n, levels, cycle, actions, limits, worst, bounds);
 }
 
 // ---- the call

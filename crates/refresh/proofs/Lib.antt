@@ -1,4 +1,5 @@
-pub mod Tables
 pub mod Grounds
-pub mod Unpacked
+pub mod Copies
+pub mod Records
+pub mod Worst
 pub mod Answers

@@ -1,14 +1,16 @@
 // Refreshing averages: the new image of an image and a trace, which differs in averages only.
 use image::Refusal;
+use image::read;
 ghost use mathlib.Core.Path.{_≡_};
-ghost use Prim.Native.Nat.{ℕ, _+_, _*_, _≤_, _<_};
-ghost use lib.ListN.{length, getD};
+ghost use Prim.Native.Nat.{_+_, _*_, _≤_};
+ghost use lib.ListN.{length};
 ghost use Rattle.rules.specs.Words.{tab};
-ghost use Rattle.rules.specs.Image.{profile};
+ghost use Rattle.rules.specs.Image.{record-bytes, record-at, worst-of, profile};
 ghost use Rattle.rules.specs.Refusals.{Accepted};
 ghost use Rattle.fields.specs.Fields.{splice};
-ghost use Rattle.measure.specs.Measure.{Tallied, Divides};
-ghost use Rattle.refresh.specs.Refresh.{Refreshes, Weighed, Renews, Unpacked};
+ghost use Rattle.image.specs.Reading.{HasRecord, HasRecords};
+ghost use Rattle.measure.specs.Measure.{Tallied};
+ghost use Rattle.refresh.specs.Refresh.{Refreshes, Weighed, Worsts, Renews, AllRenewed};
 
 // The answer of a refresh: the refusal, 0 for none, and the bytes of the new image.
 #[repr(C)]
@@ -18,25 +20,24 @@ pub struct Refreshed {
 }
 
 // The call's own refusals: 14, then record by record 15 before 16, then 17, where `needed` bytes are needed of `room`. One pass over the
-// trace, which leaves its sums and counts.
+// trace, which leaves its tallies.
 fn own_refusal(
     trace: &[u8],
     n: usize,
     levels: usize,
-    worst: &[u32],
-    sums: &mut [u64; 512],
-    counts: &mut [u32; 512],
+    worst: &[u32; 512],
+    tallies: &mut [u64; 512],
     needed: usize,
     room: usize,
 ) -> u32
-    requires { ⌜ (n ≤ 64) × (levels ≤ 8) × (n * levels ≤ length (now worst)) × Tallied (now trace) 0 (now sums) (now counts) ⌝ }
-    ensures { λ k. ⌜ Weighed (now (trace .entry)) n levels (now (worst .entry)) needed room (now (sums .exit)) (now (counts .exit)) k ⌝ }
+    requires { ⌜ (n ≤ 64) × (levels ≤ 8) × Tallied (now trace) 0 (now tallies) ⌝ }
+    ensures { λ k. ⌜ Weighed (now (trace .entry)) n levels (now (worst .entry)) needed room (now (tallies .exit)) k ⌝ }
 {
     let whole = measure::trace_refusal(trace);
     if whole != 0 {
         return whole;
     }
-    let fault = measure::pass(trace, n, levels, worst, sums, counts);
+    let fault = measure::pass(trace, n, levels, worst, tallies);
     if fault != 0 {
         return fault;
     }
@@ -46,113 +47,86 @@ fn own_refusal(
     0
 }
 
-// The new averages of action a, into its row.
-fn put_row(averages: &mut [u32], levels: usize, a: usize, row: &[u32; 8])
-    requires { ⌜ (a < 64) × (levels ≤ 8) × (a * levels + levels ≤ length (now averages)) ⌝ }
-    ensures { λ r. ⌜ now (averages .exit) ≡ splice (now (averages .entry)) (a * levels) (tab (λ q. getD (now (row .entry)) q 0) levels) ⌝ }
+// The worst times of action a, into its cells.
+fn worst_row(image: &[u8], levels: usize, a: usize, worst: &mut [u32; 512])
+    requires { ⌜ HasRecord (now image) levels a × (length (now worst) ≡ 512) ⌝ }
+    ensures { λ r. ⌜ now (worst .exit) ≡ splice (now (worst .entry)) (a * 8) (tab (worst-of (now (image .entry)) a) levels) ⌝ }
 {
-    let start = a * levels;
     let mut q = 0;
     while q < levels {
-        averages[start + q] = row[q];
+        worst[a * 8 + q] = read::worst_at(image, levels, a, q);
         q += 1;
     }
 }
 
-// The averages of n actions, each row by the sums and counts of its action.
-fn renew(averages: &mut [u32], n: usize, levels: usize, sums: &[u64; 512], counts: &[u32; 512])
-    requires { ⌜ (n ≤ 64) × (levels ≤ 8) × (n * levels ≤ length (now averages)) × ((a : ℕ) → a < 64 → Divides a (now sums) (now counts)) ⌝ }
-    ensures { λ r. ⌜ Renews (now (averages .entry)) n levels (now (sums .entry)) (now (counts .entry)) (now (averages .exit)) ⌝ }
+// The worst times of n actions.
+fn worst_times(image: &[u8], n: usize, levels: usize, worst: &mut [u32; 512])
+    requires { ⌜ HasRecords (now image) levels n × (length (now worst) ≡ 512) ⌝ }
+    ensures { λ r. ⌜ Worsts (now (image .entry)) n levels (now (worst .exit)) ⌝ }
 {
     let mut a = 0;
     while a < n {
-        let row = measure::new_row(averages, levels, a, sums, counts);
-        put_row(averages, levels, a, &row);
+        worst_row(image, levels, a, worst);
         a += 1;
     }
 }
 
-// By the tables of an accepted image, whose averages become the new ones.
-fn refresh_tables(
+// The new averages of action a, over the old ones of its record, of which `out` has a copy.
+fn put_averages(image: &[u8], levels: usize, a: usize, tallies: &[u64; 512], out: &mut [u8])
+    requires { ⌜ HasRecord (now image) levels a × (record-at levels a + record-bytes levels ≤ length (now out)) ⌝ }
+    ensures { λ r. ⌜ Renews (now (image .entry)) a (now (tallies .entry)) (now (out .entry)) (now (out .exit)) ⌝ }
+{
+    let start = read::record_at(levels, a) + 12;
+    let mut last = 0;
+    let mut q = 0;
+    while q < levels {
+        let average = read::average_at(image, levels, a, q);
+        last = measure::raised(last, tallies[a * 8 + q], average);
+        fields::put_be(out, start + q * 6, last, 3);
+        q += 1;
+    }
+}
+
+// The new averages of n actions, over the old ones of an image of which `out` has a copy.
+fn renew(image: &[u8], n: usize, levels: usize, tallies: &[u64; 512], out: &mut [u8])
+    requires { ⌜ HasRecords (now image) levels n × (length (now image) ≤ length (now out)) ⌝ }
+    ensures { λ r. ⌜ AllRenewed (now (image .entry)) n (now (tallies .entry)) (now (out .entry)) (now (out .exit)) ⌝ }
+{
+    let mut a = 0;
+    while a < n {
+        put_averages(image, levels, a, tallies, out);
+        a += 1;
+    }
+}
+
+// Of an accepted image: it is copied, and its averages become the new ones.
+fn refresh_accepted(
     image: &[u8],
     n: usize,
     levels: usize,
-    cycle: u32,
-    masks: &[u64],
-    deadlines: &[u32],
-    averages: &mut [u32],
-    worst: &[u32],
     trace: &[u8],
     out: &mut [u8],
 ) -> Refreshed
-    requires { ⌜ Unpacked (now image) n levels cycle (now masks) (now deadlines) (now averages) (now worst) ⌝ }
+    requires { ⌜ Accepted (now image) × (n ≡ profile (now image) .n) × (levels ≡ profile (now image) .levels) ⌝ }
     ensures { λ r. ⌜ Refreshes (now (image .entry)) (now (trace .entry)) (now (out .entry)) (now (out .exit)) (r .refusal .number) (r .bytes) ⌝ }
 {
-    let mut sums = [0u64; 512];
-    let mut counts = [0u32; 512];
+    let mut worst = [0u32; 512];
+    worst_times(image, n, levels, &mut worst);
+    let mut tallies = [0u64; 512];
     let bytes = image.len();
-    let number = own_refusal(
-        trace,
-        n,
-        levels,
-        worst,
-        &mut sums,
-        &mut counts,
-        bytes,
-        out.len(),
-    );
+    let number = own_refusal(trace, n, levels, &worst, &mut tallies, bytes, out.len());
     if number != 0 {
         return Refreshed {
             refusal: Refusal { number },
             bytes: 0,
         };
     }
-    renew(averages, n, levels, &sums, &counts);
-    pack::packing::put_image(out, n, levels, cycle, masks, deadlines, averages, worst);
+    fields::copy_front(image, bytes, out);
+    renew(image, n, levels, &tallies, out);
     Refreshed {
         refusal: Refusal { number: 0 },
         bytes,
     }
-}
-
-// Of an accepted image: it is unpacked, and packed again with the new averages.
-fn refresh_accepted(
-    image: &[u8],
-    n: usize,
-    levels: usize,
-    cycle: u32,
-    trace: &[u8],
-    out: &mut [u8],
-) -> Refreshed
-    requires { ⌜ Accepted (now image) ⌝ }
-    requires { ⌜ (n ≡ profile (now image) .n) × (levels ≡ profile (now image) .levels) × (cycle ≡ profile (now image) .cycle) ⌝ }
-    ensures { λ r. ⌜ Refreshes (now (image .entry)) (now (trace .entry)) (now (out .entry)) (now (out .exit)) (r .refusal .number) (r .bytes) ⌝ }
-{
-    let mut masks = [0u64; 64];
-    let mut deadlines = [0u32; 64];
-    let mut averages = [0u32; 512];
-    let mut worst = [0u32; 512];
-    unpack::unpack(
-        image,
-        n,
-        levels,
-        &mut masks,
-        &mut deadlines,
-        &mut averages,
-        &mut worst,
-    );
-    refresh_tables(
-        image,
-        n,
-        levels,
-        cycle,
-        &masks,
-        &deadlines,
-        &mut averages,
-        &worst,
-        trace,
-        out,
-    )
 }
 
 // Writes the new image to `out`. A refusal leaves `out` untouched, and what it has beyond the new image stays.
@@ -164,5 +138,5 @@ pub fn refresh(image: &[u8], trace: &[u8], out: &mut [u8]) -> Refreshed
     if refusal.number != 0 {
         return Refreshed { refusal, bytes: 0 };
     }
-    refresh_accepted(image, checked.n, checked.levels, checked.cycle, trace, out)
+    refresh_accepted(image, checked.n, checked.levels, trace, out)
 }

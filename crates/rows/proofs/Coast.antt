@@ -9,7 +9,6 @@ use native.Mathlib.Decide.{decLt}
 use native.Mathlib.Omega.{arith}
 use borrow.Author.Tests.{le-ltb, lt-ltb}
 use lib.IntN.{ℤ, pos, negsuc, _-ℤ_}
-use lib.ListN.{getD}
 use lib.Signed.{mag, ltZ}
 use Rattle.rules.specs.Words.{sum, span, minZ, least-of, tab}
 use Rattle.rules.specs.Limits.{Tables, absent, coast-bound}
@@ -24,6 +23,10 @@ use Rattle.rows.proofs.Signed.{mag-lesser, mag-less}
 above-absent : (z : ℤ) → mag z < 2147483647 → ltZ absent z ≡ true
 above-absent (pos n) h = refl
 above-absent (negsuc n) h = lt-ltb n 2147483647 (omega arith)
+
+-- the sixteen from equal numbers
+pub bounds-same : {y z : ℤ} {v w : ℕ} {f g : ℕ → ℤ} → y ≡ z → v ≡ w → ((k : ℕ) → k < 15 → f k ≡ g k) → bounds-by y v f ≡ bounds-by z w g
+bounds-same {z = z} {w = w} d e same = rw (d, e) (ap (λ (x : List ℤ). z ∷ x) (tab-ext _ _ 15 (λ k h. ap (bound-by z w) (same k h))))
 
 module _ (S : Tables) (limit : ℕ → ℕ → ℤ) where
   -- the worst times at q of positions i to j - 1
@@ -112,9 +115,8 @@ module _ (S : Tables) (limit : ℕ → ℕ → ℤ) where
         (omega (arith, mag-less (coast-bound S limit (suc i) q (suc r)) (S .worst i q), bound-small (suc i) r (omega arith), short i (omega arith))))
 
     -- the sixteen of position i from those of the position after it
-    module _ (i : ℕ) (l : i < S .n) (after : List ℤ)
-        (are : (k : ℕ) → k < 16 → getD after k (pos 0) ≡ coast-bound S limit (suc i) q (suc k)) where
-      pub after-spares : (k : ℕ) → k < 15 → Spares (S .worst i q) (getD after k (pos 0))
+    module _ (i : ℕ) (l : i < S .n) (after : ℕ → ℤ) (are : (k : ℕ) → k < 16 → after k ≡ coast-bound S limit (suc i) q (suc k)) where
+      pub after-spares : (k : ℕ) → k < 15 → Spares (S .worst i q) (after k)
       after-spares k h = rw (are k (omega arith)) (go (decLt (suc i + k) (S .n)))
         where
           go : Dec (suc i + k < S .n) → Spares (S .worst i q) (coast-bound S limit (suc i) q (suc k))
@@ -123,7 +125,7 @@ module _ (S : Tables) (limit : ℕ → ℕ → ℤ) where
               let no-such : false ≡ true = rw (bound-past (suc i) q k (omega arith)) at t in
               absurd (false≢true no-such)
 
-      one-more : (k : ℕ) → k < 15 → bound-by (limit i q) (S .worst i q) (getD after k (pos 0)) ≡ coast-bound S limit i q (suc (suc k))
+      one-more : (k : ℕ) → k < 15 → bound-by (limit i q) (S .worst i q) (after k) ≡ coast-bound S limit i q (suc (suc k))
       one-more k h = rw (are k (omega arith)) (go (decLt (suc i + k) (S .n)))
         where
           go : Dec (suc i + k < S .n)

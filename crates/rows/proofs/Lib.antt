@@ -1,5 +1,4 @@
 pub mod Signed
 pub mod Limits
 pub mod Coast
-pub mod After
-pub mod Planned
+pub mod Sixteens

@@ -99,7 +99,7 @@ module _ {S : Tables} {n levels : ℕ} (lawful : Lawful S n levels) where
           average-short = omega (arith, at .averages q m, lawful .sound .ordered i q here (in-levels q m));
         }
 
-    limit-is : (q : ℕ) → q < levels → limits-of next average worst deadline q ≡ limit S i q
+    pub limit-is : (q : ℕ) → q < levels → limits-of next average worst deadline q ≡ limit S i q
     limit-is q m = rw (at .due, at .averages q m, at .worsts q m) (go (decLt j n))
       where
         s : j ≡ suc i

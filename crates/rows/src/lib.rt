@@ -1,14 +1,13 @@
-// A limit from the limits after it, and coast bounds, from times by position.
+// A limit from the limits after it, and coast bounds from those after them.
 ghost use mathlib.Core.Path.{_≡_};
 ghost use Prim.Native.Nat.{ℕ, _+_, _*_, _≤_, _<_};
 ghost use lib.IntN.{pos, _-ℤ_};
 ghost use lib.ListN.{length, getD};
 ghost use lib.Signed.{mag};
 ghost use Rattle.rules.specs.Words.{minZ};
-ghost use Rattle.rules.specs.Limits.{absent};
 ghost use Rattle.fields.specs.Fields.{splice};
 ghost use Rattle.rows.specs.Rows.{limit-of, after-last, SmallLimit};
-ghost use Rattle.rows.specs.Bounds.{bound-by, bounds-by, bounds-from, all-bounds, SmallTables, HasBounds, Spares};
+ghost use Rattle.rows.specs.Bounds.{bound-by, bounds-by, bound-in, Spares};
 
 fn lesser(a: i32, b: i32) -> i32
     ensures { λ r. ⌜ r ≡ minZ a b ⌝ }
@@ -57,10 +56,10 @@ fn bound_of(limit: i32, worst: u32, after: i32) -> i32
     }
 }
 
-// The sixteen of a position at a level from those of the position after it, which are one action less.
-fn bounds_at(limit: i32, worst: u32, after: [i32; 16], out: &mut [i32], at: usize)
+// The sixteen of an entry from those of the position after it, which are one action less.
+fn bounds_by(limit: i32, worst: u32, after: [i32; 16], out: &mut [i32], at: usize)
     requires { ⌜ ((k : ℕ) → k < 15 → Spares worst (getD after k (pos 0))) × (at + 16 ≤ length (now out)) ⌝ }
-    ensures { λ r. ⌜ now (out .exit) ≡ splice (now (out .entry)) at (bounds-by limit worst after) ⌝ }
+    ensures { λ r. ⌜ now (out .exit) ≡ splice (now (out .entry)) at (bounds-by limit worst (λ k. getD after k (pos 0))) ⌝ }
 {
     out[at] = limit;
     let mut k = 0;
@@ -71,17 +70,12 @@ fn bounds_at(limit: i32, worst: u32, after: [i32; 16], out: &mut [i32], at: usiz
     }
 }
 
-// The sixteen of position i at level q as they stand in the table. Past the last position all are absent.
-fn bounds_in(bounds: &[i32], n: usize, levels: usize, i: usize, q: usize) -> [i32; 16]
-    requires { ⌜ (i ≤ n) × (q < levels) × (n * levels * 16 ≤ length (now bounds)) ⌝ }
-    ensures { λ r. ⌜ ((k : ℕ) → k < 16 → n ≤ i → getD r k (pos 0) ≡ absent)
-        × ((k : ℕ) → k < 16 → i < n → getD r k (pos 0) ≡ getD (now (bounds .entry)) ((i * levels + q) * 16 + k) (pos 0)) ⌝ }
+// The sixteen that stand from `at` on.
+fn sixteen(bounds: &[i32], at: usize) -> [i32; 16]
+    requires { ⌜ at + 16 ≤ length (now bounds) ⌝ }
+    ensures { λ r. ⌜ ((k : ℕ) → k < 16 → getD r k (pos 0) ≡ getD (now (bounds .entry)) (at + k) (pos 0)) ⌝ }
 {
-    let mut row = [rules::ABSENT; 16];
-    if n <= i {
-        return row;
-    }
-    let at = (i * levels + q) * rules::LONGEST_COAST;
+    let mut row = [0i32; 16];
     let mut k = 0;
     while k < rules::LONGEST_COAST {
         let bound = bounds[at + k];
@@ -91,32 +85,18 @@ fn bounds_in(bounds: &[i32], n: usize, levels: usize, i: usize, q: usize) -> [i3
     row
 }
 
-// Those of position i, from those of the position after it.
-fn bounds_from(limits: &[i32], worst: &[u32], n: usize, levels: usize, i: usize, out: &mut [i32])
-    requires { ⌜ SmallTables (now limits) (now worst) n levels × (i < n) × (n * levels * 16 ≤ length (now out)) ⌝ }
-    requires { ⌜ (i + 1 < n → HasBounds (now limits) (now worst) n levels (i + 1) (now out)) ⌝ }
-    ensures { λ r. ⌜
-        now (out .exit) ≡
-        splice (now (out .entry)) (i * (levels * 16)) (bounds-from (now (limits .entry)) (now (worst .entry)) n levels i)
-        ⌝ }
+// The sixteen of entry x, from those of the same level at the position after it, `levels` entries on; past the last entry all are absent.
+pub fn bounds_of(limit: i32, worst: u32, x: usize, levels: usize, entries: usize, out: &mut [i32])
+    requires { ⌜ (x < entries) × (levels ≤ 8) × (entries * 16 ≤ length (now out)) ⌝ }
+    requires { ⌜ ((k : ℕ) → k < 15 → Spares worst (bound-in (now out) entries (x + levels) k)) ⌝ }
+    ensures { λ r. ⌜ now (out .exit) ≡ splice (now (out .entry)) (x * 16) (bounds-by limit worst (bound-in (now (out .entry)) entries (x + levels))) ⌝ }
 {
-    let mut q = 0;
-    while q < levels {
-        let x = i * levels + q;
-        let after = bounds_in(out, n, levels, i + 1, q);
-        bounds_at(limits[x], worst[x], after, out, x * rules::LONGEST_COAST);
-        q += 1;
+    let at = x * rules::LONGEST_COAST;
+    let next = x + levels;
+    if entries <= next {
+        bounds_by(limit, worst, [rules::ABSENT; 16], out, at);
+        return;
     }
-}
-
-// Those of every position, from the last one back.
-pub fn bounds(limits: &[i32], worst: &[u32], n: usize, levels: usize, out: &mut [i32])
-    requires { ⌜ SmallTables (now limits) (now worst) n levels × (n * levels * 16 ≤ length (now out)) ⌝ }
-    ensures { λ r. ⌜ now (out .exit) ≡ splice (now (out .entry)) 0 (all-bounds (now (limits .entry)) (now (worst .entry)) n levels) ⌝ }
-{
-    let mut i = n;
-    while 0 < i {
-        i -= 1;
-        bounds_from(limits, worst, n, levels, i, out);
-    }
+    let after = sixteen(out, next * rules::LONGEST_COAST);
+    bounds_by(limit, worst, after, out, at);
 }

@@ -14,46 +14,34 @@ mul-at c = search needs
 add-at : tie.Need-add-at
 add-at c = search needs
 
-mul-sums : tie.Need-mul-sums
-mul-sums c = search needs
+mul-tallies : tie.Need-mul-tallies
+mul-tallies c = search needs
 
-element-copy-out-sums : tie.Need-element-copy-out-sums
-element-copy-out-sums c = search needs
+element-copy-out-tallies : tie.Need-element-copy-out-tallies
+element-copy-out-tallies c = search needs
 
-cast-sums : tie.Need-cast-sums
-cast-sums c = search needs
+cast-tallies : tie.Need-cast-tallies
+cast-tallies c = search needs
 
-add-sums : tie.Need-add-sums
-add-sums c = search needs
+add-tallies : tie.Need-add-tallies
+add-tallies c = search needs
 
-mul-sums-2 : tie.Need-mul-sums-2
-mul-sums-2 c = search needs
+add-tallies-2 : tie.Need-add-tallies-2
+add-tallies-2 c = search needs
 
-element-write-sums : tie.Need-element-write-sums
-element-write-sums c = search needs
+mul-tallies-2 : tie.Need-mul-tallies-2
+mul-tallies-2 c = search needs
 
-mul-counts : tie.Need-mul-counts
-mul-counts c = search needs
-
-element-copy-out-counts : tie.Need-element-copy-out-counts
-element-copy-out-counts c = search needs
-
-add-counts : tie.Need-add-counts
-add-counts c = search needs
-
-mul-counts-2 : tie.Need-mul-counts-2
-mul-counts-2 c = search needs
-
-element-write-counts : tie.Need-element-write-counts
-element-write-counts c = search needs
+element-write-tallies : tie.Need-element-write-tallies
+element-write-tallies c = search needs
 
 returns : tie.Need-returns
 returns c =
-    let here = c .before .before .before .before .before in
-    λ trace m is. added trace m _ is _ _ (sym (here .before .measures .ensures trace m is) ∙ here .if1 .taken)
+    let here = c .before .before .before .before in
+    λ trace m is. added trace m _ is _ (sym (here .before .measures .ensures trace m is) ∙ here .if1 .taken)
 
 returns-2 : tie.Need-returns-2
-returns-2 c = λ trace m is. not-added trace m _ is _ _ (sym (c .before .measures .ensures trace m is) ∙ c .if1 .left)
+returns-2 c = λ trace m is. not-added trace m _ is _ (sym (c .before .measures .ensures trace m is) ∙ c .if1 .left)
 
 pub add-spec : {M : Type 1} → statement M
 add-spec =
@@ -62,16 +50,12 @@ add-spec =
     measures-requires
     mul-at
     add-at
-    mul-sums
-    element-copy-out-sums
-    cast-sums
-    add-sums
-    mul-sums-2
-    element-write-sums
-    mul-counts
-    element-copy-out-counts
-    add-counts
-    mul-counts-2
-    element-write-counts
+    mul-tallies
+    element-copy-out-tallies
+    cast-tallies
+    add-tallies
+    add-tallies-2
+    mul-tallies-2
+    element-write-tallies
     returns
     returns-2)

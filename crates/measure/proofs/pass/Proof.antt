@@ -1,4 +1,4 @@
--- `measure::pass` meets its contract. The invariant: no record so far is at fault, and those that are measurements are counted. The measure
+-- `measure::pass` meets its contract. The invariant: no record so far is at fault, and those that are measurements are in the tallies. The measure
 -- is the number of records that are left. Assumes nothing.
 use Prim.Native.Nat.{ℕ, _-_, _≤_, _<_, zero-le}
 use mathlib.Core.Path.{_≡_}
@@ -11,26 +11,26 @@ use Rattle.rules.specs.Image.{Profile}
 use Rattle.rules.specs.Refresh.{records, Fault}
 use Rattle.measure.specs.Measure.{Has, Tallied}
 use Rattle.measure.proofs.Faults.{stops, goes-on, passed}
-use Rattle.measure.proofs.Tallies.{room}
+use Rattle.measure.proofs.Tallies.{room, weighs}
 use Rattle.measure.proofs.pass.Statement.{statement}
 use Rattle.measure.proofs.pass.Tie as tie
 
-record Done (trace : List ℕ) (n L : ℕ) (worst sums counts : List ℕ) (r : ℕ) : Type 0 where
+record Done (trace : List ℕ) (n L : ℕ) (worst tallies : List ℕ) (r : ℕ) : Type 0 where
   within : r ≤ records trace
   sound : (F : Profile) → Has F n L worst → (e : ℕ) → e < r → Fault F trace e → ⊥
-  tallied : Tallied trace r sums counts
+  tallied : Tallied trace r tallies
 
 abbrev Inv-loop : tie.InvT-loop
-Inv-loop trace n levels worst sums₀ counts₀ r₀ sums counts r = Done trace n levels worst sums counts r
+Inv-loop trace n levels worst tallies₀ r₀ tallies r = Done trace n levels worst tallies r
 
 abbrev μ-loop : tie.MeasureT-loop
-μ-loop trace n levels worst sums₀ counts₀ r₀ sums counts r = records trace - r
+μ-loop trace n levels worst tallies₀ r₀ tallies r = records trace - r
 
 loop-holds : tie.Need-loop-holds Inv-loop μ-loop
 loop-holds c = record {
   within = zero-le;
   sound = λ F has e l f. not-suc-le-zero l;
-  tallied = c .before .before .pre .1 .1;
+  tallied = c .before .pre .3;
 }
 
 record-at-requires : tie.Need-record-at-requires Inv-loop μ-loop
@@ -48,15 +48,15 @@ returns c =
       number = λ F has.
           stops F _ (was .r) (was .inv .sound F has) (turn .loop-test .taken) _ (c .if1 .taken)
           (c .before .fault .ensures F _ (was .r) has (c .before .before .record-at .ensures));
-      tallied = λ none. absurd (c .if1 .taken none);
+      weighs = λ none. absurd (c .if1 .taken none);
     }
 
 add-requires : tie.Need-add-requires Inv-loop μ-loop
 add-requires c κs =
-    let turn = c .before .before .before .before .before in
+    let turn = c .before .before .before .before in
     let was = turn .before .loop in
-    let few : was .r ≤ 65535 = omega (arith, was .inv .within, turn .before .before .before .before .pre .1 .0) in
-    room _ (was .r) _ (c .before .before .before .before .record-at .ensures) _ _ few (was .inv .tallied)
+    let few : was .r ≤ 65535 = omega (arith, was .inv .within, turn .before .before .before .pre .2) in
+    room _ (was .r) _ (c .before .before .before .record-at .ensures) _ few (was .inv .tallied)
 
 add-r : tie.Need-add-r Inv-loop μ-loop
 add-r c = omega arith
@@ -68,9 +68,9 @@ loop-less c = omega arith
 loop-again : tie.Need-loop-again Inv-loop μ-loop
 unfolding records
 loop-again c =
-    let turn = c .before .before .before .before .before .before in
+    let turn = c .before .before .before .before .before in
     let was = turn .before .loop in
-    let checked = c .before .before .before in
+    let checked = c .before .before in
     let is = checked .before .before .record-at .ensures in
     record {
       within = omega (arith, turn .loop-test .taken);
@@ -82,10 +82,10 @@ returns-2 : tie.Need-returns-2 Inv-loop μ-loop
 unfolding records
 returns-2 c =
     let was = c .before .loop in
-    let all : was .r ≡ records (c .before .before .before .before .args .trace .now) = omega (arith, was .inv .within, c .loop-test .left) in
+    let all : was .r ≡ records (c .before .before .before .args .trace .now) = omega (arith, was .inv .within, c .loop-test .left) in
     record {
       number = λ F has. passed F _ (λ e l. was .inv .sound F has e (omega arith));
-      tallied = λ none. rw all at (was .inv .tallied);
+      weighs = λ none. weighs _ _ (c .before .before .before .pre .2) (rw all at (was .inv .tallied));
     }
 
 pub pass-spec : {M : Type 1} → statement M

@@ -12,21 +12,23 @@ use Rattle.fields.proofs.Bytes.{Bytes}
 use Rattle.fields.proofs.Strides.{stride-fits}
 use Rattle.image.specs.Reading.{HasRecord}
 use Rattle.rows.proofs.Limits.{row-small}
+use Rattle.rows.proofs.Sixteens.{sixteen-spares}
 use Rattle.planner.specs.Planning.{Given}
 use Rattle.planner.proofs.Working.{Back, records, lawful, present, position, back-none, back-more, back-done}
 use Rattle.planner.proofs.work.Statement.{statement}
 use Rattle.planner.proofs.work.Tie as tie
 
 abbrev Inv-loop : tie.InvT-loop
-Inv-loop image n levels cycle actions limits₀ worst₀ next₀ i₀ limits worst next i =
+Inv-loop image n levels cycle actions limits₀ worst₀ bounds₀ entries next₀ i₀ limits worst bounds next i =
     (i ≤ n)
     × (length limits ≡ length limits₀)
     × (length worst ≡ length worst₀)
+    × (length bounds ≡ length bounds₀)
     × ((o : Order (profile image .n)) → Given image n levels cycle actions o
-    → Back (tables (profile image) o) n levels limits₀ worst₀ i next limits worst)
+    → Back (tables (profile image) o) n levels limits₀ worst₀ bounds₀ i next limits worst bounds)
 
 abbrev μ-loop : tie.MeasureT-loop
-μ-loop image n levels cycle actions limits₀ worst₀ next₀ i₀ limits worst next i = i
+μ-loop image n levels cycle actions limits₀ worst₀ bounds₀ entries next₀ i₀ limits worst bounds next i = i
 
 bytes : (c : tie.After-after-last Inv-loop μ-loop) → Bytes (c .before .before .before .args .image .now)
 bytes c k = c .before .before .shared-slice-known .given k .fits
@@ -43,11 +45,16 @@ action : (c : tie.In-loop Inv-loop μ-loop) → let a = c .before .before .befor
     HasRecord (a .image .now) (a .levels) (getD (a .actions .now) (c .before .loop .i - 1) 0)
 action c = present (c .before .before .before .before .before .pre .0 .1) (c .before .loop .i - 1) (omega arith)
 
+mul-entries : tie.Need-mul-entries Inv-loop μ-loop
+mul-entries c =
+    let has = records (c .before .before .pre .0 .1) in
+    omega (arith, mul-le-mul (has .few-actions) (has .few-levels))
+
 after-last-requires : tie.Need-after-last-requires Inv-loop μ-loop
 after-last-requires c κs = search needs
 
 loop-holds : tie.Need-loop-holds Inv-loop μ-loop
-loop-holds c = (search needs, search needs, search needs, λ o g. back-none (lawful g (bytes c)) _ _ (c .after-last .ensures))
+loop-holds c = (search needs, search needs, search needs, search needs, λ o g. back-none (lawful g (bytes c)) _ _ _ (c .after-last .ensures))
 
 sub-i : tie.Need-sub-i Inv-loop μ-loop
 sub-i c = search needs
@@ -68,34 +75,41 @@ due-at-requires c κs = (action (c .before), c .before .before .before .before .
 
 work-row-requires : tie.Need-work-row-requires Inv-loop μ-loop
 work-row-requires c κs =
-    let in-loop = c .before .before .before .before in
+    let in-loop = c .before .before .before .before .before in
     let t = in-loop .before in
     let s = t .before .before .before .before in
+    let room = s .pre .1 in
     let given = s .pre .0 in
-    let i = t .loop .i in (
-      (
-        action in-loop,
-        row-small (lawful (given .1) (bytes (t .before))) (i - 1) i (omega arith) (t .loop .inv .0)
-            (t .loop .inv .3 (given .0) (given .1) .worked .row) (position (given .1) (i - 1) (omega arith) (c .before .before .due-at .ensures)),
-      ),
-      (omega (arith, s .pre .1 .0, t .loop .inv .1, inside in-loop), omega (arith, s .pre .1 .1, t .loop .inv .2, inside in-loop)),
-    )
+    let i = t .loop .i in
+    let S = lawful (given .1) (bytes (t .before)) in
+    let at = position (given .1) (i - 1) (omega arith) (c .before .before .before .due-at .ensures) in
+    let was = t .loop .inv .4 (given .0) (given .1) in
+    record {
+      present = action in-loop;
+      small = row-small S (i - 1) i (omega arith) (t .loop .inv .0) (was .worked .row) at;
+      spares = λ q k c. sixteen-spares S (s .args .bounds .now) (room .2) (i - 1) i (omega arith) (t .loop .inv .0) (was .bounded) q c (at .worsts q c) k;
+      inside = inside in-loop;
+      limits-room = omega (arith, room .0, t .loop .inv .1);
+      worst-room = omega (arith, room .1, t .loop .inv .2);
+      bounds-room = omega (arith, room .2, t .loop .inv .3);
+    }
 
 loop-less : tie.Need-loop-less Inv-loop μ-loop
 loop-less c = search needs
 
 loop-again : tie.Need-loop-again Inv-loop μ-loop
 loop-again c =
-    let done = c .before .before .before .work-row in
-    let t = c .before .before .before .before .before .before .before .before .before in
-    let due = c .before .before .before .before .before .before .due-at .ensures in
+    let done = c .before .before .before .before .work-row in
+    let t = c .before .before .before .before .before .before .before .before .before .before .before in
+    let due = c .before .before .before .before .before .before .before .before .due-at .ensures in
     let room = t .before .before .before .before .pre .1 in
     let i = t .loop .i in (
       search needs,
-      done .kept .1 .1 .1 .1 .1 .0 ∙ t .loop .inv .1,
-      done .kept .1 .1 .1 .1 .1 .1 .0 ∙ t .loop .inv .2,
-      λ o g. back-more (lawful g (bytes (t .before))) _ _ (i - 1) i (omega arith) (t .loop .inv .0) (room .0) (room .1) (t .loop .inv .3 o g)
-          (position g (i - 1) (omega arith) due) (done .ensures .0) (done .ensures .1 .0) (done .ensures .1 .1),
+      done .kept .1 .1 .1 .1 .1 .1 .1 .0 ∙ t .loop .inv .1,
+      done .kept .1 .1 .1 .1 .1 .1 .1 .1 .0 ∙ t .loop .inv .2,
+      done .kept .1 .1 .1 .1 .1 .1 .1 .1 .1 .0 ∙ t .loop .inv .3,
+      λ o g. back-more (lawful g (bytes (t .before))) _ _ _ (i - 1) i (omega arith) (t .loop .inv .0) (room .0) (room .1) (room .2) (t .loop .inv .4 o g)
+          (position g (i - 1) (omega arith) due) (done .ensures),
     )
 
 same-length : tie.Need-same-length Inv-loop μ-loop
@@ -104,10 +118,13 @@ same-length c = search needs
 same-length-2 : tie.Need-same-length-2 Inv-loop μ-loop
 same-length-2 c = search needs
 
+same-length-3 : tie.Need-same-length-3 Inv-loop μ-loop
+same-length-3 c = search needs
+
 returns : tie.Need-returns Inv-loop μ-loop
 returns c o g =
     let t = c .before in
-    back-done (lawful g (bytes (t .before))) _ _ (t .loop .i) (omega arith) (t .loop .inv .3 o g)
+    back-done (lawful g (bytes (t .before))) _ _ _ (t .loop .i) (omega arith) (t .loop .inv .4 o g)
 
 pub work-spec : {M : Type 1} → statement M
 work-spec =
@@ -115,6 +132,7 @@ work-spec =
     (tie.spec
     Inv-loop
     μ-loop
+    mul-entries
     after-last-requires
     loop-holds
     sub-i
@@ -127,4 +145,5 @@ work-spec =
     loop-again
     same-length
     same-length-2
+    same-length-3
     returns)

@@ -1,36 +1,56 @@
 -- The levels below q are worked and stored. Assumes nothing.
-use mathlib.Core.Path.{_≡_, _∙_}
-use Prim.Native.Nat.{_+_, _-_, _≤_}
+use mathlib.Core.Path.{_≡_, sym, ap, subst, _∙_}
+use Prim.Native.Nat.{ℕ, suc, _+_, _-_, _*_, _≤_, _<_}
 use native.Mathlib.Omega.{arith}
 use borrow.Author.Needs.{needs}
 use lib.IntN.{pos}
 use lib.ListN.{length, getD, replicate}
-use Rattle.rules.specs.Words.{tab}
+use Rattle.rules.specs.Words.{cat, tab}
 use Rattle.rules.specs.Image.{average-of, worst-of}
 use Rattle.fields.specs.Fields.{splice}
-use Rattle.fields.proofs.Cats.{cat-none, cat-done}
-use Rattle.fields.proofs.Tabs.{tab-more}
+use Rattle.fields.proofs.Strides.{stride-fits}
+use Rattle.fields.proofs.Cats.{cat-none, cat-more, cat-done, length-cat}
+use Rattle.fields.proofs.Tabs.{tab-more, length-tab}
 use Rattle.rows.specs.Rows.{limits-of, eight}
+use Rattle.rows.specs.Bounds.{bounds-by, bound-in, Spares}
 use Rattle.rows.proofs.Signed.{as-is}
+use Rattle.rows.proofs.Coast.{bounds-same}
+use Rattle.rows.proofs.Sixteens.{bound-kept}
 use Rattle.planner.proofs.work_row.Statement.{statement}
 use Rattle.planner.proofs.work_row.Tie as tie
 
 abbrev Inv-loop : tie.InvT-loop
-Inv-loop image levels a due limits₀ worst₀ from next here₀ q₀ limits worst here q =
+Inv-loop image levels a due from entries limits₀ worst₀ bounds₀ next here₀ q₀ limits worst bounds here q =
     (q ≤ levels)
     × (length here ≡ 8)
     × (length limits ≡ length limits₀)
     × (length worst ≡ length worst₀)
+    × (length bounds ≡ length bounds₀)
     × (here ≡ splice (replicate 8 (pos 0)) 0 (tab (limits-of next (average-of image a) (worst-of image a) due) q))
     × (limits ≡ splice limits₀ from (tab (limits-of next (average-of image a) (worst-of image a) due) q))
     × (worst ≡ splice worst₀ from (tab (worst-of image a) q))
+    × (bounds ≡ splice bounds₀ (from * 16) (cat (λ p. bounds-by (limits-of next (average-of image a) (worst-of image a) due p) (worst-of image a p)
+    (bound-in bounds₀ entries (from + p + levels))) q))
 
 abbrev μ-loop : tie.MeasureT-loop
-μ-loop image levels a due limits₀ worst₀ from next here₀ q₀ limits worst here q = levels - q
+μ-loop image levels a due from entries limits₀ worst₀ bounds₀ next here₀ q₀ limits worst bounds here q = levels - q
+
+-- the bounds of the position after it stand as they did
+kept : (c : tie.In-loop Inv-loop μ-loop) → let a = c .before .before .before .before .args in
+    let x = a .from + c .before .loop .q + a .levels in
+    (k : ℕ) → bound-in (c .before .loop .bounds) (a .entries) x k ≡ bound-in (a .bounds .now) (a .entries) x k
+kept c =
+    let s = c .before .before .before .before in
+    let a = s .args in
+    let t = c .before .loop in
+    let done = length-cat (λ p. bounds-by (limits-of (a .t5) (average-of (a .image .now) (a .a)) (worst-of (a .image .now) (a .a)) (a .due) p)
+    (worst-of (a .image .now) (a .a) p) (bound-in (a .bounds .now) (a .entries) (a .from + p + a .levels))) 16 (λ p. ap suc (length-tab _ 15)) (t .q) in
+    bound-kept (a .bounds .now) _ (a .from * 16) (a .entries) (a .from + t .q + a .levels)
+    (omega (arith, done, s .pre .inside, s .pre .bounds-room)) (omega (arith, done)) (t .inv .8)
 
 loop-holds : tie.Need-loop-holds Inv-loop μ-loop
 loop-holds c =
-    (search needs, search needs, search needs, search needs, cat-none _ _ _, cat-none _ _ _, cat-none _ _ _)
+    (search needs, search needs, search needs, search needs, search needs, cat-none _ _ _, cat-none _ _ _, cat-none _ _ _, cat-none _ _ _)
 
 average-at-requires : tie.Need-average-at-requires Inv-loop μ-loop
 average-at-requires c κs = search needs
@@ -50,9 +70,13 @@ array-copy-out-limit-of-2 c = search needs
 limit-of-requires : tie.Need-limit-of-requires Inv-loop μ-loop
 limit-of-requires c κs =
     let s = c .before .before .before .before .before .before .before .before in
-    let small = s .pre .0 .1 (c .before .before .before .before .before .loop .q) (omega arith) in
-    rw (as-is _ (c .before .limit-of-arg .given), as-is _ (c .limit-of-arg2 .given), c .before .before .worst-at .ensures,
-    c .before .before .before .average-at .ensures) small
+    let small = s .pre .small (c .before .before .before .before .before .loop .q) (omega arith) in
+    rw (
+      as-is _ (c .before .limit-of-arg .given),
+      as-is _ (c .limit-of-arg2 .given),
+      c .before .before .worst-at .ensures,
+      c .before .before .before .average-at .ensures,
+    ) small
 
 mul-here : tie.Need-mul-here Inv-loop μ-loop
 mul-here c = search needs
@@ -78,6 +102,19 @@ mul-worst c = search needs
 slice-write-worst : tie.Need-slice-write-worst Inv-loop μ-loop
 slice-write-worst c = search needs
 
+add-bounds-of : tie.Need-add-bounds-of Inv-loop μ-loop
+add-bounds-of c = search needs
+
+bounds-of-requires : tie.Need-bounds-of-requires Inv-loop μ-loop
+bounds-of-requires c κs =
+    let in-loop = c .before .before .before .before .before .before in
+    let s = in-loop .before .before .before .before in
+    let t = in-loop .before .loop in
+    let longest = c .before .before .before .before .worst-at .ensures in (
+      (omega (arith, s .pre .inside), s .pre .present .few-levels, omega (arith, s .pre .bounds-room, t .inv .4)),
+      (λ k h. rw (kept in-loop k, longest) (s .pre .spares (t .q) k (omega arith) h)),
+    )
+
 add-q : tie.Need-add-q Inv-loop μ-loop
 add-q c = search needs
 
@@ -86,21 +123,33 @@ loop-less c = search needs
 
 loop-again : tie.Need-loop-again Inv-loop μ-loop
 loop-again c =
-    let s = c .before .before .before .before .before .before .before .before .before in
+    let in-loop = c .before .before .before .before .before .before .before .before in
+    let s = in-loop .before .before .before .before in
     let a = s .args in
-    let t = c .before .before .before .before .before .before .loop in
-    let longest = c .before .before .before .worst-at .ensures in
-    let is = rw (as-is _ (c .before .before .limit-of-arg .given), as-is _ (c .before .limit-of-arg2 .given), longest,
-        c .before .before .before .before .average-at .ensures) at (c .limit-of .ensures) in
-    let limit = as-is (c .limit-of .result) (c .limit-of .ok) ∙ is in
-    let few = s .pre .0 .0 .few-levels in (
+    let t = in-loop .before .loop in
+    let worked = c .before .before .before in
+    let longest = worked .before .before .before .worst-at .ensures in
+    let is = rw (
+      as-is _ (worked .before .before .limit-of-arg .given),
+      as-is _ (worked .before .limit-of-arg2 .given),
+      longest,
+      worked .before .before .before .before .average-at .ensures,
+    ) at (worked .limit-of .ensures) in
+    let limit = as-is (worked .limit-of .result) (worked .limit-of .ok) ∙ is in
+    let done = c .before .bounds-of in
+    let few = s .pre .present .few-levels in
+    let inside = s .pre .inside in
+    let room = s .pre .bounds-room in (
       search needs,
       search needs,
       search needs,
       search needs,
-      tab-more _ _ 0 (t .q) (t .q) (omega arith) (omega arith) (t .inv .1) limit (t .inv .4),
-      tab-more _ _ (a .from) (a .from + t .q) (t .q) (omega arith) (omega arith) (t .inv .2) limit (t .inv .5),
-      tab-more _ _ (a .from) (a .from + t .q) (t .q) (omega arith) (omega arith) (t .inv .3) longest (t .inv .6),
+      done .kept .1 .1 .1 .1 .1 .0 ∙ t .inv .4,
+      tab-more _ _ 0 (t .q) (t .q) (omega arith) (omega arith) (t .inv .1) limit (t .inv .5),
+      tab-more _ _ (a .from) (a .from + t .q) (t .q) (omega (arith, s .pre .limits-room)) (omega arith) (t .inv .2) limit (t .inv .6),
+      tab-more _ _ (a .from) (a .from + t .q) (t .q) (omega (arith, s .pre .worst-room)) (omega arith) (t .inv .3) longest (t .inv .7),
+      cat-more _ 16 (λ p. ap suc (length-tab _ 15)) _ (a .from * 16) ((a .from + t .q) * 16) (t .q) (omega arith) (omega arith) (t .inv .8)
+          (done .ensures ∙ ap (splice (t .bounds) ((a .from + t .q) * 16)) (bounds-same limit longest (λ k h. kept in-loop k))),
     )
 
 same-length : tie.Need-same-length Inv-loop μ-loop
@@ -109,14 +158,21 @@ same-length c = search needs
 same-length-2 : tie.Need-same-length-2 Inv-loop μ-loop
 same-length-2 c = search needs
 
+same-length-3 : tie.Need-same-length-3 Inv-loop μ-loop
+same-length-3 c = search needs
+
 returns : tie.Need-returns Inv-loop μ-loop
 unfolding eight
 returns c =
     let a = c .before .before .before .before .args in
-    let t = c .before .loop in (
-      cat-done _ _ 0 (t .q) (a .levels) (omega arith) (t .inv .4),
-      (cat-done _ _ (a .from) (t .q) (a .levels) (omega arith) (t .inv .5), cat-done _ _ (a .from) (t .q) (a .levels) (omega arith) (t .inv .6)),
-    )
+    let t = c .before .loop in
+    let all : t .q ≡ a .levels = omega arith in
+    record {
+      row-is = cat-done _ _ 0 (t .q) (a .levels) all (t .inv .5);
+      limits-are = cat-done _ _ (a .from) (t .q) (a .levels) all (t .inv .6);
+      worst-is = cat-done _ _ (a .from) (t .q) (a .levels) all (t .inv .7);
+      bounds-are = cat-done _ _ (a .from * 16) (t .q) (a .levels) all (t .inv .8);
+    }
 
 pub work-row-spec : {M : Type 1} → statement M
 work-row-spec =
@@ -139,9 +195,12 @@ work-row-spec =
     add-worst
     mul-worst
     slice-write-worst
+    add-bounds-of
+    bounds-of-requires
     add-q
     loop-less
     loop-again
     same-length
     same-length-2
+    same-length-3
     returns)

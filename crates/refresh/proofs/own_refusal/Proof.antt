@@ -17,15 +17,15 @@ use Rattle.refresh.proofs.own_refusal.Statement.{statement}
 use Rattle.refresh.proofs.own_refusal.Tie as tie
 
 -- the trace is not refused as a whole
-whole : (c : tie.Else1) → First (14 when Trace (now (c .before .before .before .before .args .trace)) ∷ []) 0
+whole : (c : tie.Else1) → First (14 when Trace (now (c .before .before .before .args .trace)) ∷ []) 0
 whole c = rw (c .if1 .left) at (c .before .trace-refusal .ensures)
 
 -- none of its records is at fault
-rest : (c : tie.Else2) (F : Profile) (k : ℕ) → let x = c .before .before .before .before .before .before .before .before .args in
+rest : (c : tie.Else2) (F : Profile) (k : ℕ) → let x = c .before .before .before .before .before .before .args in
     Has F (x .n) (x .levels) (now (x .worst)) → First (room-grounds (x .needed) (x .room)) k → First (own F (now (x .trace)) (x .needed) (x .room)) k
 rest c F k has r =
-    let x = c .before .before .before .before .before .before .before .before .args in
-    after-trace F (now (x .trace)) (x .needed) (x .room) k (whole (c .before .before .before .before))
+    let x = c .before .before .before .before .before .before .args in
+    after-trace F (now (x .trace)) (x .needed) (x .room) k (whole (c .before .before .before))
     (after-faults F (now (x .trace)) (x .needed) (x .room) k (c .before .pass .ensures .number F has) (c .if2 .left) r)
 
 trace-refusal-requires : tie.Need-trace-refusal-requires
@@ -33,37 +33,37 @@ trace-refusal-requires c κs = search needs
 
 returns : tie.Need-returns
 returns c =
-    let x = c .before .before .before .before .args in record {
+    let x = c .before .before .before .args in record {
       number = λ F has.
           first-stops (14 when Trace (now (x .trace)) ∷ []) (rest-grounds F (now (x .trace)) (x .needed) (x .room)) _
           (c .before .trace-refusal .ensures) (c .if1 .taken);
-      tallied = λ none. absurd (c .if1 .taken none);
+      weighs = λ none. absurd (c .if1 .taken none);
     }
 
 pass-requires : tie.Need-pass-requires
 pass-requires c κs =
-    let p = c .before .before .before .before .before .before in
-    ((p .pre .0, p .pre .1, p .pre .2), (few-records (now (p .args .trace)) (whole (c .before .before)), p .pre .3))
+    let p = c .before .before .before .before in
+    (p .pre .0, p .pre .1, few-records (now (p .args .trace)) (whole (c .before)), p .pre .2)
 
 returns-2 : tie.Need-returns-2
 returns-2 c =
-    let x = c .before .before .before .before .before .before .before .before .args in record {
+    let x = c .before .before .before .before .before .before .args in record {
       number = λ F has.
-          after-trace F (now (x .trace)) (x .needed) (x .room) _ (whole (c .before .before .before .before))
+          after-trace F (now (x .trace)) (x .needed) (x .room) _ (whole (c .before .before .before))
           (first-stops (faults F (now (x .trace))) (room-grounds (x .needed) (x .room)) _ (c .before .pass .ensures .number F has) (c .if2 .taken));
-      tallied = λ none. absurd (c .if2 .taken none);
+      weighs = λ none. absurd (c .if2 .taken none);
     }
 
 returns-3 : tie.Need-returns-3
 returns-3 c = record {
   number = λ F has. rest (c .before) F 17 has (inl (inl (c .if3 .taken), refl));
-  tallied = λ none. absurd (omega arith);
+  weighs = λ none. absurd (omega arith);
 }
 
 returns-4 : tie.Need-returns-4
 returns-4 c = record {
   number = λ F has. rest (c .before) F 0 has (inr (⊎-elim (λ h. omega arith) (λ x. x), refl));
-  tallied = λ none. c .before .before .pass .ensures .tallied (c .before .if2 .left);
+  weighs = λ none. c .before .before .pass .ensures .weighs (c .before .if2 .left);
 }
 
 pub own-refusal-spec : {M : Type 1} → statement M

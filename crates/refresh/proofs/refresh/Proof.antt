@@ -27,7 +27,7 @@ refresh-accepted-requires c κs =
     let r = c .before .before .before .before .checked in
     let none = c .before .if1 .left in
     let found = r .ensures .accepted none in
-    (rw none at (r .ensures .number), (found .n, found .levels, found .cycle))
+    (rw none at (r .ensures .number), found .n, found .levels)
 
 same-length : tie.Need-same-length
 same-length c = search needs

@@ -1,84 +1,103 @@
 -- Assumes nothing.
+use Prim.Native.Nat.{ℕ, _≤_}
+use mathlib.Core.Path.{refl}
+use mathlib.Core.List.{List}
 use native.Mathlib.Omega.{arith}
 use denote.Ref.{now}
+use lib.ListN.{length, length-replicate}
 use borrow.Author.Needs.{needs}
-use Rattle.pack.proofs.Sizes.{few-entries}
-use Rattle.refresh.proofs.Unpacked.{accepted-records, unpacked}
+use borrow.Author.Tests.{ne-eqb}
+use Rattle.rules.specs.Image.{profile}
+use Rattle.rules.specs.Refusals.{Ground, First}
+use Rattle.fields.proofs.Bytes.{Bytes}
+use Rattle.image.specs.Reading.{HasRecords}
+use Rattle.measure.proofs.Tallies.{none-tallied}
+use Rattle.refresh.specs.Refresh.{own}
+use Rattle.refresh.proofs.Grounds.{gives-none, enough, after-image}
+use Rattle.refresh.proofs.Records.{accepted-records, copies, new-written}
+use Rattle.refresh.proofs.Worst.{has}
 use Rattle.refresh.proofs.refresh_accepted.Statement.{statement}
 use Rattle.refresh.proofs.refresh_accepted.Tie as tie
 
-slice-aggregate-unpack : tie.Need-slice-aggregate-unpack
-slice-aggregate-unpack c = search needs
+records : (c : tie.Start) → HasRecords (now (c .args .image)) (c .args .levels) (c .args .n)
+records c = accepted-records (now (c .args .image)) (c .args .n) (c .args .levels) (c .pre .0) (c .pre .1) (c .pre .2)
 
-slice-aggregate-unpack-2 : tie.Need-slice-aggregate-unpack-2
-slice-aggregate-unpack-2 c = search needs
+worst-times-requires : tie.Need-worst-times-requires
+worst-times-requires c κs = (records (c .before .before .before .before), length-replicate {A = ℕ} 512 0)
 
-slice-aggregate-unpack-3 : tie.Need-slice-aggregate-unpack-3
-slice-aggregate-unpack-3 c = search needs
+own-refusal-requires : tie.Need-own-refusal-requires
+own-refusal-requires c κs =
+    let start = c .before .before .before .before .before .before .before in
+    (records start .few-actions, records start .few-levels, none-tallied (now (start .args .trace)))
 
-slice-aggregate-unpack-4 : tie.Need-slice-aggregate-unpack-4
-slice-aggregate-unpack-4 c = search needs
+-- ---- past the pass over the trace
 
-unpack-requires : tie.Need-unpack-requires
-unpack-requires c κs =
-    let p = c .before .before .before .before .before .before .before in
-    let n = p .args .n in
-    let L = p .args .levels in
-    let h = accepted-records (now (p .args .image)) n L (p .pre .0) (p .pre .1 .0) (p .pre .1 .1) in
-    let few = few-entries n L (h .few-actions) (h .few-levels) in
-    (h, ((h .few-actions, h .few-actions), (few, few)))
+abbrev past : tie.After-own-refusal → tie.Start
+past c = c .before .before .before .before .before .before .before .before
 
-slice-aggregate-refresh-tables : tie.Need-slice-aggregate-refresh-tables
-slice-aggregate-refresh-tables c = search needs
+-- the call's own grounds
+abbrev grounds : tie.Start → List Ground
+grounds c = own (profile (now (c .args .image))) (now (c .args .trace)) (length (now (c .args .image))) (length (now (c .args .out)))
 
-slice-aggregate-refresh-tables-2 : tie.Need-slice-aggregate-refresh-tables-2
-slice-aggregate-refresh-tables-2 c = search needs
+numbered : (c : tie.After-own-refusal) → First (grounds (past c)) (c .own-refusal .result)
+numbered c =
+    let start = past c in
+    let s = now (start .args .image) in
+    c .own-refusal .ensures .number (profile s) (has s _ _ (start .pre .1) (start .pre .2) (c .before .before .before .worst-times .ensures))
 
-slice-aggregate-refresh-tables-3 : tie.Need-slice-aggregate-refresh-tables-3
-slice-aggregate-refresh-tables-3 c = search needs
+none : (c : tie.Else1) → First (grounds (past (c .before))) 0
+none c = gives-none (grounds (past (c .before))) (c .if1 .left) (numbered (c .before))
 
-slice-aggregate-refresh-tables-4 : tie.Need-slice-aggregate-refresh-tables-4
-slice-aggregate-refresh-tables-4 c = search needs
+-- there is room for the new image
+room : (c : tie.Else1) → let x = past (c .before) .args in length (now (x .image)) ≤ length (now (x .out))
+room c = let x = past (c .before) .args in enough (profile (now (x .image))) (now (x .trace)) _ _ (none c)
 
-refresh-tables-requires : tie.Need-refresh-tables-requires
-refresh-tables-requires c κs =
-    let u = c .before .before .before .before .before .before .before .before .before in
-    let p = u .before .before .before .before .before .before .before .before in
-    let n = p .args .n in
-    let L = p .args .levels in
-    let h = accepted-records (now (p .args .image)) n L (p .pre .0) (p .pre .1 .0) (p .pre .1 .1) in
-    let few = few-entries n L (h .few-actions) (h .few-levels) in
-    let e = u .unpack .ensures in
-    unpacked (now (p .args .image)) n L (p .args .cycle) _ _ _ _ (p .pre .0) (p .pre .1 .0) (p .pre .1 .1) (p .pre .1 .2)
-    (record {
-      few-actions = h .few-actions;
-      few-levels = h .few-levels;
-      masks-room = omega (arith, h .few-actions);
-      deadlines-room = omega (arith, h .few-actions);
-      averages-room = omega arith;
-      worst-room = omega arith;
-    })
-    (e .0) (e .1 .0) (e .1 .1 .0) (e .1 .1 .1)
+returns : tie.Need-returns
+returns c =
+    let start = past (c .before) in
+    let x = start .args in
+    let some = ne-eqb (c .before .own-refusal .result) 0 (c .if1 .taken) in
+    record {
+      given = after-image (now (x .image)) (now (x .trace)) (now (x .out)) _ (start .pre .0) (numbered (c .before));
+      written = rw some;
+      count = rw some;
+    }
+
+copy-front-requires : tie.Need-copy-front-requires
+copy-front-requires c κs = (search needs, omega (arith, room (c .before)))
+
+renew-requires : tie.Need-renew-requires
+renew-requires c κs =
+    let e = c .before .before .before .before .before .before in
+    (records (past (e .before)), omega (arith, room e))
 
 same-length : tie.Need-same-length
 same-length c = search needs
 
-returns : tie.Need-returns
-returns c = search needs
+returns-2 : tie.Need-returns-2
+returns-2 c =
+    let e = c .before .before .before .before .before .before .before .before .before in
+    let start = past (e .before) in
+    let x = start .args in
+    let s = now (x .image) in
+    let bytes : Bytes s = λ k. e .before .before .before .before .before .before .before .before .shared-slice-known .given k .fits in
+    let copied = c .before .before .before .before .before .before .before .copy-front .ensures in
+    record {
+      given = after-image s (now (x .trace)) (now (x .out)) 0 (start .pre .0) (none e);
+      written = new-written s bytes (start .pre .0) _ copied (now (x .trace)) (x .n) (start .pre .1)
+          (c .before .before .renew .ensures (now (x .trace)) (e .before .own-refusal .ensures .weighs (e .if1 .left))
+          (copies s bytes (start .pre .0) _ copied (x .n) (start .pre .1)));
+      count = refl;
+    }
 
 pub refresh-accepted-spec : {M : Type 1} → statement M
 refresh-accepted-spec =
     tie.close
     (tie.spec
-    slice-aggregate-unpack
-    slice-aggregate-unpack-2
-    slice-aggregate-unpack-3
-    slice-aggregate-unpack-4
-    unpack-requires
-    slice-aggregate-refresh-tables
-    slice-aggregate-refresh-tables-2
-    slice-aggregate-refresh-tables-3
-    slice-aggregate-refresh-tables-4
-    refresh-tables-requires
+    worst-times-requires
+    own-refusal-requires
+    returns
+    copy-front-requires
+    renew-requires
     same-length
-    returns)
+    returns-2)

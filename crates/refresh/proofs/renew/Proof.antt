@@ -1,38 +1,41 @@
--- The loop has renewed the rows of the actions below a. Assumes nothing.
-use Prim.Native.Nat.{_-_, _≤_}
-use mathlib.Core.Path.{_≡_}
+-- The loop has renewed the records of the actions below a. Assumes nothing.
+use Prim.Native.Nat.{ℕ, _-_, _≤_, _<_}
+use mathlib.Core.Path.{_≡_, ap}
+use mathlib.Core.List.{List}
 use native.Mathlib.Omega.{arith}
 use lib.ListN.{length}
 use borrow.Author.Needs.{needs}
-use Rattle.fields.proofs.Strides.{stride-fits}
-use Rattle.refresh.specs.Refresh.{Renews}
-use Rattle.refresh.proofs.Tables.{renews-none, renews-more}
+use Rattle.rules.specs.Words.{cat}
+use Rattle.rules.specs.Image.{header-bytes, levels, record-at, profile, record-image}
+use Rattle.rules.specs.Refresh.{refreshed}
+use Rattle.fields.specs.Fields.{splice}
+use Rattle.fields.proofs.Cats.{cat-none, cat-done}
+use Rattle.image.proofs.Reading.{has-record}
+use Rattle.measure.specs.Measure.{Weighs}
+use Rattle.refresh.specs.Refresh.{Copied}
+use Rattle.refresh.proofs.Records.{record-more}
 use Rattle.refresh.proofs.renew.Statement.{statement}
 use Rattle.refresh.proofs.renew.Tie as tie
 
 abbrev Inv-loop : tie.InvT-loop
-Inv-loop averages₀ n levels sums counts a₀ averages a =
-    (a ≤ n) × (length averages ≡ length averages₀) × Renews averages₀ a levels sums counts averages
+Inv-loop image n levels tallies out₀ a₀ out a =
+    (a ≤ n)
+    × (length out ≡ length out₀)
+    × ((trace : List ℕ) → Weighs trace tallies → ((b : ℕ) → b < n → Copied image out₀ b)
+    → out ≡ splice out₀ header-bytes (cat (record-image (refreshed (profile image) trace)) a))
 
 abbrev μ-loop : tie.MeasureT-loop
-μ-loop averages₀ n levels sums counts a₀ averages a = n - a
+μ-loop image n levels tallies out₀ a₀ out a = n - a
 
 loop-holds : tie.Need-loop-holds Inv-loop μ-loop
-loop-holds c = (search needs, search needs, renews-none _ _ _ _)
+loop-holds c = (search needs, search needs, λ trace w copied. cat-none _ _ _)
 
-new-row-requires : tie.Need-new-row-requires Inv-loop μ-loop
-new-row-requires c κs =
-    let p = c .before .before .before .before in
-    let a = c .before .before .loop .a in
-    let fits = stride-fits a (p .args .n) (p .args .levels) (omega arith) in
-    (omega arith, p .pre .1, omega arith, p .pre .3 a (omega arith))
-
-put-row-requires : tie.Need-put-row-requires Inv-loop μ-loop
-put-row-requires c κs =
-    let t = c .before .before .before .before .before in
-    let p = t .before .before in
-    let fits = stride-fits (t .loop .a) (p .args .n) (p .args .levels) (omega arith) in
-    (omega arith, p .pre .1, omega arith)
+put-averages-requires : tie.Need-put-averages-requires Inv-loop μ-loop
+put-averages-requires c κs =
+    let turn = c .before .before in
+    let start = turn .before .before .before in
+    let has = has-record (turn .loop .a) (start .pre .0) (omega arith) in
+    (has, omega (arith, has .within))
 
 add-a : tie.Need-add-a Inv-loop μ-loop
 add-a c = search needs
@@ -42,13 +45,17 @@ loop-less c = search needs
 
 loop-again : tie.Need-loop-again Inv-loop μ-loop
 loop-again c =
-    let new = c .before .before .before .before .before in
-    let t = new .before .before .before in
-    let x = t .before .before .args in
-    let fits = stride-fits (t .loop .a) (x .n) (x .levels) (omega arith) in (
+    let turn = c .before .before .before .before .before in
+    let a = turn .loop .a in
+    let start = turn .before .before .before in
+    let s = start .args .image .now in
+    let has = has-record a (start .pre .0) (omega arith) in
+    let at : record-at (start .args .levels) a ≡ record-at (levels s) a = ap (λ (l : ℕ). record-at l a) (has .said) in (
       search needs,
       search needs,
-      renews-more _ (t .loop .a) (x .levels) _ _ (new .new-row .result) (omega arith) (t .loop .inv .2) (new .new-row .ensures) (c .before .before .put-row .ensures),
+      λ trace w copied.
+          record-more s trace a (omega (arith, at, has .within)) (copied a (omega arith)) (turn .loop .inv .2 trace w copied)
+          (c .before .before .put-averages .ensures trace w),
     )
 
 same-length : tie.Need-same-length Inv-loop μ-loop
@@ -56,9 +63,8 @@ same-length c = search needs
 
 returns : tie.Need-returns Inv-loop μ-loop
 returns c =
-    let p = c .before .loop in
-    let all : p .a ≡ c .before .before .before .args .n = omega arith in
-    rw all at (p .inv .2)
+    let was = c .before .loop in
+    λ trace w copied. cat-done _ _ _ (was .a) _ (omega arith) (was .inv .2 trace w copied)
 
 pub renew-spec : {M : Type 1} → statement M
 renew-spec =
@@ -67,8 +73,7 @@ renew-spec =
     Inv-loop
     μ-loop
     loop-holds
-    new-row-requires
-    put-row-requires
+    put-averages-requires
     add-a
     loop-less
     loop-again

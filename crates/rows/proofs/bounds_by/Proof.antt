@@ -16,8 +16,8 @@ use Rattle.fields.proofs.Cats.{cat-none, cat-done}
 use Rattle.fields.proofs.Tabs.{tab-more}
 use Rattle.rows.specs.Bounds.{bound-by}
 use Rattle.rows.proofs.Signed.{as-is}
-use Rattle.rows.proofs.bounds_at.Statement.{statement}
-use Rattle.rows.proofs.bounds_at.Tie as tie
+use Rattle.rows.proofs.bounds_by.Statement.{statement}
+use Rattle.rows.proofs.bounds_by.Tie as tie
 
 abbrev Inv-loop : tie.InvT-loop
 Inv-loop limit worst out₀ at after k₀ out k =
@@ -92,8 +92,8 @@ returns c =
     rw limit at (splice-join (a .out .now) (a .at) (toZ w32 (ofZ w32 (a .limit)) ∷ []) _ (a .at + 1) (omega arith) (omega arith) first
     (cat-done _ _ (a .at + 1) (t .k) 15 (omega arith) (t .inv .2)))
 
-pub bounds-at-spec : {M : Type 1} → statement M
-bounds-at-spec =
+pub bounds-by-spec : {M : Type 1} → statement M
+bounds-by-spec =
     tie.close
     (tie.spec
     Inv-loop

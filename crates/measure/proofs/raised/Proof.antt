@@ -1,0 +1,21 @@
+-- `measure::raised` meets its contract. Assumes nothing.
+use mathlib.Core.Path.{_∙_}
+use borrow.Author.Needs.{needs}
+use Rattle.rules.specs.Refresh.{measured, new-average}
+use Rattle.measure.proofs.Averages.{raised-at}
+use Rattle.measure.proofs.raised.Statement.{statement}
+use Rattle.measure.proofs.raised.Tie as tie
+
+averaged-requires : tie.Need-averaged-requires
+averaged-requires c κs = search needs
+
+greater-requires : tie.Need-greater-requires
+greater-requires c κs = search needs
+
+returns : tie.Need-returns
+unfolding new-average
+returns c = λ F trace a q old is below.
+    c .greater .ensures ∙ rw (below, c .before .averaged .ensures F trace a q old is) (raised-at (measured F trace a) q)
+
+pub raised-spec : {M : Type 1} → statement M
+raised-spec = tie.close (tie.spec averaged-requires greater-requires returns)
