@@ -213,15 +213,24 @@ impl Calls for C {
 
     fn start(&self, n: u32, levels: u32) -> (Run, u8) {
         let mut run = Run::default();
-        let number = unsafe { (self.start)(&mut run, n, levels) };
-        (run, number as u8)
+        let number = self.start_lent(&mut run, n, levels);
+        (run, number)
+    }
+
+    fn start_lent(&self, run: &mut Run, n: u32, levels: u32) -> u8 {
+        unsafe { (self.start)(run, n, levels) as u8 }
     }
 
     fn ask(&self, mut run: Run, order: &[u8], limits: &[i32], coasts: &[i32]) -> (Run, Answer<Asked>) {
+        let answer = self.ask_lent(&mut run, order, limits, coasts);
+        (run, answer)
+    }
+
+    fn ask_lent(&self, run: &mut Run, order: &[u8], limits: &[i32], coasts: &[i32]) -> Answer<Asked> {
         let mut asked = Asked::default();
         let number = unsafe {
             (self.ask)(
-                &mut run,
+                run,
                 order.as_ptr(),
                 order.len(),
                 limits.as_ptr(),
@@ -231,7 +240,9 @@ impl Calls for C {
                 &mut asked,
             )
         };
-        (run, answer(number, asked))
+        // Field by field: what was written in parts is slow to load as a whole.
+        let Asked { action, level, decided, late } = asked;
+        answer(number, Asked { action, level, decided, late })
     }
 
     fn report(&self, mut run: Run, clock: u32, worst: &[u32]) -> (Run, u8) {

@@ -49,7 +49,7 @@ pub struct Counts {
     pub cycle: u32,
 }
 
-/// The run record.
+/// The run record, laid out as in `include/nyokazerubi.h` and in `c/fast.h`.
 #[derive(Clone, Copy, Debug, Default, PartialEq, Eq)]
 #[repr(C)]
 pub struct Run {
@@ -166,8 +166,26 @@ pub trait Calls {
     /// The end of the running action; the number of refusal, 0 for none.
     fn report(&self, run: Run, clock: u32, worst: &[u32]) -> (Run, u8);
 
-    /// The same on the host's own record.
-    fn report_lent(&self, run: &mut Run, clock: u32, worst: &[u32]) -> u8;
+    /// A start in the host's own record.
+    fn start_lent(&self, run: &mut Run, n: u32, levels: u32) -> u8 {
+        let (next, number) = self.start(n, levels);
+        *run = next;
+        number
+    }
+
+    /// Asking on the host's own record.
+    fn ask_lent(&self, run: &mut Run, order: &[u8], limits: &[i32], coasts: &[i32]) -> Answer<Asked> {
+        let (next, answer) = self.ask(*run, order, limits, coasts);
+        *run = next;
+        answer
+    }
+
+    /// A report on the host's own record.
+    fn report_lent(&self, run: &mut Run, clock: u32, worst: &[u32]) -> u8 {
+        let (next, number) = self.report(*run, clock, worst);
+        *run = next;
+        number
+    }
 
     /// A whole cycle over given durations (n by L, by position).
     fn dry_run(
@@ -180,17 +198,46 @@ pub trait Calls {
         decided: &mut [u8],
     ) -> Answer<Cycle>;
 
+    /// A whole cycle from an image: its actions in order, and what the dry run over its plan gives. Answers n too.
+    fn dry_frame(
+        &self,
+        image: &[u8],
+        durations: &[u32],
+        order: &mut [u8],
+        given: &mut [u8],
+        decided: &mut [u8],
+    ) -> Answer<(u32, Cycle)> {
+        const CELLS: usize = ACTIONS * LEVELS;
+        let (mut line, mut limits) = ([0; ACTIONS], [0; CELLS]);
+        let (mut worst, mut coasts) = ([0; CELLS], [0; CELLS * COAST]);
+        let Counts { n, levels, .. } = self.plan(image, &mut line, &mut limits, &mut worst, &mut coasts)?;
+        let line = &line[..n as usize];
+        if order.len() < line.len() {
+            return Err(no::ROOM);
+        }
+        let tables = Tables { limits: &limits, worst: &worst, coasts: &coasts };
+        let cycle = self.dry_run(n, levels, tables, durations, given, decided)?;
+        order[..line.len()].copy_from_slice(line);
+        Ok((n, cycle))
+    }
+
     /// The speed reading of positions `first` to `last` at a level and a time.
     fn reading(&self, image: &[u8], first: u32, last: u32, level: u32, time: u32) -> Reading;
+
+    /// Whether that reading is a ratio of at most 1; no where it is spent or refused.
+    fn on_time(&self, image: &[u8], first: u32, last: u32, level: u32, time: u32) -> bool {
+        matches!(self.reading(image, first, last, level, time), Reading::Ratio(ratio) if ratio <= 1.0)
+    }
 
     /// The image with averages from a trace; answers its bytes.
     fn refresh(&self, image: &[u8], trace: &[u8], fresh: &mut [u8]) -> Answer<usize>;
 }
 
-/// Makes a type of a module that has the calls as functions.
+/// Makes a type of a module that has the calls as functions, and of the calls that the module has in a way of its own.
 macro_rules! calls_of_module {
-    ($name:ident, $module:ident) => {
+    ($name:ident, $module:ident, { $($own:item)* }) => {
         impl Calls for $name {
+            $($own)*
             fn check(&self, image: &[u8]) -> Answer<Counts> {
                 $module::check(image)
             }
@@ -240,9 +287,6 @@ macro_rules! calls_of_module {
             fn report(&self, run: Run, clock: u32, worst: &[u32]) -> (Run, u8) {
                 $module::report(run, clock, worst)
             }
-            fn report_lent(&self, run: &mut Run, clock: u32, worst: &[u32]) -> u8 {
-                $module::report_lent(run, clock, worst)
-            }
             fn dry_run(
                 &self,
                 n: u32,
@@ -269,9 +313,20 @@ use crate::{fast, reference};
 /// The calls by their definitions.
 #[derive(Clone, Copy, Debug)]
 pub struct Reference;
-calls_of_module!(Reference, reference);
+calls_of_module!(Reference, reference, {
+    fn on_time(&self, image: &[u8], first: u32, last: u32, level: u32, time: u32) -> bool {
+        reference::on_time(image, first, last, level, time)
+    }
+});
 
 /// The calls written for speed.
 #[derive(Clone, Copy, Debug)]
 pub struct Fast;
-calls_of_module!(Fast, fast);
+calls_of_module!(Fast, fast, {
+    fn ask_lent(&self, run: &mut Run, order: &[u8], limits: &[i32], coasts: &[i32]) -> Answer<Asked> {
+        fast::ask_lent(run, order, limits, coasts)
+    }
+    fn report_lent(&self, run: &mut Run, clock: u32, worst: &[u32]) -> u8 {
+        fast::report_lent(run, clock, worst)
+    }
+});

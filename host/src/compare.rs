@@ -14,23 +14,29 @@ pub struct Tally {
 }
 
 /// The numbers that each call can give.
-pub const NUMBERS: [(&str, &[u8]); 12] = [
+pub const NUMBERS: [(&str, &[u8]); 16] = [
     ("check", &[0, 1, 2, 3, 4, 5, 6, 7, 8, 9]),
     ("read", &[0, 1, 2, 3, 4, 5, 6, 7, 8, 9, 17]),
     ("write", &[0, 3, 6, 7, 8, 9, 17]),
     ("lookup", &[0, 1, 2, 3, 4, 5, 6, 7, 8, 9, 15]),
     ("plan", &[0, 1, 2, 3, 4, 5, 6, 7, 8, 9, 17]),
     ("start", &[0, 3]),
+    ("start lent", &[0, 3]),
     ("ask", &[0, 10, 11, 17]),
+    ("ask lent", &[0, 10, 11, 17]),
     ("report", &[0, 11, 12, 13, 17]),
     ("report lent", &[0, 11, 12, 13, 17]),
     ("dry run", &[0, 3, 16, 17]),
+    ("dry frame", &[0, 1, 2, 3, 4, 5, 6, 7, 8, 9, 16, 17]),
+    ("on time", &[0]),
     ("reading", &[0, 1, 2, 3, 4, 5, 6, 7, 8, 9, 13, 18]),
     ("refresh", &[0, 1, 2, 3, 4, 5, 6, 7, 8, 9, 14, 15, 16, 17]),
 ];
 
 /// The events that a good set of inputs meets, beside every grant from 1 to 16.
-pub const EVENTS: [&str; 14] = [
+pub const EVENTS: [&str; 16] = [
+    "on time",
+    "not on time",
     "spent",
     "ratio",
     "late",
@@ -59,6 +65,16 @@ impl Tally {
     /// How often a call gave a number.
     pub fn met(&self, call: &str, number: u8) -> u64 {
         self.numbers.iter().filter(|((name, no), _)| *name == call && *no == number).map(|(_, count)| count).sum()
+    }
+
+    /// How often any call gave a number.
+    pub fn met_at_all(&self, number: u8) -> u64 {
+        self.numbers.iter().filter(|((_, no), _)| *no == number).map(|(_, count)| count).sum()
+    }
+
+    /// The inputs that were compared, one to a call.
+    pub fn inputs(&self) -> u64 {
+        self.numbers.values().sum()
     }
 
     /// What is in [`NUMBERS`] or [`EVENTS`] and was not met, and what was met and is not there.
@@ -94,7 +110,9 @@ impl Display for Tally {
             writeln!(out)?;
         }
         let events: Vec<String> = self.events.iter().map(|(event, count)| format!("{event} {count}")).collect();
-        writeln!(out, "{}", events.join(", "))
+        writeln!(out, "{}", events.join(", "))?;
+        let numbers: Vec<String> = (0..=18).map(|no| format!("{no}\u{d7}{}", self.met_at_all(no))).collect();
+        writeln!(out, "{} inputs: {}", self.inputs(), numbers.join(" "))
     }
 }
 
@@ -162,6 +180,7 @@ impl Pair<'_> {
         self.plan(&image, counts)?;
         self.reading(&image, counts)?;
         self.refresh(&image, counts)?;
+        self.frame(&image, counts)?;
         self.write(size)?;
         self.start()?;
         self.single_calls()?;
@@ -243,6 +262,11 @@ impl Pair<'_> {
         }
         let number = if let Reading::Refused(number) = reading { number } else { 0 };
         self.tally.number("reading", number);
+        let on_time = self.same("on time", &|| format!("{} {first} {last} {level} {time}", hex(image)), |calls| {
+            calls.on_time(image, first, last, level, time)
+        })?;
+        self.tally.number("on time", 0);
+        self.tally.event(if on_time { "on time" } else { "not on time" });
         Ok(())
     }
 
@@ -267,6 +291,27 @@ impl Pair<'_> {
             (answer, lent)
         })?;
         self.tally.number("refresh", number_of(&result.0));
+        Ok(())
+    }
+
+    /// A whole cycle from an image.
+    fn frame(&mut self, image: &[u8], counts: Option<Counts>) -> Result<(), String> {
+        let (n, levels) = counts.map_or((3, 2), |counts| (counts.n as usize, counts.levels as usize));
+        let pace = self.draw.pick(&PACES);
+        let longest = self.draw.pick(&[0, 3, 40, 1000, 16_777_215]);
+        let mut durations = self.draw.durations(&vec![longest; n * levels], pace);
+        durations.resize(self.draw.room(n * levels), 0);
+        if let (true, Some(duration)) = (self.draw.once_in(16), durations.last_mut()) {
+            *duration = self.draw.pick(&[16_777_215, 16_777_216, u32::MAX]);
+        }
+        let rooms = [n; 3].map(|needed| self.draw.room(needed));
+        let [order, given, decided]: [Vec<u8>; 3] = rooms.map(|room| junk(&mut self.draw, room));
+        let result = self.same("dry frame", &|| format!("{} {durations:?} {rooms:?}", hex(image)), |calls| {
+            let mut lent = (order.clone(), given.clone(), decided.clone());
+            let answer = calls.dry_frame(image, &durations, &mut lent.0, &mut lent.1, &mut lent.2);
+            (answer, lent)
+        })?;
+        self.tally.number("dry frame", number_of(&result.0));
         Ok(())
     }
 
@@ -296,6 +341,13 @@ impl Pair<'_> {
         let (n, levels) = self.draw.shape();
         let result = self.same("start", &|| format!("{n} {levels}"), |calls| calls.start(n, levels))?;
         self.tally.number("start", result.1);
+        let before = self.draw.run(3, 2);
+        let result = self.same("start lent", &|| format!("{before:?} {n} {levels}"), |calls| {
+            let mut lent = before;
+            let number = calls.start_lent(&mut lent, n, levels);
+            (lent, number)
+        })?;
+        self.tally.number("start lent", result.1);
         Ok(())
     }
 
@@ -325,6 +377,12 @@ impl Pair<'_> {
             let tables = || format!("{run:?} {order:?} {limits:?} {coasts:?}");
             let asked = self.same("ask", &tables, |calls| calls.ask(run, &order, &limits, &coasts))?;
             self.note_asked(&asked);
+            let asked = self.same("ask lent", &tables, |calls| {
+                let mut lent = run;
+                let answer = calls.ask_lent(&mut lent, &order, &limits, &coasts);
+                (lent, answer)
+            })?;
+            self.tally.number("ask lent", number_of(&asked.1));
             let input = || format!("{run:?} {clock} {longest} {}", worst.len());
             let reported = self.same("report", &input, |calls| calls.report(run, clock, &worst))?;
             self.tally.number("report", reported.1);
@@ -412,6 +470,12 @@ impl Pair<'_> {
                 let input = || format!("{run:?} {order:?} {limits:?} {coasts:?}");
                 let asked = self.same("ask", &input, |calls| calls.ask(run, order, limits, coasts))?;
                 self.note_asked(&asked);
+                let lent = self.same("ask lent", &input, |calls| {
+                    let mut lent = run;
+                    let answer = calls.ask_lent(&mut lent, order, limits, coasts);
+                    (lent, answer)
+                })?;
+                self.tally.number("ask lent", number_of(&lent.1));
                 run = asked.0;
             } else {
                 let cell = (run.position * levels + run.level) as usize;
@@ -423,6 +487,12 @@ impl Pair<'_> {
                 let input = || format!("{run:?} {clock} {worst:?}");
                 let reported = self.same("report", &input, |calls| calls.report(run, clock, worst))?;
                 self.tally.number("report", reported.1);
+                let lent = self.same("report lent", &input, |calls| {
+                    let mut lent = run;
+                    let number = calls.report_lent(&mut lent, clock, worst);
+                    (lent, number)
+                })?;
+                self.tally.number("report lent", lent.1);
                 run = reported.0;
             }
         }

@@ -10,5 +10,5 @@ mod speed;
 pub use image::{check, lookup, lookup_refusal, read, write};
 pub use plan::plan;
 pub use refresh::refresh;
-pub use run::{ask, dry_run, report, report_lent, start};
+pub use run::{ask, ask_lent, dry_run, report, report_lent, start};
 pub use speed::reading;

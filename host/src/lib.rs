@@ -3,6 +3,7 @@
 //!
 //! - [`calls`]: the public calls as a trait, and the values that they hand over.
 //! - [`reference`]: the calls by the document's definitions. Slow, plain, and the judge.
+//! - [`product`]: the product's own calls, linked.
 //! - [`fast`]: the same calls as a good engineer would write them for speed; [`c`] binds the same in C (`c/fast.c`).
 //! - [`text`]: what the two programs print.
 //! - [`draw`]: inputs from a seed; [`compare`]: two implementations side by side over such inputs; [`outside`]: vectors in files.
@@ -13,6 +14,7 @@ pub mod compare;
 pub mod draw;
 pub mod fast;
 pub mod outside;
+pub mod product;
 pub mod reference;
 pub mod text;
 

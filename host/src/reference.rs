@@ -15,5 +15,5 @@ pub use limits::{plan, Planned};
 pub use order::{Follows, Order};
 pub use profile::Profile;
 pub use refresh::refresh;
-pub use run::{ask, asked, dry_run, fields_out, granted, in_range, report, report_lent, start, Bounds};
-pub use speed::reading;
+pub use run::{ask, asked, dry_run, fields_out, granted, in_range, report, start, Bounds};
+pub use speed::{on_time, reading};

@@ -1,10 +1,11 @@
 //! Demand 3 by enumeration: for durations from zero to worst no deadline is missed, every level is that of the manager asked before
-//! the action, and no way of coasting that can't differ decides less often.
+//! the action, and no way of coasting that can't differ decides less often. Of the definitions and of the product.
 
 mod common;
 
 use nyokazerubi_host::calls::{Calls, Cycle, Reference, Tables, COAST};
 use nyokazerubi_host::draw::{Draw, Size, Sketch};
+use nyokazerubi_host::product::Product;
 use nyokazerubi_host::reference::Planned;
 use std::collections::HashMap;
 
@@ -25,6 +26,10 @@ impl Trial {
         let (mut order, mut limits) = (vec![0; n], vec![0; cells]);
         let (mut worst, mut coasts) = (vec![0; cells], vec![0; cells * COAST]);
         Reference.plan(&sketch.image(), &mut order, &mut limits, &mut worst, &mut coasts).ok()?;
+        let mut planned = (vec![9; n], vec![9; cells], vec![9; cells], vec![9; cells * COAST]);
+        let answer = Product.plan(&sketch.image(), &mut planned.0, &mut planned.1, &mut planned.2, &mut planned.3);
+        assert!(answer.is_ok(), "the product's plan of {sketch:?}");
+        assert_eq!(planned, (order, limits.clone(), worst.clone(), coasts.clone()), "the product's plan of {sketch:?}");
         let planned = Planned::of(&common::profile(sketch));
         let by_definition = planned.limits();
         let tables = (limits, worst, coasts);
@@ -74,16 +79,18 @@ impl Trial {
         for i in 0..n {
             table[i * width + levels[i]] = durations[i] as u32;
         }
-        let (mut given, mut decided) = (vec![9; n], vec![9; n]);
-        let tables = Tables { limits: &self.tables.0, worst: &self.tables.1, coasts: &self.tables.2 };
-        let answer = Reference.dry_run(n as u32, width as u32, tables, &table, &mut given, &mut decided);
         let decisions = self.fewest(&clocks);
         let wanted = Cycle { decisions, end: clocks[n] as u32, overrun: false, late: false };
-        assert_eq!(answer, Ok(wanted), "{:?} {durations:?}", self.planned);
-        assert!((0..n).all(|i| given[i] as usize == levels[i]), "{:?} {durations:?}", self.planned);
-        assert!((0..n).all(|i| clocks[i + 1] <= self.planned.deadline[i]), "{:?} {durations:?}", self.planned);
-        assert_eq!(decided.iter().filter(|&&mark| mark == 1).count(), decisions as usize);
-        self.coasts_can_not_differ(&clocks, &decided);
+        for calls in [&Reference as &dyn Calls, &Product] {
+            let (mut given, mut decided) = (vec![9; n], vec![9; n]);
+            let tables = Tables { limits: &self.tables.0, worst: &self.tables.1, coasts: &self.tables.2 };
+            let answer = calls.dry_run(n as u32, width as u32, tables, &table, &mut given, &mut decided);
+            assert_eq!(answer, Ok(wanted), "{:?} {durations:?}", self.planned);
+            assert!((0..n).all(|i| given[i] as usize == levels[i]), "{:?} {durations:?}", self.planned);
+            assert!((0..n).all(|i| clocks[i + 1] <= self.planned.deadline[i]), "{:?} {durations:?}", self.planned);
+            assert_eq!(decided.iter().filter(|&&mark| mark == 1).count(), decisions as usize);
+            self.coasts_can_not_differ(&clocks, &decided);
+        }
         self.cycles += 1;
     }
 

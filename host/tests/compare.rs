@@ -1,9 +1,10 @@
-//! The fast forms equal the definitions on drawn inputs, and these meet every number of refusal.
+//! The product and the fast forms equal the definitions on drawn inputs, and these meet every number of refusal.
 
 mod common;
 
 use nyokazerubi_host::calls::{Calls, Fast, Reference};
-use nyokazerubi_host::compare::compare;
+use nyokazerubi_host::compare::{compare, Tally};
+use nyokazerubi_host::product::Product;
 
 /// Rounds of the tests: NYOKAZERUBI_ROUNDS, or enough for every number to be met.
 fn rounds() -> usize {
@@ -11,10 +12,21 @@ fn rounds() -> usize {
     given.map_or(6000, |rounds| rounds.parse().expect("a number of rounds"))
 }
 
-fn agree(right: &dyn Calls, seed: u64) {
+fn agree(right: &dyn Calls, seed: u64) -> Tally {
     let tally = compare(&Reference, right, seed, rounds()).unwrap_or_else(|difference| panic!("{difference}"));
     println!("{tally}");
     assert_eq!(tally.gaps(), [""; 0], "inputs that were not drawn");
+    tally
+}
+
+/// Every number from 1 to 18 a hundred times and more, in more than a hundred thousand inputs.
+#[test]
+fn product_agrees() {
+    let tally = agree(&Product, 4);
+    assert!(tally.inputs() >= 100_000, "{} inputs", tally.inputs());
+    for number in 1..=18 {
+        assert!(tally.met_at_all(number) >= 100, "{number} was met {} times", tally.met_at_all(number));
+    }
 }
 
 #[test]

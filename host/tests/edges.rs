@@ -1,4 +1,4 @@
-//! Values at the far ends of the ranges, on all three sides.
+//! Values at the far ends of the ranges, on all sides.
 
 mod common;
 

@@ -1,9 +1,10 @@
-//! Loops, what must follow, and refusal 9 against every permitted order.
+//! Loops, what must follow, and refusal 9 against every permitted order, of the definitions and of the product.
 
 mod common;
 
-use nyokazerubi_host::calls::no;
-use nyokazerubi_host::draw::{Draw, Size};
+use nyokazerubi_host::calls::{no, Calls};
+use nyokazerubi_host::draw::{Draw, Size, Sketch};
+use nyokazerubi_host::product::Product;
 use nyokazerubi_host::reference::{Follows, Order, Profile};
 
 /// The place of an action in an order.
@@ -18,6 +19,7 @@ fn confirm(profile: &Profile) -> Option<u8> {
     let refusal = profile.refusal();
     assert_eq!(follows.has_loop(), every.is_empty(), "{profile:?}");
     assert_eq!(refusal == Some(no::LOOP), every.is_empty(), "{profile:?}");
+    assert_eq!(Product.check(&image(profile)).err(), refusal, "the product's check of {profile:?}");
     if every.is_empty() {
         return refusal;
     }
@@ -31,6 +33,22 @@ fn confirm(profile: &Profile) -> Option<u8> {
     let unfit = every.iter().all(|order| order.misses_a_deadline(profile));
     assert_eq!(refusal == Some(no::UNFIT), unfit, "{profile:?}");
     refusal
+}
+
+/// The image of a profile.
+fn image(profile: &Profile) -> Vec<u8> {
+    let row = |row: &[i64]| row.iter().map(|&time| time as u32).collect::<Vec<u32>>();
+    Sketch {
+        n: profile.n as u32,
+        levels: profile.levels as u32,
+        cycle: profile.cycle as u32,
+        masks: profile.masks.clone(),
+        deadlines: row(&profile.deadlines),
+        averages: row(&profile.averages.concat()),
+        worst: row(&profile.worst.concat()),
+        ..Sketch::default()
+    }
+    .image()
 }
 
 /// One level, averages 0.

@@ -1,4 +1,4 @@
-//! The outside vectors, against all three implementations.
+//! The outside vectors, against all implementations.
 
 mod common;
 
@@ -29,7 +29,7 @@ fn text(folder: &Path, name: &str, ending: &str) -> String {
 }
 
 fn programs(calls: &dyn Calls) -> usize {
-    let folder = common::vectors();
+    let folder = common::vectors("cases");
     let names = cases(&folder, |first| first.is_ascii_digit());
     for name in &names {
         let image = bytes(&folder, name, "profile");
@@ -40,32 +40,28 @@ fn programs(calls: &dyn Calls) -> usize {
     names.len()
 }
 
-/// The number in the table of README.md.
-fn trace_number(table: &str, name: &str) -> u8 {
+/// The number in the table of README.md, where the folder has one.
+fn trace_number(folder: &Path, name: &str) -> Option<u8> {
+    let table = fs::read_to_string(folder.join("README.md")).ok()?;
     let row = table.lines().find(|line| line.starts_with(&format!("| {name} |"))).expect("a row");
-    row.trim_end_matches([' ', '|']).rsplit('|').next().expect("a cell").trim().parse().expect("a number")
+    Some(row.trim_end_matches([' ', '|']).rsplit('|').next().expect("a cell").trim().parse().expect("a number"))
 }
 
 fn traces(calls: &dyn Calls) -> usize {
-    let folder = common::vectors();
-    let table = fs::read_to_string(folder.join("README.md")).expect("README.md");
+    let folder = common::vectors("traces");
     let names = cases(&folder, |first| first == 't');
     for name in &names {
         let image = bytes(&folder, name, "profile");
         let mut fresh = vec![0xa5; image.len() + 3];
         let answer = calls.refresh(&image, &bytes(&folder, name, "trace"), &mut fresh);
-        let wanted = bytes(&folder, name, "refreshed");
-        match trace_number(&table, name) {
-            0 => {
-                assert_eq!(answer, Ok(image.len()), "number of {name}");
-                assert_eq!(fresh[..image.len()], wanted, "image of {name}");
-                assert_eq!(fresh[image.len()..], [0xa5; 3], "tail of {name}");
-            }
-            number => {
-                assert_eq!(answer, Err(number), "number of {name}");
-                assert!(wanted.is_empty() && fresh.iter().all(|&byte| byte == 0xa5), "{name} writes");
-            }
+        if let Some(number) = trace_number(&folder, name) {
+            assert_eq!(answer.err().unwrap_or(0), number, "number of {name}");
         }
+        // With a refusal the image is empty.
+        let wanted = bytes(&folder, name, "refreshed");
+        assert_eq!(answer.unwrap_or(0), wanted.len(), "length of {name}");
+        assert_eq!(fresh[..wanted.len()], wanted, "image of {name}");
+        assert!(fresh[wanted.len()..].iter().all(|&byte| byte == 0xa5), "tail of {name}");
     }
     names.len()
 }
@@ -75,7 +71,7 @@ fn unhex(digits: &str) -> Vec<u8> {
 }
 
 fn readings(calls: &dyn Calls) -> usize {
-    let lines = fs::read_to_string(common::vectors().join("readings.txt")).expect("readings.txt");
+    let lines = fs::read_to_string(common::vectors("readings").join("readings.txt")).expect("readings.txt");
     for (at, line) in lines.lines().enumerate() {
         let fields: Vec<&str> = line.split_whitespace().collect();
         let number = |field: usize| fields[field].parse::<u32>().expect("a number");

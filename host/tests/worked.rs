@@ -3,6 +3,7 @@
 mod common;
 
 use nyokazerubi_host::calls::{Calls, Counts, Reading};
+use nyokazerubi_host::product::Product;
 use nyokazerubi_host::text;
 
 /// The planned tables of an accepted image.
@@ -97,6 +98,20 @@ fn refused_start(calls: &dyn Calls) {
         assert_eq!(calls.ask(run, &[0; 64], &[0; 512], &[0; 8192]), (run, Err(11)));
         assert_eq!(calls.report(run, 0, &[0; 512]), (run, 11));
     }
+}
+
+/// The product's own profile of the encoder, and a lent image that is too short or longer.
+#[test]
+fn encoder_of_the_product() {
+    let image = common::encoder();
+    for room in [0, 545] {
+        let mut lent = vec![7; room];
+        assert_eq!(Product.write_encoder(&mut lent), Err(17));
+        assert_eq!(lent, vec![7; room]);
+    }
+    let mut lent = vec![7; 550];
+    assert_eq!(Product.write_encoder(&mut lent), Ok(546));
+    assert_eq!((&lent[..546], &lent[546..]), (&image[..], &[7; 4][..]));
 }
 
 #[test]

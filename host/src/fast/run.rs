@@ -61,25 +61,31 @@ pub fn start(n: u32, levels: u32) -> (Run, u8) {
 
 /// The next action and its level.
 pub fn ask(mut run: Run, order: &[u8], limits: &[i32], coasts: &[i32]) -> (Run, Answer<Asked>) {
-    if !in_range(&run) {
-        return (run, Err(no::TURN));
+    let answer = ask_lent(&mut run, order, limits, coasts);
+    (run, answer)
+}
+
+/// The same on the host's own record.
+pub fn ask_lent(run: &mut Run, order: &[u8], limits: &[i32], coasts: &[i32]) -> Answer<Asked> {
+    if !in_range(run) {
+        return Err(no::TURN);
     }
     let (n, levels, i) = (run.n as usize, run.levels as usize, run.position as usize);
     let cells = n * levels;
     if order.len() < n || limits.len() < cells || coasts.len() < cells * COAST {
-        return (run, Err(no::ROOM));
+        return Err(no::ROOM);
     }
     if run.running {
-        return (run, Err(no::TURN));
+        return Err(no::TURN);
     }
     if i == n {
-        return (run, Err(no::FINISHED));
+        return Err(no::FINISHED);
     }
     let action = u32::from(order[i]);
     run.running = true;
     if run.coast_left > 0 {
         run.coast_left -= 1;
-        return (run, Ok(Asked { action, level: run.level, decided: false, late: false }));
+        return Ok(Asked { action, level: run.level, decided: false, late: false });
     }
     let row = i * levels;
     let decision = decide(levels, &limits[row..cells], &coasts[row * COAST..], run.clock);
@@ -87,7 +93,7 @@ pub fn ask(mut run: Run, order: &[u8], limits: &[i32], coasts: &[i32]) -> (Run, 
     run.coast_left = decision.grant - 1;
     run.decisions += 1;
     run.late |= decision.late;
-    (run, Ok(Asked { action, level: run.level, decided: true, late: decision.late }))
+    Ok(Asked { action, level: run.level, decided: true, late: decision.late })
 }
 
 /// The end of the running action.

@@ -134,13 +134,6 @@ pub fn report(run: Run, clock: u32, worst: &[u32]) -> (Run, u8) {
     (next, 0)
 }
 
-/// The same on the host's own record.
-pub fn report_lent(run: &mut Run, clock: u32, worst: &[u32]) -> u8 {
-    let (next, number) = report(*run, clock, worst);
-    *run = next;
-    number
-}
-
 /// A whole cycle: start, then ask and report by turns until no action remains.
 pub fn dry_run(
     n: u32,

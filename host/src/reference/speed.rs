@@ -25,3 +25,15 @@ pub fn reading(image: &[u8], first: u32, last: u32, level: u32, time: u32) -> Re
         Reading::Spent
     }
 }
+
+/// t is at most deadline(k) - mixed(i,k,q), in whole numbers, and time is left.
+pub fn on_time(image: &[u8], first: u32, last: u32, level: u32, time: u32) -> bool {
+    match reading(image, first, last, level, time) {
+        Reading::Refused(_) | Reading::Spent => false,
+        Reading::Ratio(_) => {
+            let planned = Planned::of(&accept(image).expect("it is not refused"));
+            let (i, k, q) = (first as usize, last as usize, level as usize);
+            i64::from(time) <= planned.deadline[k] - planned.mixed(i, k, q)
+        }
+    }
+}

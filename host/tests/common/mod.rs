@@ -5,20 +5,25 @@
 use nyokazerubi_host::c::C;
 use nyokazerubi_host::calls::{Calls, Fast, Reference};
 use nyokazerubi_host::draw::Sketch;
+use nyokazerubi_host::product::Product;
 use nyokazerubi_host::reference::Profile;
 use std::path::{Path, PathBuf};
 
-/// The vectors' folder: NYOKAZERUBI_VECTORS, or `../shared/vectors` from the repository's root.
-pub fn vectors() -> PathBuf {
-    let by_default = || Path::new(env!("CARGO_MANIFEST_DIR")).join("..").join("../shared/vectors");
-    let folder = std::env::var_os("NYOKAZERUBI_VECTORS").map(PathBuf::from).unwrap_or_else(by_default);
-    assert!(folder.is_dir(), "no vectors in {}: set NYOKAZERUBI_VECTORS to their folder", folder.display());
-    folder
+/// The folder of the outside vectors of a kind (`cases`, `traces` or `readings`): NYOKAZERUBI_VECTORS, or the data of the crate that runs them under the
+/// gate, or `../shared/vectors` from the repository's root.
+pub fn vectors(kind: &str) -> PathBuf {
+    let root = Path::new(env!("CARGO_MANIFEST_DIR")).join("..");
+    let folders = match std::env::var_os("NYOKAZERUBI_VECTORS") {
+        Some(folder) => vec![PathBuf::from(folder)],
+        None => vec![root.join("crates").join(kind).join("data"), root.join("../shared/vectors")],
+    };
+    let found = folders.iter().find(|folder| folder.is_dir());
+    found.cloned().unwrap_or_else(|| panic!("no vectors in {folders:?}: set NYOKAZERUBI_VECTORS to their folder"))
 }
 
 /// All implementations, the definitions first. Another one is added here.
-pub fn sides() -> [(&'static str, Box<dyn Calls>); 3] {
-    [("reference", Box::new(Reference)), ("fast", Box::new(Fast)), ("c", Box::new(c()))]
+pub fn sides() -> [(&'static str, Box<dyn Calls>); 4] {
+    [("reference", Box::new(Reference)), ("product", Box::new(Product)), ("fast", Box::new(Fast)), ("c", Box::new(c()))]
 }
 
 /// The calls in C, built for speed.

@@ -1,0 +1,187 @@
+/* A camera's cycle through include/nyokazerubi.h: its own memory, a clock that it simulates, every call. It ends with status 0 if each answer is
+ * the one that it must be. All that is lent lies on the heap in its exact size, so that a checker of memory sees one entry too far. */
+#include "../../include/nyokazerubi.h"
+
+#include <stdio.h>
+#include <stdlib.h>
+#include <string.h>
+
+/* The record is laid out as other hosts have it. */
+_Static_assert(sizeof(struct nyokazerubi_refusal) == 4, "refusal");
+_Static_assert(sizeof(struct nyokazerubi_given) == 16, "given");
+_Static_assert(sizeof(struct nyokazerubi_dried) == 16, "dried");
+_Static_assert(sizeof(struct nyokazerubi_reading) == 16, "reading");
+
+static void hold(int is_so, const char *what) {
+    if (!is_so) {
+        printf("not so: %s\n", what);
+        exit(1);
+    }
+}
+
+static void *lend(size_t bytes) {
+    void *memory = malloc(bytes);
+    hold(memory != NULL, "memory");
+    memset(memory, 0xa5, bytes);
+    return memory;
+}
+
+/* What a camera keeps from cycle to cycle. */
+struct camera {
+    uint8_t *image;
+    size_t bytes, n, levels, cells;
+    uint8_t *order;
+    int32_t *limits, *bounds;
+    uint32_t *worst;
+    struct nyokazerubi_run run;
+    uint32_t seed;
+};
+
+/* A duration from 0 to the worst time. */
+static uint32_t duration(struct camera *camera, uint32_t worst) {
+    camera->seed = camera->seed * 1664525u + 1013904223u;
+    return (uint32_t)(((uint64_t)(camera->seed >> 8) * (worst + 1u)) >> 24);
+}
+
+static void profile(struct camera *camera) {
+    camera->bytes = NYOKAZERUBI_IMAGE(9, 8);
+    camera->image = lend(camera->bytes);
+    hold(nyokazerubi_write_encoder(camera->image, camera->bytes - 1).refusal.number == NYOKAZERUBI_ROOM, "no room");
+    hold(camera->image[0] == 0xa5, "a refusal writes nothing");
+    struct nyokazerubi_written written = nyokazerubi_write_encoder(camera->image, camera->bytes);
+    hold(written.refusal.number == 0 && written.bytes == 546, "the encoder's profile");
+    hold(nyokazerubi_check(camera->image, camera->bytes).number == 0, "it is accepted");
+    hold(nyokazerubi_check(camera->image, camera->bytes - 1).number == NYOKAZERUBI_LENGTH, "one byte less is not");
+
+    /* Reading and writing back. */
+    uint64_t *masks = lend(9 * sizeof *masks);
+    uint32_t *deadlines = lend(9 * sizeof *deadlines), *averages = lend(72 * sizeof *averages);
+    uint32_t *worst = lend(72 * sizeof *worst);
+    struct nyokazerubi_unpacked unpacked =
+        nyokazerubi_read(camera->image, camera->bytes, masks, 9, deadlines, 9, averages, 72, worst, 72);
+    hold(unpacked.refusal.number == 0 && unpacked.n == 9 && unpacked.levels == 8, "it is read");
+    hold(unpacked.cycle == 320000 && masks[8] == 128 && averages[8] == 215 && worst[15] == 1500000, "its tables");
+    uint8_t *again = lend(camera->bytes);
+    written = nyokazerubi_write(9, 8, 320000, masks, 9, deadlines, 9, averages, 72, worst, 72, again, camera->bytes);
+    hold(written.bytes == camera->bytes && memcmp(again, camera->image, camera->bytes) == 0, "it is written back");
+
+    /* Motion's own part, uncopied, and an action that is absent. */
+    struct nyokazerubi_place motion = nyokazerubi_lookup(camera->image, camera->bytes, 1);
+    hold(motion.refusal.number == 0 && motion.start == 66 && motion.length == 60, "motion's part");
+    hold(nyokazerubi_lookup(camera->image, camera->bytes, 9).refusal.number == NYOKAZERUBI_NAME, "no tenth action");
+    hold(nyokazerubi_lookup_refusal(camera->image, camera->bytes, 9).number == NYOKAZERUBI_NAME, "nor here");
+    free(masks), free(deadlines), free(averages), free(worst), free(again);
+}
+
+static void plan(struct camera *camera) {
+    camera->order = lend(9);
+    camera->limits = lend(72 * sizeof *camera->limits);
+    camera->worst = lend(72 * sizeof *camera->worst);
+    camera->bounds = lend(NYOKAZERUBI_BOUNDS(9, 8) * sizeof *camera->bounds);
+    struct nyokazerubi_planned planned =
+        nyokazerubi_plan(camera->image, camera->bytes, camera->order, 9, camera->limits, 72, camera->worst, 72,
+                         camera->bounds, NYOKAZERUBI_BOUNDS(9, 8));
+    hold(planned.refusal.number == 0 && planned.cycle == 320000, "it is planned");
+    camera->n = planned.n;
+    camera->levels = planned.levels;
+    camera->cells = NYOKAZERUBI_CELLS(planned.n, planned.levels);
+    hold(camera->limits[8] == 168000 && camera->limits[9] == 69000 && camera->limits[10] == -31000, "limits at position 1");
+}
+
+/* One cycle; keeps the durations met for a dry run, and records of a trace. */
+static void cycle(struct camera *camera, uint32_t *durations, uint8_t *trace) {
+    struct nyokazerubi_run *run = &camera->run;
+    hold(nyokazerubi_start(run, (uint32_t)camera->n, (uint32_t)camera->levels) == 0, "a start");
+    uint32_t clock = 0;
+    for (size_t i = 0; i < camera->n; i++) {
+        struct nyokazerubi_run before = *run;
+        struct nyokazerubi_given given = nyokazerubi_ask(run, camera->order, camera->n, camera->limits, camera->cells,
+                                                         camera->bounds, 16 * camera->cells);
+        hold(given.refusal == 0 && given.action == camera->order[i] && given.level < camera->levels, "an action");
+        hold(!given.late && run->running && run->position == i, "in time");
+        struct nyokazerubi_asked asked = nyokazerubi_ask_by_value(
+            before, camera->order, camera->n, camera->limits, camera->cells, camera->bounds, 16 * camera->cells);
+        hold(asked.given.level == given.level && asked.run.left == run->left, "the same by value");
+
+        /* The action runs. */
+        size_t cell = i * camera->levels + given.level;
+        uint32_t took = duration(camera, camera->worst[cell]);
+        for (size_t q = 0; q < camera->levels; q++) durations[i * camera->levels + q] = took;
+        uint64_t record = UINT64_C(1) << 39 | (uint64_t)given.action << 33 | (uint64_t)given.level << 30 | took;
+        for (int b = 0; b < 5; b++) trace[5 * i + (size_t)b] = (uint8_t)(record >> (32 - 8 * b));
+        clock += took;
+        before = *run;
+        hold(nyokazerubi_report(run, clock, camera->worst, camera->cells) == 0, "its end");
+        struct nyokazerubi_reported reported =
+            nyokazerubi_report_by_value(before, clock, camera->worst, camera->cells);
+        hold(reported.refusal == 0 && reported.run.position == run->position, "the same by value");
+        hold(run->clock == clock && !run->running && !run->overrun, "the record");
+    }
+    hold(clock <= 320000, "no deadline is missed");
+    struct nyokazerubi_given over = nyokazerubi_ask(run, camera->order, camera->n, camera->limits, camera->cells,
+                                                    camera->bounds, 16 * camera->cells);
+    hold(over.refusal == NYOKAZERUBI_FINISHED, "the cycle is over");
+    hold(nyokazerubi_report(run, clock, camera->worst, camera->cells) == NYOKAZERUBI_TURN, "none runs");
+    printf("%u decisions, end %u\n", run->decisions, run->clock);
+}
+
+/* The dry run over the durations met is the same cycle, from the tables and from the image. */
+static void dry(const struct camera *camera, const uint32_t *durations) {
+    uint8_t *given = lend(camera->n), *marks = lend(camera->n);
+    struct nyokazerubi_dried dried =
+        nyokazerubi_dry_run(camera->n, camera->levels, camera->limits, camera->cells, camera->worst, camera->cells,
+                            camera->bounds, 16 * camera->cells, durations, camera->cells, given, camera->n, marks, camera->n);
+    hold(dried.refusal == 0 && dried.decisions == camera->run.decisions && dried.end == camera->run.clock, "the dry run");
+    hold(!dried.overrun && !dried.late && marks[0] == 1, "its marks");
+    uint8_t *order = lend(camera->n);
+    struct nyokazerubi_framed framed = nyokazerubi_dry_frame(camera->image, camera->bytes, durations, camera->cells, order,
+                                                             camera->n, given, camera->n, marks, camera->n);
+    hold(framed.refusal.number == 0 && framed.n == camera->n && framed.decisions == dried.decisions, "from the image");
+    hold(framed.end == dried.end && memcmp(order, camera->order, camera->n) == 0, "its end and its order");
+    free(order), free(given), free(marks);
+}
+
+/* New averages from the trace of the cycle. */
+static void refresh(struct camera *camera, const uint8_t *trace, size_t length) {
+    uint8_t *fresh = lend(camera->bytes);
+    hold(nyokazerubi_refresh(camera->image, camera->bytes, trace, length - 1, fresh, camera->bytes).refusal.number ==
+             NYOKAZERUBI_TRACE,
+         "a record cut short");
+    struct nyokazerubi_refreshed refreshed =
+        nyokazerubi_refresh(camera->image, camera->bytes, trace, length, fresh, camera->bytes);
+    hold(refreshed.refusal.number == 0 && refreshed.bytes == camera->bytes, "new averages");
+    hold(nyokazerubi_check(fresh, camera->bytes).number == 0, "they are accepted");
+    free(fresh);
+}
+
+static void readings(const struct camera *camera) {
+    struct nyokazerubi_reading reading = nyokazerubi_speed_reading(camera->image, camera->bytes, 0, 8, 0, 0);
+    hold(reading.refusal == 0 && !reading.spent && reading.ratio > 0 && reading.ratio < 1, "time is left at level 0");
+    hold(nyokazerubi_on_time(camera->image, camera->bytes, 0, 8, 0, 0), "so it is on time");
+    reading = nyokazerubi_speed_reading(camera->image, camera->bytes, 0, 8, 0, 320000);
+    hold(reading.refusal == 0 && reading.spent, "at the end it is spent");
+    reading = nyokazerubi_speed_reading(camera->image, camera->bytes, 0, 9, 0, 0);
+    hold(reading.refusal == NYOKAZERUBI_READING, "no tenth position");
+}
+
+int main(void) {
+    struct camera camera = {.seed = 1};
+    profile(&camera);
+    plan(&camera);
+    uint32_t *durations = lend(camera.cells * sizeof *durations);
+    uint8_t *trace = lend(5 * camera.n);
+    for (int round = 0; round < 5; round++) {
+        cycle(&camera, durations, trace);
+        dry(&camera, durations);
+        refresh(&camera, trace, 5 * camera.n);
+    }
+    readings(&camera);
+
+    /* A refused start, and a call on its record. */
+    hold(nyokazerubi_start(&camera.run, 65, 8) == NYOKAZERUBI_COUNT && camera.run.n == 0, "65 actions");
+    hold(nyokazerubi_start_by_value(9, 9).refusal == NYOKAZERUBI_COUNT, "9 levels");
+    hold(nyokazerubi_report(&camera.run, 0, camera.worst, camera.cells) == NYOKAZERUBI_TURN, "a record of zero actions");
+    free(durations), free(trace), free(camera.image), free(camera.order), free(camera.limits), free(camera.worst), free(camera.bounds);
+    printf("every answer is as it must be\n");
+    return 0;
+}

@@ -1,0 +1,353 @@
+//! Times each public call of the product against the fast forms in Rust and in C: the same machine, input and run, the same lent slices.
+//! Prints the tables of docs/BENCHMARKS.md.
+
+use nyokazerubi_host::c::C;
+use nyokazerubi_host::calls::{Calls, Counts, Fast, Run, Tables, COAST};
+use nyokazerubi_host::draw::{Draw, Sketch};
+use nyokazerubi_host::product::Product;
+use std::hint::black_box;
+use std::time::Instant;
+
+/// Samples of each call and implementation.
+const SAMPLES: usize = 401;
+/// The time that one sample takes at least, in nanoseconds.
+const SAMPLE: u128 = 100_000;
+/// The cycle of the encoder's frame.
+const FRAME: f64 = 320_000.0;
+
+fn main() {
+    let folder = std::env::temp_dir();
+    let library = format!("nyokazerubi-fast-{}.so", std::process::id());
+    let c = C::build(&folder, &library, &["-O3"]).expect("c/fast.c builds");
+    std::fs::remove_file(folder.join(&library)).expect("the library was built here");
+    let sides: Sides = [("product", &Product), ("Rust", &Fast), ("C", &c)];
+    println!("Medians of {SAMPLES} samples in ns; the ratio is to the faster of Rust and C.");
+    for (name, image) in [("encoder", encoder()), ("chain", chain()), ("graph", graph())] {
+        table(&sides, name, &Bench::new(&image));
+    }
+    frame(&sides);
+}
+
+/// The implementations by name.
+type Sides<'a> = [(&'static str, &'a dyn Calls); 3];
+
+/// The figures of one image.
+fn table(sides: &Sides, name: &str, bench: &Bench) {
+    let Counts { n, levels, .. } = bench.counts;
+    println!(
+        "\n### {name}: n = {n}, L = {levels}, {} bytes, {} decisions in the cycle\n",
+        bench.image.len(),
+        bench.decisions
+    );
+    println!("| call | product | Rust | C | ratio |\n|---|---|---|---|---|");
+    for (call, run) in CALLS {
+        let by = if call.ends_with("an action") { f64::from(n) } else { 1.0 };
+        let [product, rust, c] = measure(sides, |calls| run(bench, calls)).map(|median| median / by);
+        println!("| {call} | {product:.1} | {rust:.1} | {c:.1} | {:.2} |", product / rust.min(c));
+    }
+}
+
+/// The processor's clock in GHz, by additions that wait for each other and take one cycle each: the best of many short samples.
+fn clock() -> f64 {
+    const STEPS: u32 = 100_000;
+    let sample = || {
+        let began = Instant::now();
+        let mut sum = 1;
+        for _ in 0..STEPS / 10 {
+            for _ in 0..10 {
+                sum = step(sum);
+            }
+        }
+        black_box(sum);
+        f64::from(STEPS) / began.elapsed().as_nanos() as f64
+    };
+    (0..1000).map(|_| sample()).fold(0.0, f64::max)
+}
+
+/// An addition that takes one cycle.
+#[inline(always)]
+fn step(value: u64) -> u64 {
+    let mut value = value;
+    #[cfg(target_arch = "aarch64")]
+    unsafe {
+        std::arch::asm!("add {0}, {0}, #1", inout(reg) value, options(pure, nomem, nostack));
+    }
+    #[cfg(target_arch = "x86_64")]
+    unsafe {
+        std::arch::asm!("add {0}, 1", inout(reg) value, options(pure, nomem, nostack));
+    }
+    value
+}
+
+/// The medians by side, the samples of the sides taken in turns.
+fn measure(sides: &Sides, mut call: impl FnMut(&dyn Calls)) -> [f64; 3] {
+    let mut repeats = 1u32;
+    loop {
+        let began = Instant::now();
+        (0..repeats).for_each(|_| call(sides[1].1));
+        if began.elapsed().as_nanos() >= SAMPLE {
+            break;
+        }
+        repeats *= 2;
+    }
+    let mut samples: [Vec<f64>; 3] = Default::default();
+    for _ in 0..SAMPLES {
+        for (side, samples) in sides.iter().zip(&mut samples) {
+            let began = Instant::now();
+            (0..repeats).for_each(|_| call(side.1));
+            samples.push(began.elapsed().as_nanos() as f64 / f64::from(repeats));
+        }
+    }
+    samples.map(|mut samples| {
+        samples.sort_by(f64::total_cmp);
+        samples[samples.len() / 2]
+    })
+}
+
+/// What the calls are timed on: an image, its tables, and slices to lend.
+struct Bench {
+    image: Vec<u8>,
+    counts: Counts,
+    masks: Vec<u64>,
+    deadlines: Vec<u32>,
+    averages: Vec<u32>,
+    worst: Vec<u32>,
+    order: Vec<u8>,
+    limits: Vec<i32>,
+    by_position: Vec<u32>,
+    coasts: Vec<i32>,
+    durations: Vec<u32>,
+    /// A few records and many.
+    traces: [Vec<u8>; 2],
+    /// The clock at the end of each action of a cycle over the durations, and its decisions.
+    clocks: Vec<u32>,
+    decisions: u32,
+}
+
+impl Bench {
+    fn new(image: &[u8]) -> Bench {
+        let counts = Product.check(image).expect("accepted");
+        let (n, cells) = (counts.n as usize, (counts.n * counts.levels) as usize);
+        let mut bench = Bench {
+            image: image.to_vec(),
+            counts,
+            masks: vec![0; n],
+            deadlines: vec![0; n],
+            averages: vec![0; cells],
+            worst: vec![0; cells],
+            order: vec![0; n],
+            limits: vec![0; cells],
+            by_position: vec![0; cells],
+            coasts: vec![0; cells * COAST],
+            durations: Vec::new(),
+            traces: Default::default(),
+            clocks: Vec::new(),
+            decisions: 0,
+        };
+        let (masks, deadlines) = (&mut bench.masks, &mut bench.deadlines);
+        Fast.read(image, masks, deadlines, &mut bench.averages, &mut bench.worst).expect("accepted");
+        let (order, limits) = (&mut bench.order, &mut bench.limits);
+        Fast.plan(image, order, limits, &mut bench.by_position, &mut bench.coasts).expect("accepted");
+        let mut draw = Draw::new(8);
+        // Mostly near the average, now and then up to the worst time.
+        bench.durations = (0..cells)
+            .map(|cell| {
+                let (action, level) = (bench.order[cell / 8 % n] as usize, cell % 8);
+                let average = bench.averages[action * 8 + level];
+                let worst = bench.by_position[cell];
+                if draw.once_in(8) {
+                    draw.between(0, worst)
+                } else {
+                    (average / 2 + draw.between(0, average)).min(worst)
+                }
+            })
+            .collect();
+        bench.traces = [100, 4000].map(|records| bench.trace(&mut draw, records));
+        bench.cycle();
+        bench
+    }
+
+    fn trace(&self, draw: &mut Draw, records: usize) -> Vec<u8> {
+        let record = |_| {
+            let (action, level) = (draw.between(0, self.counts.n - 1), draw.between(0, self.counts.levels - 1));
+            let longest = self.worst[(action * self.counts.levels + level) as usize];
+            let open = u64::from(!draw.once_in(4));
+            let bits =
+                open << 39 | u64::from(action) << 33 | u64::from(level) << 30 | u64::from(draw.between(0, longest));
+            bits.to_be_bytes()[3..].to_vec()
+        };
+        (0..records).flat_map(record).collect()
+    }
+
+    fn tables(&self) -> Tables<'_> {
+        Tables { limits: &self.limits, worst: &self.by_position, coasts: &self.coasts }
+    }
+
+    /// Where a cycle over the durations gets to.
+    fn cycle(&mut self) {
+        let Counts { n, levels, .. } = self.counts;
+        let (mut given, mut decided) = (vec![0; n as usize], vec![0; n as usize]);
+        let answer = Fast.dry_run(n, levels, self.tables(), &self.durations, &mut given, &mut decided);
+        self.decisions = answer.expect("a cycle").decisions;
+        let mut clock = 0;
+        for (&level, row) in given.iter().zip(self.durations.chunks(levels as usize)) {
+            clock += row[level as usize];
+            self.clocks.push(clock);
+        }
+    }
+}
+
+/// A call by its name.
+type Call = (&'static str, fn(&Bench, &dyn Calls));
+
+/// Room to write to, the same for every side.
+struct Room {
+    image: [u8; 3846],
+    small: [[u8; 64]; 2],
+    words: [u64; 64],
+    numbers: [[u32; 512]; 3],
+    limits: [i32; 512],
+    coasts: [i32; 8192],
+}
+
+static mut ROOM: Room = Room {
+    image: [0; 3846],
+    small: [[0; 64]; 2],
+    words: [0; 64],
+    numbers: [[0; 512]; 3],
+    limits: [0; 512],
+    coasts: [0; 8192],
+};
+
+/// The one room. There is one thread, and each call is over before the next.
+fn room() -> &'static mut Room {
+    unsafe { &mut *std::ptr::addr_of_mut!(ROOM) }
+}
+
+const CALLS: [Call; 12] = [
+    ("check", |bench, calls| {
+        black_box(calls.check(black_box(&bench.image)).is_ok());
+    }),
+    ("read", |bench, calls| {
+        let Room { words, numbers: [deadlines, averages, worst], .. } = room();
+        black_box(calls.read(black_box(&bench.image), words, deadlines, averages, worst).is_ok());
+    }),
+    ("write", |bench, calls| {
+        let tables = black_box((&bench.masks, &bench.deadlines, &bench.averages, &bench.worst));
+        black_box(calls.write(bench.counts, tables.0, tables.1, tables.2, tables.3, &mut room().image).is_ok());
+    }),
+    ("lookup", |bench, calls| {
+        black_box(calls.lookup_refusal(black_box(&bench.image), bench.counts.n - 1));
+    }),
+    ("plan", |bench, calls| {
+        let Room { small: [order, _], limits, numbers: [worst, ..], coasts, .. } = room();
+        black_box(calls.plan(black_box(&bench.image), order, limits, worst, coasts).is_ok());
+    }),
+    ("ask + report, an action", |bench, calls| cycle(bench, calls)),
+    ("ask + report by value, an action", |bench, calls| cycle_by_value(bench, calls)),
+    ("dry run", |bench, calls| {
+        let Room { small: [given, decided], .. } = room();
+        let Counts { n, levels, .. } = bench.counts;
+        black_box(calls.dry_run(n, levels, black_box(bench.tables()), &bench.durations, given, decided).is_ok());
+    }),
+    ("dry frame", |bench, calls| {
+        let Room { small: [given, decided], image: order, .. } = room();
+        black_box(calls.dry_frame(black_box(&bench.image), &bench.durations, order, given, decided).is_ok());
+    }),
+    ("reading", |bench, calls| {
+        let Counts { n, levels, .. } = bench.counts;
+        black_box(calls.reading(black_box(&bench.image), 0, n - 1, levels / 2, 1000));
+    }),
+    ("refresh, 100 records", |bench, calls| {
+        black_box(calls.refresh(black_box(&bench.image), &bench.traces[0], &mut room().image).is_ok());
+    }),
+    ("refresh, 4000 records", |bench, calls| {
+        black_box(calls.refresh(black_box(&bench.image), &bench.traces[1], &mut room().image).is_ok());
+    }),
+];
+
+/// A whole cycle by turns over the lent record.
+fn cycle(bench: &Bench, calls: &dyn Calls) {
+    let mut run = Run::default();
+    calls.start_lent(&mut run, bench.counts.n, bench.counts.levels);
+    for &clock in &bench.clocks {
+        black_box(calls.ask_lent(&mut run, &bench.order, &bench.limits, &bench.coasts).is_ok());
+        black_box(calls.report_lent(&mut run, clock, &bench.by_position));
+    }
+    black_box(run);
+}
+
+/// The same by value.
+fn cycle_by_value(bench: &Bench, calls: &dyn Calls) {
+    let (mut run, _) = calls.start(bench.counts.n, bench.counts.levels);
+    for &clock in &bench.clocks {
+        let (running, answer) = calls.ask(run, &bench.order, &bench.limits, &bench.coasts);
+        black_box(answer.is_ok());
+        (run, _) = calls.report(running, clock, &bench.by_position);
+    }
+    black_box(run);
+}
+
+/// The manager's cost for a whole frame of the encoder: start, nine times ask and report.
+fn frame(sides: &Sides) {
+    let clock = clock();
+    let bench = Bench::new(&encoder());
+    let medians = measure(sides, |calls| cycle(&bench, calls));
+    println!("\n### The manager in a frame of the encoder, {FRAME} cycles, at {clock:.2} GHz\n");
+    println!("| side | ns | cycles | part of the frame |\n|---|---|---|---|");
+    for ((name, _), ns) in sides.iter().zip(medians) {
+        let cycles = ns * clock;
+        println!("| {name} | {ns:.1} | {cycles:.0} | {:.3} % |", 100.0 * cycles / FRAME);
+    }
+}
+
+/// The document's encoder.
+fn encoder() -> Vec<u8> {
+    let mut image = vec![0; 546];
+    assert_eq!(Product.write_encoder(&mut image), Ok(546));
+    image
+}
+
+/// 64 actions of 8 levels whose times rise by drawn steps, and room in the cycle for some of the levels.
+fn times() -> Sketch {
+    let mut draw = Draw::new(64);
+    let mut sketch = Sketch { n: 64, levels: 8, ..Sketch::default() };
+    for _ in 0..64 {
+        let (mut average, mut worst) = (0, 0);
+        for _ in 0..8 {
+            average += draw.between(0, 2000);
+            worst = worst.max(average) + draw.between(0, 4000);
+            sketch.averages.push(average);
+            sketch.worst.push(worst);
+        }
+    }
+    sketch.cycle = 6 * sketch.worst.iter().step_by(8).sum::<u32>();
+    sketch
+}
+
+/// A chain, as the encoder is one.
+fn chain() -> Vec<u8> {
+    let masks = (0..64).map(|a| if a == 0 { 0 } else { 1 << (a - 1) }).collect();
+    Sketch { masks, deadlines: vec![0; 64], ..times() }.image()
+}
+
+/// A graph whose numbers say nothing: each action after one in eight of those before it, all deadlines different.
+fn graph() -> Vec<u8> {
+    let mut draw = Draw::new(65);
+    let mut sketch = times();
+    let mut line: Vec<usize> = (0..64).collect();
+    for last in (1..64).rev() {
+        line.swap(last, draw.index(last + 1));
+    }
+    sketch.masks = vec![0; 64];
+    for (place, &a) in line.iter().enumerate() {
+        for &b in &line[..place] {
+            if draw.once_in(8) {
+                sketch.masks[a] |= 1 << b;
+            }
+        }
+    }
+    let least = sketch.cycle / 6;
+    sketch.deadlines = (0..64).map(|_| draw.between(least, sketch.cycle)).collect();
+    sketch.image()
+}
