@@ -1,18 +1,17 @@
 -- The levels below q are worked and stored. Assumes nothing.
-use mathlib.Core.Path.{_≡_, sym, ap, subst, _∙_}
-use Prim.Native.Nat.{ℕ, suc, _+_, _-_, _*_, _≤_, _<_}
+use mathlib.Core.Path.{_≡_, ap, _∙_}
+use Prim.Native.Nat.{ℕ, suc, _+_, _-_, _*_, _≤_}
 use native.Mathlib.Omega.{arith}
 use borrow.Author.Needs.{needs}
 use lib.IntN.{pos}
-use lib.ListN.{length, getD, replicate}
+use lib.ListN.{length, replicate}
 use Rattle.rules.specs.Words.{cat, tab}
 use Rattle.rules.specs.Image.{average-of, worst-of}
 use Rattle.fields.specs.Fields.{splice}
-use Rattle.fields.proofs.Strides.{stride-fits}
 use Rattle.fields.proofs.Cats.{cat-none, cat-more, cat-done, length-cat}
 use Rattle.fields.proofs.Tabs.{tab-more, length-tab}
 use Rattle.rows.specs.Rows.{limits-of, eight}
-use Rattle.rows.specs.Bounds.{bounds-by, bound-in, Spares}
+use Rattle.rows.specs.Bounds.{bounds-by, bound-in}
 use Rattle.rows.proofs.Signed.{as-is}
 use Rattle.rows.proofs.Coast.{bounds-same}
 use Rattle.rows.proofs.Sixteens.{bound-kept}
