@@ -1,18 +1,19 @@
 -- The levels below q are worked and stored. Assumes nothing.
-use mathlib.Core.Path.{_≡_, sym, ap, subst, _∙_}
-use Prim.Native.Nat.{ℕ, suc, _+_, _-_, _*_, _≤_, _<_}
+use mathlib.Core.Path.{_≡_, ap, _∙_}
+use Prim.Native.Nat.{ℕ, suc, _+_, _-_, _*_, _≤_}
 use native.Mathlib.Omega.{arith}
 use borrow.Author.Needs.{needs}
 use lib.IntN.{pos}
-use lib.ListN.{length, getD, replicate}
+use lib.ListN.{length, replicate}
+use mir.Syntax.{w32}
+use mir.Val.{toZ, ofZ}
 use Rattle.rules.specs.Words.{cat, tab}
 use Rattle.rules.specs.Image.{average-of, worst-of}
 use Rattle.fields.specs.Fields.{splice}
-use Rattle.fields.proofs.Strides.{stride-fits}
 use Rattle.fields.proofs.Cats.{cat-none, cat-more, cat-done, length-cat}
 use Rattle.fields.proofs.Tabs.{tab-more, length-tab}
 use Rattle.rows.specs.Rows.{limits-of, eight}
-use Rattle.rows.specs.Bounds.{bounds-by, bound-in, Spares}
+use Rattle.rows.specs.Bounds.{bounds-by, bound-in}
 use Rattle.rows.proofs.Signed.{as-is}
 use Rattle.rows.proofs.Coast.{bounds-same}
 use Rattle.rows.proofs.Sixteens.{bound-kept}
@@ -121,6 +122,17 @@ add-q c = search needs
 loop-less : tie.Need-loop-less Inv-loop μ-loop
 loop-less c = search needs
 
+-- the limit of the turn
+limit-is : (c : tie.After-limit-of Inv-loop μ-loop) → let a = c .before .before .before .before .before .before .before .before .before .args in
+    toZ w32 (ofZ w32 (c .limit-of .result))
+    ≡ limits-of (a .t5) (average-of (a .image .now) (a .a)) (worst-of (a .image .now) (a .a)) (a .due) (c .before .before .before .before .before .before .loop .q)
+limit-is c = rw (as-is (c .limit-of .result) (c .limit-of .ok)) (rw (
+  as-is _ (c .before .before .limit-of-arg .given),
+  as-is _ (c .before .limit-of-arg2 .given),
+  c .before .before .before .worst-at .ensures,
+  c .before .before .before .before .average-at .ensures,
+) at (c .limit-of .ensures))
+
 loop-again : tie.Need-loop-again Inv-loop μ-loop
 loop-again c =
     let in-loop = c .before .before .before .before .before .before .before .before in
@@ -129,13 +141,7 @@ loop-again c =
     let t = in-loop .before .loop in
     let worked = c .before .before .before in
     let longest = worked .before .before .before .worst-at .ensures in
-    let is = rw (
-      as-is _ (worked .before .before .limit-of-arg .given),
-      as-is _ (worked .before .limit-of-arg2 .given),
-      longest,
-      worked .before .before .before .before .average-at .ensures,
-    ) at (worked .limit-of .ensures) in
-    let limit = as-is (worked .limit-of .result) (worked .limit-of .ok) ∙ is in
+    let limit = limit-is worked in
     let done = c .before .bounds-of in
     let few = s .pre .present .few-levels in
     let inside = s .pre .inside in

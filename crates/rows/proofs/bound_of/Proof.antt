@@ -1,7 +1,6 @@
 -- The test and the two calls are of the bits, which say the numbers. Assumes nothing.
 use mathlib.Core.Path.{_≡_}
 use mathlib.Core.Bool.{true, false}
-use native.Mathlib.Omega.{arith}
 use borrow.Author.Needs.{needs}
 use lib.Signed.{ltZ}
 use mir.Facts.{toZ-ofZ}

@@ -1,13 +1,13 @@
 -- The first k entries are read. Assumes nothing.
 use mathlib.Core.Path.{_≡_}
-use Prim.Native.Nat.{_+_, _-_, _*_, _≤_}
+use Prim.Native.Nat.{_+_, _-_, _≤_}
 use native.Mathlib.Omega.{arith}
 use borrow.Author.Needs.{needs}
 use lib.IntN.{pos}
 use lib.ListN.{length, getD, replicate}
 use Rattle.rules.specs.Words.{tab}
 use Rattle.fields.specs.Fields.{splice}
-use Rattle.fields.proofs.Cats.{cat-none, cat-done}
+use Rattle.fields.proofs.Cats.{cat-none}
 use Rattle.fields.proofs.Tabs.{tab-more}
 use Rattle.fields.proofs.Written.{tab-written}
 use Rattle.rows.proofs.Signed.{as-is}
