@@ -31,13 +31,6 @@ struct Place {
     length: usize,
 }
 
-/// The record and the refusal, of a start or a report by value.
-#[repr(C)]
-struct Next {
-    run: Run,
-    refusal: u32,
-}
-
 #[repr(C)]
 struct Given {
     refusal: u32,
@@ -45,12 +38,6 @@ struct Given {
     level: u32,
     decided: bool,
     late: bool,
-}
-
-#[repr(C)]
-struct AskedByValue {
-    run: Run,
-    given: Given,
 }
 
 #[repr(C)]
@@ -134,17 +121,6 @@ extern "C" {
         bounds_room: usize,
     ) -> Given;
     fn nyokazerubi_report(run: *mut Run, clock: u32, worst: *const u32, worst_room: usize) -> u32;
-    fn nyokazerubi_start_by_value(n: u32, levels: u32) -> Next;
-    fn nyokazerubi_ask_by_value(
-        run: Run,
-        order: *const u8,
-        order_room: usize,
-        limits: *const i32,
-        limits_room: usize,
-        bounds: *const i32,
-        bounds_room: usize,
-    ) -> AskedByValue;
-    fn nyokazerubi_report_by_value(run: Run, clock: u32, worst: *const u32, worst_room: usize) -> Next;
     fn nyokazerubi_dry_run(
         n: usize,
         levels: usize,
@@ -347,8 +323,9 @@ impl Calls for Product {
     }
 
     fn start(&self, n: u32, levels: u32) -> (Run, u8) {
-        let next = unsafe { nyokazerubi_start_by_value(n, levels) };
-        (next.run, next.refusal as u8)
+        let mut run = Run::default();
+        let refusal = self.start_lent(&mut run, n, levels);
+        (run, refusal)
     }
 
     fn start_lent(&self, run: &mut Run, n: u32, levels: u32) -> u8 {
@@ -356,18 +333,9 @@ impl Calls for Product {
     }
 
     fn ask(&self, run: Run, order: &[u8], limits: &[i32], coasts: &[i32]) -> (Run, Answer<Asked>) {
-        let AskedByValue { run, given } = unsafe {
-            nyokazerubi_ask_by_value(
-                run,
-                order.as_ptr(),
-                order.len(),
-                limits.as_ptr(),
-                limits.len(),
-                coasts.as_ptr(),
-                coasts.len(),
-            )
-        };
-        (run, given.answer())
+        let mut next = run;
+        let answer = self.ask_lent(&mut next, order, limits, coasts);
+        (next, answer)
     }
 
     fn ask_lent(&self, run: &mut Run, order: &[u8], limits: &[i32], coasts: &[i32]) -> Answer<Asked> {
@@ -386,8 +354,9 @@ impl Calls for Product {
     }
 
     fn report(&self, run: Run, clock: u32, worst: &[u32]) -> (Run, u8) {
-        let next = unsafe { nyokazerubi_report_by_value(run, clock, worst.as_ptr(), worst.len()) };
-        (next.run, next.refusal as u8)
+        let mut next = run;
+        let refusal = self.report_lent(&mut next, clock, worst);
+        (next, refusal)
     }
 
     fn report_lent(&self, run: &mut Run, clock: u32, worst: &[u32]) -> u8 {

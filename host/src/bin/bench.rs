@@ -224,7 +224,7 @@ fn room() -> &'static mut Room {
     unsafe { &mut *std::ptr::addr_of_mut!(ROOM) }
 }
 
-const CALLS: [Call; 12] = [
+const CALLS: [Call; 11] = [
     ("check", |bench, calls| {
         black_box(calls.check(black_box(&bench.image)).is_ok());
     }),
@@ -244,7 +244,6 @@ const CALLS: [Call; 12] = [
         black_box(calls.plan(black_box(&bench.image), order, limits, worst, coasts).is_ok());
     }),
     ("ask + report, an action", |bench, calls| cycle(bench, calls)),
-    ("ask + report by value, an action", |bench, calls| cycle_by_value(bench, calls)),
     ("dry run", |bench, calls| {
         let Room { small: [given, decided], .. } = room();
         let Counts { n, levels, .. } = bench.counts;
@@ -273,17 +272,6 @@ fn cycle(bench: &Bench, calls: &dyn Calls) {
     for &clock in &bench.clocks {
         black_box(calls.ask_lent(&mut run, &bench.order, &bench.limits, &bench.coasts).is_ok());
         black_box(calls.report_lent(&mut run, clock, &bench.by_position));
-    }
-    black_box(run);
-}
-
-/// The same by value.
-fn cycle_by_value(bench: &Bench, calls: &dyn Calls) {
-    let (mut run, _) = calls.start(bench.counts.n, bench.counts.levels);
-    for &clock in &bench.clocks {
-        let (running, answer) = calls.ask(run, &bench.order, &bench.limits, &bench.coasts);
-        black_box(answer.is_ok());
-        (run, _) = calls.report(running, clock, &bench.by_position);
     }
     black_box(run);
 }
