@@ -1,5 +1,5 @@
 -- The levels below q are worked and stored. Assumes nothing.
-use mathlib.Core.Path.{_≡_, ap, _∙_}
+use mathlib.Core.Path.{_≡_, sym, ap, subst, _∙_}
 use Prim.Native.Nat.{ℕ, suc, _+_, _-_, _*_, _≤_}
 use native.Mathlib.Omega.{arith}
 use borrow.Author.Needs.{needs}
@@ -13,7 +13,7 @@ use Rattle.fields.specs.Fields.{splice}
 use Rattle.fields.proofs.Cats.{cat-none, cat-more, cat-done, length-cat}
 use Rattle.fields.proofs.Tabs.{tab-more, length-tab}
 use Rattle.rows.specs.Rows.{limits-of, eight}
-use Rattle.rows.specs.Bounds.{bounds-by, bound-in}
+use Rattle.rows.specs.Bounds.{bounds-by, bound-in, Spares}
 use Rattle.rows.proofs.Signed.{as-is}
 use Rattle.rows.proofs.Coast.{bounds-same}
 use Rattle.rows.proofs.Sixteens.{bound-kept}
@@ -113,7 +113,8 @@ bounds-of-requires c κs =
     let t = in-loop .before .loop in
     let longest = c .before .before .before .before .worst-at .ensures in (
       (omega (arith, s .pre .inside), s .pre .present .few-levels, omega (arith, s .pre .bounds-room, t .inv .4)),
-      (λ k h. rw (kept in-loop k, longest) (s .pre .spares (t .q) k (omega arith) h)),
+      (λ k h. rw (kept in-loop k) (subst (λ (w : ℕ). Spares w (bound-in (s .args .bounds .now) (s .args .entries) (s .args .from + t .q + s .args .levels) k))
+          (sym longest) (s .pre .spares (t .q) k (omega arith) h))),
     )
 
 add-q : tie.Need-add-q Inv-loop μ-loop
