@@ -4,36 +4,61 @@ use mathlib.Core.Path.{_≡_, refl}
 use mathlib.Core.List.{List}
 use mathlib.Core.Logic.{_≢_, inl, inr, ⊎-elim}
 use native.Mathlib.Omega.{arith}
+use native.Mathlib.Decide.{decLe}
 use borrow.Author.Count.{below-more}
 use lib.ListN.{getD}
 use Rattle.rules.specs.Image.{Profile}
 use Rattle.rules.specs.Refusals.{First}
 use Rattle.rules.specs.Refresh.{records, action-of, level-of, Name, Duration, Fault, FirstFault}
 use Rattle.rules.proofs.Refresh.{NoFault, named-not-longer}
-use Rattle.measure.specs.Measure.{cell, Reads, Has, faults-at, faults}
+use Rattle.measure.specs.Measure.{Reads, Ceilings, faults-at, faults}
 use Rattle.measure.specs.declared.Entry.{Entry}
+use Rattle.measure.proofs.Entries.{action-lt, level-lt}
 
 -- ---- one record
 
-module _ {e : Entry} {n L : ℕ} {table : List ℕ} {F : Profile} {trace : List ℕ} {r : ℕ} (has : Has F n L table) (is : Reads trace r e) where
-  pub absent-action : n ≤ e .action → Name F trace r
-  absent-action h = inl (omega arith)
+module _ {e : Entry} {table : List ℕ} (F : Profile) (trace : List ℕ) (r : ℕ) (has : Ceilings F table) (is : Reads trace r e) where
+  here : ℕ
+  here = getD table (e .cell) 0
 
-  pub absent-level : L ≤ e .level → Name F trace r
-  absent-level h = inr (omega arith)
+  absent : Name F trace r → here ≡ 0
+  unfolding here
+  absent name = rw (is .in-cell) (has .absent (action-of trace r) (level-of trace r) (action-lt trace r) (level-lt trace r) name)
 
-  module _ (action : e .action < n) (level : e .level < L) where
-    pub present : Name F trace r → ⊥
-    present = ⊎-elim (λ h. omega arith) (λ h. omega arith)
+  present : (Name F trace r → ⊥) → here ≡ F .worst (action-of trace r) (level-of trace r) + 1
+  unfolding here
+  present named = rw (is .in-cell) (has .present (action-of trace r) (level-of trace r) (not-above (λ h. named (inl h))) (not-above (λ h. named (inr h))))
+    where
+      not-above : {x y : ℕ} → (y ≤ x → ⊥) → x < y
+      not-above h = omega arith
 
-    worst : F .worst (action-of trace r) (level-of trace r) ≡ getD table (cell (e .action) (e .level)) 0
-    worst = rw (← is .action, ← is .level) (has .worst (e .action) (e .level) action level)
+  name : here ≡ 0 → Name F trace r
+  name none = go (decLe (F .n) (action-of trace r)) (decLe (F .levels) (level-of trace r))
+    where
+      go : Dec (F .n ≤ action-of trace r) → Dec (F .levels ≤ level-of trace r) → Name F trace r
+      go (yes h) d = inl h
+      go (no h) (yes k) = inr k
+      go (no h) (no k) = absurd (omega (arith, present (⊎-elim h k)))
 
-    pub too-long : getD table (cell (e .action) (e .level)) 0 < e .duration → Duration F trace r
-    too-long h = omega (arith, worst)
+  named : (here ≡ 0 → ⊥) → Name F trace r → ⊥
+  named some h = some (absent h)
 
-    pub short : e .duration ≤ getD table (cell (e .action) (e .level)) 0 → Duration F trace r → ⊥
-    short h d = omega (arith, worst)
+  module _ {ceiling : ℕ} (read : ceiling ≡ getD table (e .cell) 0) where
+    pub no-fault : e .duration < ceiling → First (faults-at F trace r) 0
+    unfolding here
+    no-fault short =
+        let there = named (λ none. omega arith) in
+        inr (there, inr ((λ d. omega (arith, is .duration, present there)), refl))
+
+    pub no-name : ceiling ≡ 0 → First (faults-at F trace r) 15
+    unfolding here
+    no-name none = inl (name (omega arith), refl)
+
+    pub too-long : (ceiling ≡ 0 → ⊥) → ceiling ≤ e .duration → First (faults-at F trace r) 16
+    unfolding here
+    too-long some long =
+        let there = named (λ none. some (omega arith)) in
+        inr (there, inl (omega (arith, is .duration, present there), refl))
 
 -- ---- record by record
 

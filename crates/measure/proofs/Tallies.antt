@@ -10,16 +10,16 @@ use native.Mathlib.Omega.{arith}
 use lib.ListN.{getD, set, replicate, length-set, length-replicate, getD-replicate}
 use lib.Seq.{getD-set-same, getD-set-other}
 use Rattle.rules.specs.Words.{sum}
-use Rattle.rules.specs.Refresh.{records, measures, counted, summed}
-use Rattle.rules.proofs.Tests.{failed, not-both}
+use Rattle.rules.specs.Refresh.{records, action-of, level-of, duration-of, measures, counted, summed}
+use Rattle.rules.proofs.Tests.{failed}
 use Rattle.rules.proofs.Refresh.{measures-only, counted-step, summed-step, counted-most, summed-most}
-use Rattle.measure.specs.Measure.{cell, Reads, Cells, tally, Tallied, Room, Weighs}
+use Rattle.measure.specs.Measure.{cell, Reads, Cells, tally, gain, Tallied, Room, Weighs}
 use Rattle.measure.specs.declared.Entry.{Entry}
-use Rattle.measure.proofs.Entries.{bits}
+use Rattle.measure.proofs.Entries.{action-lt, level-lt, duration-lt, cell-lt}
 
 -- ---- a table of cells
 
-zeros : Cells (replicate 512 0) (λ a q. 0)
+pub zeros : Cells (replicate 512 0) (λ a q. 0)
 zeros = record {
   size = length-replicate {A = ℕ} 512 0;
   at = λ a q l k. getD-replicate {A = ℕ} 512 (cell a q) 0 0 (omega arith);
@@ -43,54 +43,38 @@ stored f g table a q v la lq here there was = record {
 -- ---- one record
 
 module _ (trace : List ℕ) (m : ℕ) (e : Entry) (is : Reads trace m e) where
-  -- A record measures nothing but its own action and level.
-  own : (a q : ℕ) → measures trace a q m ≡ true → (e .action ≡ a) × (e .level ≡ q)
-  own a q h = let (_, action, level) = measures-only trace a q m h in (is .action ∙ action, is .level ∙ level)
-
-  -- Of a quantity that grows by x where record m is a measurement.
-  module _ (f g : ℕ → ℕ → ℕ) (x : ℕ) (grows : (a q : ℕ) → g a q ≡ f a q + cond (measures trace a q m) x 0) (table : List ℕ) where
-    same : (a q : ℕ) → measures trace a q m ≡ false → g a q ≡ f a q
-    same a q h = grows a q ∙ rw h (add-zero _)
-
-    stays : measures trace (e .action) (e .level) m ≡ false → Cells table f → Cells table g
-    stays h was = record { size = was .size; at = λ a q l k. was .at a q l k ∙ sym (same a q (nothing a q)) }
-      where
-        nothing : (a q : ℕ) → measures trace a q m ≡ false
-        nothing a q = failed (measures trace a q m) (λ t. let (action, level) = own a q t in not-both (rw (action, level) t) h)
-
-    grown : measures trace (e .action) (e .level) m ≡ true → Cells table f
-        → Cells (set table (cell (e .action) (e .level)) (getD table (cell (e .action) (e .level)) 0 + x)) g
-    grown h was =
-        stored f g table (e .action) (e .level) _ (bits is .action) (bits is .level)
-        (grows (e .action) (e .level) ∙ rw (h, was .at (e .action) (e .level) (bits is .action) (bits is .level)))
-        (λ b p o. same b p (elsewhere b p o)) was
-      where
-        elsewhere : (b p : ℕ) → cell b p ≢ cell (e .action) (e .level) → measures trace b p m ≡ false
-        elsewhere b p o = failed (measures trace b p m) (λ t. let (action, level) = own b p t in o (omega arith))
-
-  tally-grows : (a q : ℕ) → tally trace (suc m) a q ≡ tally trace m a q + cond (measures trace a q m) (2 ^ 46 + e .duration) 0
-  tally-grows a q = rw (counted-step trace a q m, summed-step trace a q m, ← is .duration) (go (measures trace a q m))
+  grows : (a q : ℕ) → tally trace (suc m) a q ≡ tally trace m a q + gain trace m a q
+  grows a q = rw (counted-step trace a q m, summed-step trace a q m) (go (measures trace a q m))
     where
-      go : (b : Bool) → (counted trace a q m + cond b 1 0) * 2 ^ 46 + (summed trace a q m + cond b (e .duration) 0)
-          ≡ tally trace m a q + cond b (2 ^ 46 + e .duration) 0
+      go : (b : Bool) → (counted trace a q m + cond b 1 0) * 2 ^ 46 + (summed trace a q m + cond b (duration-of trace m) 0)
+          ≡ tally trace m a q + cond b (2 ^ 46 + duration-of trace m) 0
       go true = omega arith
       go false = omega arith
 
-  pub not-added : (tallies : List ℕ) → measures trace (e .action) (e .level) m ≡ false → Tallied trace m tallies → Tallied trace (suc m) tallies
-  not-added = stays (tally trace m) (tally trace (suc m)) (2 ^ 46 + e .duration) tally-grows
+  -- A record measures nothing but its own action and level.
+  elsewhere : (a q : ℕ) → cell a q ≢ cell (action-of trace m) (level-of trace m) → tally trace (suc m) a q ≡ tally trace m a q
+  elsewhere a q other =
+      let not-here : measures trace a q m ≡ false =
+      failed (measures trace a q m) (λ t. let (_, action, level) = measures-only trace a q m t in other (omega arith)) in
+      grows a q ∙ rw not-here (add-zero _)
 
-  pub added : (tallies : List ℕ) → measures trace (e .action) (e .level) m ≡ true → Tallied trace m tallies
-      → Tallied trace (suc m) (set tallies (cell (e .action) (e .level)) (getD tallies (cell (e .action) (e .level)) 0 + (2 ^ 46 + e .duration)))
-  added = grown (tally trace m) (tally trace (suc m)) (2 ^ 46 + e .duration) tally-grows
+  pub added : (tallies : List ℕ) (x : ℕ) → x ≡ gain trace m (action-of trace m) (level-of trace m) → Tallied trace m tallies
+      → Tallied trace (suc m) (set tallies (e .cell) (getD tallies (e .cell) 0 + x))
+  added tallies x new was =
+      rw (is .in-cell)
+      (stored (tally trace m) (tally trace (suc m)) tallies (action-of trace m) (level-of trace m) _ (action-lt trace m) (level-lt trace m)
+      (grows (action-of trace m) (level-of trace m) ∙ rw (new, was .at (action-of trace m) (level-of trace m) (action-lt trace m) (level-lt trace m)))
+      elsewhere was)
 
   -- The tallies of 65,535 records fit.
   pub room : (tallies : List ℕ) → m ≤ 65535 → Tallied trace m tallies → Room e tallies
   room tallies few was =
-      let here = was .at (e .action) (e .level) (bits is .action) (bits is .level) in
+      let a = action-of trace m in
+      let q = level-of trace m in
+      let here = was .at a q (action-lt trace m) (level-lt trace m) in
       record {
-        action = bits is .action;
-        level = bits is .level;
-        fits = omega (arith, counted-most trace (e .action) (e .level) m, summed-most trace (e .action) (e .level) m, bits is);
+        present = cell-lt is;
+        fits = rw (is .in-cell) (omega (arith, here, is .duration, counted-most trace a q m, summed-most trace a q m, duration-lt trace m));
       }
 
 -- Of no records.

@@ -1,8 +1,9 @@
 -- What the calls on a trace promise, in the words of the refresh's rules.
-use Prim.Native.Nat.{ℕ, zero, suc, _+_, _*_, _/_, _%_, _^_, _<_}
-use mathlib.Core.Bool.{Bool}
+use Prim.Native.Nat.{ℕ, zero, suc, _+_, _*_, _/_, _%_, _^_, _≤_, _<_}
+use mathlib.Core.Bool.{Bool, cond}
 use mathlib.Core.Path.{_≡_}
 use mathlib.Core.List.{List, [], _∷_}
+use mathlib.Core.Logic.{_⊎_}
 use lib.ListN.{length, getD}
 use Rattle.rules.specs.Image.{Profile}
 use Rattle.rules.specs.Refusals.{Ground, _when_, First}
@@ -19,22 +20,20 @@ cell a q = a * 8 + q
 -- e is record r of the trace.
 pub record Reads (trace : List ℕ) (r : ℕ) (e : Entry) : Type 0 where
   pub opened : e .«open» ≡ open-of trace r
-  pub action : e .action ≡ action-of trace r
-  pub level : e .level ≡ level-of trace r
+  pub in-cell : e .cell ≡ cell (action-of trace r) (level-of trace r)
   pub duration : e .duration ≡ duration-of trace r
 
--- The profile has n actions, L levels and the worst times of a table.
-pub record Has (F : Profile) (n L : ℕ) (table : List ℕ) : Type 0 where
-  pub actions : F .n ≡ n
-  pub levels : F .levels ≡ L
-  pub worst : (a q : ℕ) → a < n → q < L → F .worst a q ≡ getD table (cell a q) 0
+-- By cell the first duration that is too long for the profile, 0 where it has no such action or level.
+pub record Ceilings (F : Profile) (table : List ℕ) : Type 0 where
+  pub present : (a q : ℕ) → a < F .n → q < F .levels → getD table (cell a q) 0 ≡ F .worst a q + 1
+  pub absent : (a q : ℕ) → a < 64 → q < 8 → (F .n ≤ a) ⊎ (F .levels ≤ q) → getD table (cell a q) 0 ≡ 0
 
 -- What a record is refused for, 15 before 16.
 abbrev pub faults-at : Profile → List ℕ → ℕ → List Ground
 faults-at F trace r = 15 when Name F trace r ∷ 16 when Duration F trace r ∷ []
 
-abbrev pub Checked : Entry → ℕ → ℕ → List ℕ → ℕ → Type 0
-Checked e n L worst k = (F : Profile) (trace : List ℕ) (r : ℕ) → Has F n L worst → Reads trace r e → First (faults-at F trace r) k
+abbrev pub Checked : Entry → List ℕ → ℕ → Type 0
+Checked e table k = (F : Profile) (trace : List ℕ) (r : ℕ) → Ceilings F table → Reads trace r e → First (faults-at F trace r) k
 
 -- What a trace is refused for, by its first record at fault.
 abbrev pub faults : Profile → List ℕ → List Ground
@@ -44,7 +43,7 @@ faults F trace = 15 when ((r : ℕ) × FirstFault F trace r × Name F trace r) �
 
 -- What counts as a measurement, of the record's own action and level.
 abbrev pub Measures : Entry → Bool → Type 0
-Measures e b = (trace : List ℕ) (r : ℕ) → Reads trace r e → b ≡ measures trace (e .action) (e .level) r
+Measures e b = (trace : List ℕ) (r : ℕ) → Reads trace r e → b ≡ measures trace (action-of trace r) (level-of trace r) r
 
 -- A table with f a q for action a at level q.
 pub record Cells (table : List ℕ) (f : ℕ → ℕ → ℕ) : Type 0 where
@@ -58,11 +57,17 @@ tally trace m a q = counted trace a q m * 2 ^ 46 + summed trace a q m
 abbrev pub Tallied : List ℕ → ℕ → List ℕ → Type 0
 Tallied trace m tallies = Cells tallies (tally trace m)
 
+-- What record r adds to the tally of action a at level q.
+abbrev pub gain : List ℕ → ℕ → ℕ → ℕ → ℕ
+gain trace r a q = cond (measures trace a q r) (2 ^ 46 + duration-of trace r) 0
+
+abbrev pub Gains : Entry → ℕ → Type 0
+Gains e x = (trace : List ℕ) (r : ℕ) → Reads trace r e → x ≡ gain trace r (action-of trace r) (level-of trace r)
+
 -- There is room for one record more.
 pub record Room (e : Entry) (tallies : List ℕ) : Type 0 where
-  pub action : e .action < 64
-  pub level : e .level < 8
-  pub fits : getD tallies (cell (e .action) (e .level)) 0 + (2 ^ 46 + e .duration) < 2 ^ 64
+  pub present : e .cell < 512
+  pub fits : getD tallies (e .cell) 0 + (2 ^ 46 + e .duration) < 2 ^ 64
 
 abbrev pub Added : Entry → List ℕ → List ℕ → Type 0
 Added e tallies tallies' = (trace : List ℕ) (m : ℕ) → Reads trace m e → Tallied trace m tallies → Tallied trace (suc m) tallies'
@@ -76,8 +81,8 @@ abbrev pub Weighs : List ℕ → List ℕ → Type 0
 Weighs trace tallies = (a q : ℕ) → a < 64 → q < 8 → Counts trace a q (getD tallies (cell a q) 0)
 
 -- What one pass over a trace gives: the number of its refusal and, with none, the counts and sums of all its measurements.
-pub record Passed (trace : List ℕ) (n L : ℕ) (worst tallies : List ℕ) (k : ℕ) : Type 0 where
-  pub number : (F : Profile) → Has F n L worst → First (faults F trace) k
+pub record Passed (trace ceilings tallies : List ℕ) (k : ℕ) : Type 0 where
+  pub number : (F : Profile) → Ceilings F ceilings → First (faults F trace) k
   pub weighs : k ≡ 0 → Weighs trace tallies
 
 -- ---- new averages

@@ -2,31 +2,31 @@
 // has a cell for each of 8 levels of 64 actions, as many as a profile can have: action a at level q is cell a * 8 + q.
 ghost use mathlib.Core.Path.{_≡_};
 ghost use mathlib.Core.List.{[], _∷_};
-ghost use Prim.Native.Nat.{_+_, _*_, _≤_, max};
+ghost use Prim.Native.Nat.{_+_, _*_, _^_, _≤_, _<_, max};
 ghost use lib.ListN.{length};
 ghost use Rattle.rules.specs.Refusals.{_when_, First};
 ghost use Rattle.rules.specs.Refresh.{records, Trace};
-ghost use Rattle.measure.specs.Measure.{Reads, Checked, Measures, Tallied, Room, Added, Passed, Unmeasured, Averaged, Raised};
+ghost use Rattle.measure.specs.Measure.{Reads, Checked, Measures, Gains, Tallied, Room, Added, Passed, Unmeasured, Averaged, Raised};
 
-// A record of a trace.
+// A record of a trace, by the cell of its action and level.
 pub struct Entry {
     pub open: bool,
-    pub action: usize,
-    pub level: usize,
+    pub cell: usize,
     pub duration: u32,
 }
 
-// Record r, most significant bit first: open 1 (the bit worth 2^39), action 6 (from 2^33), level 3 (from 2^30), duration 30.
+// Record r, most significant bit first: open 1, action 6, level 3, duration 30. Action and level as they stand are the cell, of which the
+// first byte has seven bits and the second two.
 pub fn record_at(trace: &[u8], r: usize) -> Entry
     requires { ⌜ r * 5 + 5 ≤ length (now trace) ⌝ }
     ensures { λ e. ⌜ Reads (now (trace .entry)) r e ⌝ }
 {
-    let bits = fields::be40(trace, r * 5);
+    let first = fields::wide32(trace[r * 5]);
+    let rest = fields::be32(trace, r * 5 + 1);
     Entry {
-        open: bits / 549_755_813_888 == 1,
-        action: (bits / 8_589_934_592 % 64) as usize,
-        level: (bits / 1_073_741_824 % 8) as usize,
-        duration: (bits % 1_073_741_824) as u32,
+        open: first / 128 == 1,
+        cell: (first % 128 * 4 + rest / 1_073_741_824) as usize,
+        duration: rest % 1_073_741_824,
     }
 }
 
@@ -43,21 +43,20 @@ pub fn trace_refusal(trace: &[u8]) -> u32
     0
 }
 
-// The number that a record is refused with, 0 for none.
-pub fn fault(e: Entry, n: usize, levels: usize, worst: &[u32; 512]) -> u32
-    requires { ⌜ (n ≤ 64) × (levels ≤ 8) ⌝ }
-    ensures { λ k. ⌜ Checked e n levels (now (worst .entry)) k ⌝ }
+// The number that a record is refused with, 0 for none, by the first duration that is too long for its cell, 0 in an absent one.
+pub fn fault(e: Entry, ceilings: &[u32; 512]) -> u32
+    requires { ⌜ e .cell < 512 ⌝ }
+    ensures { λ k. ⌜ Checked e (now (ceilings .entry)) k ⌝ }
 {
-    if n <= e.action {
+    let at = e.cell;
+    let ceiling = ceilings[at];
+    if e.duration < ceiling {
+        return 0;
+    }
+    if ceiling == 0 {
         return 15;
     }
-    if levels <= e.level {
-        return 15;
-    }
-    if worst[e.action * 8 + e.level] < e.duration {
-        return 16;
-    }
-    0
+    16
 }
 
 // Whether a record counts as a measurement.
@@ -71,32 +70,36 @@ pub fn measures(e: Entry) -> bool
 // sum to less than 2^46, so that neither reaches into the other.
 pub const ONE: u64 = 70_368_744_177_664;
 
-// A measurement is added to the tally of its action and level.
+// What a record adds to its tally: one and its duration if it is a measurement, else nothing.
+pub fn gain(e: Entry) -> u64
+    ensures { λ r. ⌜ Gains e r ⌝ }
+    ensures { λ r. ⌜ r ≤ 2 ^ 46 + e .duration ⌝ }
+{
+    if measures(e) {
+        ONE + e.duration as u64
+    } else {
+        0
+    }
+}
+
+// A record is added to the tally of its action and level.
 pub fn add(e: Entry, tallies: &mut [u64; 512])
     requires { ⌜ Room e (now tallies) ⌝ }
     ensures { λ r. ⌜ Added e (now (tallies .entry)) (now (tallies .exit)) ⌝ }
 {
-    if measures(e) {
-        let at = e.action * 8 + e.level;
-        tallies[at] = tallies[at] + (ONE + e.duration as u64);
-    }
+    let at = e.cell;
+    tallies[at] = tallies[at] + gain(e);
 }
 
-// One pass over the trace: each record is checked and, if it is a measurement, added to the tallies, which start with nothing.
-pub fn pass(
-    trace: &[u8],
-    n: usize,
-    levels: usize,
-    worst: &[u32; 512],
-    tallies: &mut [u64; 512],
-) -> u32
-    requires { ⌜ (n ≤ 64) × (levels ≤ 8) × (records (now trace) ≤ 65535) × Tallied (now trace) 0 (now tallies) ⌝ }
-    ensures { λ k. ⌜ Passed (now (trace .entry)) n levels (now (worst .entry)) (now (tallies .exit)) k ⌝ }
+// One pass over the trace: each record is checked and added to the tallies, which start with nothing.
+pub fn pass(trace: &[u8], ceilings: &[u32; 512], tallies: &mut [u64; 512]) -> u32
+    requires { ⌜ (records (now trace) ≤ 65535) × Tallied (now trace) 0 (now tallies) ⌝ }
+    ensures { λ k. ⌜ Passed (now (trace .entry)) (now (ceilings .entry)) (now (tallies .exit)) k ⌝ }
 {
     let mut r = 0;
     while r < trace.len() / 5 {
         let e = record_at(trace, r);
-        let number = fault(e, n, levels, worst);
+        let number = fault(e, ceilings);
         if number != 0 {
             return number;
         }

@@ -1,5 +1,5 @@
 pub mod Grounds
 pub mod Copies
 pub mod Records
-pub mod Worst
+pub mod Ceilings
 pub mod Answers

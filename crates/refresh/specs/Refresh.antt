@@ -1,14 +1,15 @@
 -- What a refresh answers, and what it leaves of the lent slice.
-use Prim.Native.Nat.{ℕ, _<_}
+use Prim.Native.Nat.{ℕ, _+_, _≤_, _<_}
 use mathlib.Core.Path.{_≡_}
 use mathlib.Core.List.{List, [], _∷_, _++_}
+use mathlib.Core.Logic.{_⊎_}
 use lib.ListN.{length, getD}
 use Rattle.rules.specs.Words.{cat}
 use Rattle.rules.specs.Image.{Profile, header-bytes, levels, record-at, worst-of, profile, record-image}
 use Rattle.rules.specs.Refusals.{Ground, _when_, First, kept, Tight}
 use Rattle.rules.specs.Refresh.{refreshed, new-image, Trace, refresh-call}
 use Rattle.fields.specs.Fields.{splice}
-use Rattle.measure.specs.Measure.{cell, Has, faults, Weighs}
+use Rattle.measure.specs.Measure.{cell, Ceilings, faults, Weighs}
 
 -- The grounds for refusing to refresh the image s by the trace; of the lent slice as many bytes are needed as s has.
 abbrev pub refreshing : List ℕ → List ℕ → List ℕ → List Ground
@@ -27,13 +28,15 @@ abbrev pub own : Profile → List ℕ → ℕ → ℕ → List Ground
 own F trace needed room = 14 when Trace trace ∷ (faults F trace ++ (17 when Tight ((room, needed) ∷ []) ∷ []))
 
 -- The number of the call's own refusal and, with none, the tallies of the trace.
-pub record Weighed (trace : List ℕ) (n L : ℕ) (worst : List ℕ) (needed room : ℕ) (tallies : List ℕ) (k : ℕ) : Type 0 where
-  pub number : (F : Profile) → Has F n L worst → First (own F trace needed room) k
+pub record Weighed (trace ceilings : List ℕ) (needed room : ℕ) (tallies : List ℕ) (k : ℕ) : Type 0 where
+  pub number : (F : Profile) → Ceilings F ceilings → First (own F trace needed room) k
   pub weighs : k ≡ 0 → Weighs trace tallies
 
--- The table has the worst times of the first n actions of the image s, which has L levels.
-abbrev pub Worsts : List ℕ → ℕ → ℕ → List ℕ → Type 0
-Worsts s n L table = (a q : ℕ) → a < n → q < L → getD table (cell a q) 0 ≡ worst-of s a q
+-- The table has the first durations that are too long for the first n actions of the image s, which has L levels, and 0 in all other cells.
+pub record Ceiled (s : List ℕ) (n L : ℕ) (table : List ℕ) : Type 0 where
+  pub size : length table ≡ 512
+  pub present : (a q : ℕ) → a < n → q < L → getD table (cell a q) 0 ≡ worst-of s a q + 1
+  pub absent : (a q : ℕ) → a < 64 → q < 8 → (n ≤ a) ⊎ (L ≤ q) → getD table (cell a q) 0 ≡ 0
 
 -- The slice has a copy of the record of action a: it there again changes nothing.
 abbrev pub Copied : List ℕ → List ℕ → ℕ → Type 0

@@ -10,7 +10,7 @@ ghost use Rattle.rules.specs.Refusals.{Accepted};
 ghost use Rattle.fields.specs.Fields.{splice};
 ghost use Rattle.image.specs.Reading.{HasRecord, HasRecords};
 ghost use Rattle.measure.specs.Measure.{Tallied};
-ghost use Rattle.refresh.specs.Refresh.{Refreshes, Weighed, Worsts, Renews, AllRenewed};
+ghost use Rattle.refresh.specs.Refresh.{Refreshes, Weighed, Ceiled, Renews, AllRenewed};
 
 // The answer of a refresh: the refusal, 0 for none, and the bytes of the new image.
 #[repr(C)]
@@ -23,21 +23,19 @@ pub struct Refreshed {
 // trace, which leaves its tallies.
 fn own_refusal(
     trace: &[u8],
-    n: usize,
-    levels: usize,
-    worst: &[u32; 512],
+    ceilings: &[u32; 512],
     tallies: &mut [u64; 512],
     needed: usize,
     room: usize,
 ) -> u32
-    requires { ⌜ (n ≤ 64) × (levels ≤ 8) × Tallied (now trace) 0 (now tallies) ⌝ }
-    ensures { λ k. ⌜ Weighed (now (trace .entry)) n levels (now (worst .entry)) needed room (now (tallies .exit)) k ⌝ }
+    requires { ⌜ Tallied (now trace) 0 (now tallies) ⌝ }
+    ensures { λ k. ⌜ Weighed (now (trace .entry)) (now (ceilings .entry)) needed room (now (tallies .exit)) k ⌝ }
 {
     let whole = measure::trace_refusal(trace);
     if whole != 0 {
         return whole;
     }
-    let fault = measure::pass(trace, n, levels, worst, tallies);
+    let fault = measure::pass(trace, ceilings, tallies);
     if fault != 0 {
         return fault;
     }
@@ -47,26 +45,26 @@ fn own_refusal(
     0
 }
 
-// The worst times of action a, into its cells.
-fn worst_row(image: &[u8], levels: usize, a: usize, worst: &mut [u32; 512])
-    requires { ⌜ HasRecord (now image) levels a × (length (now worst) ≡ 512) ⌝ }
-    ensures { λ r. ⌜ now (worst .exit) ≡ splice (now (worst .entry)) (a * 8) (tab (worst-of (now (image .entry)) a) levels) ⌝ }
+// The first durations that are too long for action a, by level.
+fn ceiling_row(image: &[u8], levels: usize, a: usize, ceilings: &mut [u32; 512])
+    requires { ⌜ HasRecord (now image) levels a × (length (now ceilings) ≡ 512) ⌝ }
+    ensures { λ r. ⌜ now (ceilings .exit) ≡ splice (now (ceilings .entry)) (a * 8) (tab (λ q. worst-of (now (image .entry)) a q + 1) levels) ⌝ }
 {
     let mut q = 0;
     while q < levels {
-        worst[a * 8 + q] = read::worst_at(image, levels, a, q);
+        ceilings[a * 8 + q] = read::worst_at(image, levels, a, q) + 1;
         q += 1;
     }
 }
 
-// The worst times of n actions.
-fn worst_times(image: &[u8], n: usize, levels: usize, worst: &mut [u32; 512])
-    requires { ⌜ HasRecords (now image) levels n × (length (now worst) ≡ 512) ⌝ }
-    ensures { λ r. ⌜ Worsts (now (image .entry)) n levels (now (worst .exit)) ⌝ }
+// Those of n actions, in a table that starts with none.
+fn take_ceilings(image: &[u8], n: usize, levels: usize, ceilings: &mut [u32; 512])
+    requires { ⌜ HasRecords (now image) levels n × Ceiled (now image) 0 levels (now ceilings) ⌝ }
+    ensures { λ r. ⌜ Ceiled (now (image .entry)) n levels (now (ceilings .exit)) ⌝ }
 {
     let mut a = 0;
     while a < n {
-        worst_row(image, levels, a, worst);
+        ceiling_row(image, levels, a, ceilings);
         a += 1;
     }
 }
@@ -110,11 +108,11 @@ fn refresh_accepted(
     requires { ⌜ Accepted (now image) × (n ≡ profile (now image) .n) × (levels ≡ profile (now image) .levels) ⌝ }
     ensures { λ r. ⌜ Refreshes (now (image .entry)) (now (trace .entry)) (now (out .entry)) (now (out .exit)) (r .refusal .number) (r .bytes) ⌝ }
 {
-    let mut worst = [0u32; 512];
-    worst_times(image, n, levels, &mut worst);
+    let mut ceilings = [0u32; 512];
+    take_ceilings(image, n, levels, &mut ceilings);
     let mut tallies = [0u64; 512];
     let bytes = image.len();
-    let number = own_refusal(trace, n, levels, &worst, &mut tallies, bytes, out.len());
+    let number = own_refusal(trace, &ceilings, &mut tallies, bytes, out.len());
     if number != 0 {
         return Refreshed {
             refusal: Refusal { number },

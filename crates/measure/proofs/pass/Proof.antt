@@ -9,35 +9,36 @@ use native.Mathlib.Omega.{arith}
 use borrow.Author.Needs.{needs}
 use Rattle.rules.specs.Image.{Profile}
 use Rattle.rules.specs.Refresh.{records, Fault}
-use Rattle.measure.specs.Measure.{Has, Tallied}
+use Rattle.measure.specs.Measure.{Ceilings, Tallied}
+use Rattle.measure.proofs.Entries.{cell-lt}
 use Rattle.measure.proofs.Faults.{stops, goes-on, passed}
 use Rattle.measure.proofs.Tallies.{room, weighs}
 use Rattle.measure.proofs.pass.Statement.{statement}
 use Rattle.measure.proofs.pass.Tie as tie
 
-record Done (trace : List ℕ) (n L : ℕ) (worst tallies : List ℕ) (r : ℕ) : Type 0 where
+record Done (trace ceilings tallies : List ℕ) (r : ℕ) : Type 0 where
   within : r ≤ records trace
-  sound : (F : Profile) → Has F n L worst → (e : ℕ) → e < r → Fault F trace e → ⊥
+  sound : (F : Profile) → Ceilings F ceilings → (e : ℕ) → e < r → Fault F trace e → ⊥
   tallied : Tallied trace r tallies
 
 abbrev Inv-loop : tie.InvT-loop
-Inv-loop trace n levels worst tallies₀ r₀ tallies r = Done trace n levels worst tallies r
+Inv-loop trace ceilings tallies₀ r₀ tallies r = Done trace ceilings tallies r
 
 abbrev μ-loop : tie.MeasureT-loop
-μ-loop trace n levels worst tallies₀ r₀ tallies r = records trace - r
+μ-loop trace ceilings tallies₀ r₀ tallies r = records trace - r
 
 loop-holds : tie.Need-loop-holds Inv-loop μ-loop
 loop-holds c = record {
   within = zero-le;
   sound = λ F has e l f. not-suc-le-zero l;
-  tallied = c .before .pre .3;
+  tallied = c .before .pre .1;
 }
 
 record-at-requires : tie.Need-record-at-requires Inv-loop μ-loop
 record-at-requires c κs = search needs
 
 fault-requires : tie.Need-fault-requires Inv-loop μ-loop
-fault-requires c κs = search needs
+fault-requires c κs = cell-lt (c .record-at .ensures)
 
 returns : tie.Need-returns Inv-loop μ-loop
 unfolding records
@@ -55,7 +56,7 @@ add-requires : tie.Need-add-requires Inv-loop μ-loop
 add-requires c κs =
     let turn = c .before .before .before .before in
     let was = turn .before .loop in
-    let few : was .r ≤ 65535 = omega (arith, was .inv .within, turn .before .before .before .pre .2) in
+    let few : was .r ≤ 65535 = omega (arith, was .inv .within, turn .before .before .before .pre .0) in
     room _ (was .r) _ (c .before .before .before .record-at .ensures) _ few (was .inv .tallied)
 
 add-r : tie.Need-add-r Inv-loop μ-loop
@@ -85,7 +86,7 @@ returns-2 c =
     let all : was .r ≡ records (c .before .before .before .args .trace .now) = omega (arith, was .inv .within, c .loop-test .left) in
     record {
       number = λ F has. passed F _ (λ e l. was .inv .sound F has e (omega arith));
-      weighs = λ none. weighs _ _ (c .before .before .before .pre .2) (rw all at (was .inv .tallied));
+      weighs = λ none. weighs _ _ (c .before .before .before .pre .0) (rw all at (was .inv .tallied));
     }
 
 pub pass-spec : {M : Type 1} → statement M

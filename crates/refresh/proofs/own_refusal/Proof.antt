@@ -10,7 +10,7 @@ use Rattle.rules.specs.Image.{Profile}
 use Rattle.rules.specs.Refusals.{_when_, First}
 use Rattle.rules.specs.Refresh.{Trace}
 use Rattle.rules.proofs.Refusals.{first-stops}
-use Rattle.measure.specs.Measure.{Has, faults}
+use Rattle.measure.specs.Measure.{Ceilings, faults}
 use Rattle.refresh.specs.Refresh.{own}
 use Rattle.refresh.proofs.Grounds.{room-grounds, rest-grounds, few-records, after-trace, after-faults}
 use Rattle.refresh.proofs.own_refusal.Statement.{statement}
@@ -22,7 +22,7 @@ whole c = rw (c .if1 .left) at (c .before .trace-refusal .ensures)
 
 -- none of its records is at fault
 rest : (c : tie.Else2) (F : Profile) (k : ℕ) → let x = c .before .before .before .before .before .before .args in
-    Has F (x .n) (x .levels) (now (x .worst)) → First (room-grounds (x .needed) (x .room)) k → First (own F (now (x .trace)) (x .needed) (x .room)) k
+    Ceilings F (now (x .ceilings)) → First (room-grounds (x .needed) (x .room)) k → First (own F (now (x .trace)) (x .needed) (x .room)) k
 rest c F k has r =
     let x = c .before .before .before .before .before .before .args in
     after-trace F (now (x .trace)) (x .needed) (x .room) k (whole (c .before .before .before))
@@ -43,7 +43,7 @@ returns c =
 pass-requires : tie.Need-pass-requires
 pass-requires c κs =
     let p = c .before .before .before .before in
-    (p .pre .0, p .pre .1, few-records (now (p .args .trace)) (whole (c .before)), p .pre .2)
+    (few-records (now (p .args .trace)) (whole (c .before)), p .pre)
 
 returns-2 : tie.Need-returns-2
 returns-2 c =

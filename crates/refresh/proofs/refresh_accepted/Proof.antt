@@ -4,7 +4,7 @@ use mathlib.Core.Path.{refl}
 use mathlib.Core.List.{List}
 use native.Mathlib.Omega.{arith}
 use denote.Ref.{now}
-use lib.ListN.{length, length-replicate}
+use lib.ListN.{length}
 use borrow.Author.Needs.{needs}
 use borrow.Author.Tests.{ne-eqb}
 use Rattle.rules.specs.Image.{profile}
@@ -15,20 +15,22 @@ use Rattle.measure.proofs.Tallies.{none-tallied}
 use Rattle.refresh.specs.Refresh.{own}
 use Rattle.refresh.proofs.Grounds.{gives-none, enough, after-image}
 use Rattle.refresh.proofs.Records.{accepted-records, copies, new-written}
-use Rattle.refresh.proofs.Worst.{has}
+use Rattle.refresh.proofs.Ceilings.{none-ceiled, ceilings}
 use Rattle.refresh.proofs.refresh_accepted.Statement.{statement}
 use Rattle.refresh.proofs.refresh_accepted.Tie as tie
 
 records : (c : tie.Start) → HasRecords (now (c .args .image)) (c .args .levels) (c .args .n)
 records c = accepted-records (now (c .args .image)) (c .args .n) (c .args .levels) (c .pre .0) (c .pre .1) (c .pre .2)
 
-worst-times-requires : tie.Need-worst-times-requires
-worst-times-requires c κs = (records (c .before .before .before .before), length-replicate {A = ℕ} 512 0)
+take-ceilings-requires : tie.Need-take-ceilings-requires
+take-ceilings-requires c κs =
+    let start = c .before .before .before .before in
+    (records start, none-ceiled (now (start .args .image)) (start .args .levels))
 
 own-refusal-requires : tie.Need-own-refusal-requires
 own-refusal-requires c κs =
     let start = c .before .before .before .before .before .before .before in
-    (records start .few-actions, records start .few-levels, none-tallied (now (start .args .trace)))
+    none-tallied (now (start .args .trace))
 
 -- ---- past the pass over the trace
 
@@ -43,7 +45,7 @@ numbered : (c : tie.After-own-refusal) → First (grounds (past c)) (c .own-refu
 numbered c =
     let start = past c in
     let s = now (start .args .image) in
-    c .own-refusal .ensures .number (profile s) (has s _ _ (start .pre .1) (start .pre .2) (c .before .before .before .worst-times .ensures))
+    c .own-refusal .ensures .number (profile s) (ceilings s _ _ (start .pre .1) (start .pre .2) (c .before .before .before .take-ceilings .ensures))
 
 none : (c : tie.Else1) → First (grounds (past (c .before))) 0
 none c = gives-none (grounds (past (c .before))) (c .if1 .left) (numbered (c .before))
@@ -94,7 +96,7 @@ pub refresh-accepted-spec : {M : Type 1} → statement M
 refresh-accepted-spec =
     tie.close
     (tie.spec
-    worst-times-requires
+    take-ceilings-requires
     own-refusal-requires
     returns
     copy-front-requires
