@@ -9,7 +9,7 @@ use borrow.Author.Count.{below-more}
 use lib.ListN.{getD}
 use Rattle.rules.specs.Image.{Profile}
 use Rattle.rules.specs.Refusals.{First}
-use Rattle.rules.specs.Refresh.{records, action-of, level-of, Name, Duration, Fault, FirstFault}
+use Rattle.rules.specs.Refresh.{records, action-of, level-of, Name, Fault, FirstFault}
 use Rattle.rules.proofs.Refresh.{NoFault, named-not-longer}
 use Rattle.measure.specs.Measure.{Reads, Ceilings, faults-at, faults}
 use Rattle.measure.specs.declared.Entry.{Entry}

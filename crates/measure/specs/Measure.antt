@@ -57,7 +57,7 @@ tally trace m a q = counted trace a q m * 2 ^ 46 + summed trace a q m
 abbrev pub Tallied : List ℕ → ℕ → List ℕ → Type 0
 Tallied trace m tallies = Cells tallies (tally trace m)
 
--- What record r adds to the tally of action a at level q.
+-- What record r adds to the tally of action a at level q: nothing unless it is a measurement of it.
 abbrev pub gain : List ℕ → ℕ → ℕ → ℕ → ℕ
 gain trace r a q = cond (measures trace a q r) (2 ^ 46 + duration-of trace r) 0
 

@@ -43,7 +43,8 @@ pub fn trace_refusal(trace: &[u8]) -> u32
     0
 }
 
-// The number that a record is refused with, 0 for none, by the first duration that is too long for its cell, 0 in an absent one.
+// The number that a record is refused with, 0 for none. A cell's ceiling is the first duration that is too long for it, 0 where the action
+// or the level is absent: one test finds either fault.
 pub fn fault(e: Entry, ceilings: &[u32; 512]) -> u32
     requires { ⌜ e .cell < 512 ⌝ }
     ensures { λ k. ⌜ Checked e (now (ceilings .entry)) k ⌝ }
@@ -116,7 +117,7 @@ pub fn unmeasured(average: u32) -> u32
     average
 }
 
-// The sum over the count, rounded down.
+// The sum over the count, rounded down, and as wide as the sum.
 pub fn averaged(tally: u64, average: u32) -> u64
     ensures { λ r. ⌜ Averaged tally average r ⌝ }
 {

@@ -12,7 +12,7 @@ use Rattle.rules.specs.Refresh.{new-average, refreshed, new-image}
 use Rattle.rules.proofs.Refusals.{accepted-sound}
 use Rattle.fields.specs.Fields.{splice}
 use Rattle.fields.proofs.Bytes.{Bytes}
-use Rattle.fields.proofs.Holds.{Holds, left, right}
+use Rattle.fields.proofs.Holds.{Holds, right}
 use Rattle.fields.proofs.Splice.{of-splice}
 use Rattle.fields.proofs.Tabs.{tab-is}
 use Rattle.fields.proofs.Cats.{length-cat, nth, cat-more}

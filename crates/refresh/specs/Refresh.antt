@@ -38,7 +38,7 @@ pub record Ceiled (s : List ℕ) (n L : ℕ) (table : List ℕ) : Type 0 where
   pub present : (a q : ℕ) → a < n → q < L → getD table (cell a q) 0 ≡ worst-of s a q + 1
   pub absent : (a q : ℕ) → a < 64 → q < 8 → (n ≤ a) ⊎ (L ≤ q) → getD table (cell a q) 0 ≡ 0
 
--- The slice has a copy of the record of action a: it there again changes nothing.
+-- The slice has a copy of the record of action a: writing it there again changes nothing.
 abbrev pub Copied : List ℕ → List ℕ → ℕ → Type 0
 Copied s out a = splice out (record-at (levels s) a) (record-image (profile s) a) ≡ out
 

@@ -45,7 +45,7 @@ fn own_refusal(
     0
 }
 
-// The first durations that are too long for action a, by level.
+// The first durations that are too long for action a, by level: one above its worst times.
 fn ceiling_row(image: &[u8], levels: usize, a: usize, ceilings: &mut [u32; 512])
     requires { ⌜ HasRecord (now image) levels a × (length (now ceilings) ≡ 512) ⌝ }
     ensures { λ r. ⌜ now (ceilings .exit) ≡ splice (now (ceilings .entry)) (a * 8) (tab (λ q. worst-of (now (image .entry)) a q + 1) levels) ⌝ }

@@ -15,14 +15,12 @@ add-result c = search needs
 
 returns : tie.Need-returns
 returns c = (
-  (λ trace r is.
-      let yes-it-does = sym (c .before .before .measures .ensures trace r is) ∙ c .before .if1 .taken in
-      rw (yes-it-does, is .duration)),
+  (λ trace r is. rw (sym (c .before .before .measures .ensures trace r is) ∙ c .before .if1 .taken, is .duration)),
   search needs,
 )
 
 returns-2 : tie.Need-returns-2
-returns-2 c = ((λ trace r is. let it-does-not = sym (c .before .measures .ensures trace r is) ∙ c .if1 .left in rw it-does-not), search needs)
+returns-2 c = ((λ trace r is. rw (sym (c .before .measures .ensures trace r is) ∙ c .if1 .left)), search needs)
 
 pub gain-spec : {M : Type 1} → statement M
 gain-spec = tie.close (tie.spec measures-requires cast-result add-result returns returns-2)
