@@ -35,7 +35,8 @@
  *
  *   trace      uint8_t   5 a record           at most 327675, for a refresh, with an image and room for the new one
  *
- * Stack, as compiled today: under 4096 bytes a call, but for the refresh, 14336, and the dry run, 512 and 704 more for each action.
+ * Stack, as compiled today, in bytes: under 4096 a call, but for the refresh, under 9216, the dry run, under 16384 (of 64 actions), and the dry
+ * run from an image, which has its tables there, under 53248.
  */
 #ifndef NYOKAZERUBI_H
 #define NYOKAZERUBI_H
