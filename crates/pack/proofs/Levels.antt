@@ -1,9 +1,12 @@
 -- The levels of an action one by one, each held against the one before it. Assumes nothing.
-use Prim.Native.Nat.{ℕ, zero, suc, _<_}
-use mathlib.Core.Logic.{_⊎_, inl, inr}
+use Prim.Native.Nat.{ℕ, zero, suc, _-_, _≤_, _<_}
+use mathlib.Core.Logic.{_⊎_, inl, inr, ⊎-elim, _↔_}
 use native.Mathlib.Nat.{not-suc-le-zero}
+use native.Mathlib.Omega.{arith}
 use Rattle.rules.specs.Refusals.{Falls}
+use Rattle.rules.proofs.Accepted.{rises}
 use Rattle.image.specs.Faults.{RowBreaks}
+use Rattle.pack.specs.Faults.{LongTime}
 
 -- the time at the level before q; 0 where there is none
 abbrev pub prior : (ℕ → ℕ) → ℕ → ℕ
@@ -32,3 +35,13 @@ module _ (average worst : ℕ → ℕ) where
   ordered L none (inl f) = none (f .0) (f .1) (inl (f .2))
   ordered L none (inr (inl f)) = none (suc (f .0)) (f .1) (inr (inl (f .2)))
   ordered L none (inr (inr f)) = none (suc (f .0)) (f .1) (inr (inr (f .2)))
+
+  -- In order the longest time is the worst one at the top level.
+  pub longest-top : (L : ℕ) → 1 ≤ L → (RowBreaks L average worst → ⊥) → (16777215 < worst (L - 1)) ↔ LongTime average worst L
+  longest-top L some none = ((λ h. (L - 1, omega arith, inr h)), (λ f. above (f .0) (f .1) (f .2)))
+    where
+      above : (q : ℕ) → q < L → LongAt q → 16777215 < worst (L - 1)
+      above q b long =
+          let rise : worst q ≤ worst (L - 1) = rises worst L (λ f. none (inr (inr f))) q (L - 1) (omega arith) (omega arith) in
+          let under : worst q < average q → ⊥ = λ f. none (inl (q, b, f)) in
+          ⊎-elim (λ h. omega arith) (λ h. omega arith) long

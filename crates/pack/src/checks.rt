@@ -3,7 +3,7 @@
 ghost use mathlib.Core.Path.{_≡_};
 ghost use mathlib.Core.Bool.{true};
 ghost use mathlib.Core.Logic.{_↔_};
-ghost use Prim.Native.Nat.{_+_, _*_, _≤_, _<_};
+ghost use Prim.Native.Nat.{ℕ, _+_, _*_, _≤_, _<_};
 ghost use lib.ListN.{length};
 ghost use Rattle.rules.specs.Image.{of-tables};
 ghost use Rattle.rules.specs.Refusals.{Tight};
@@ -41,12 +41,17 @@ pub fn tight(
     room < packing::image_bytes(n, levels)
 }
 
-// Whether a time of action a is above the longest.
-fn long_time(averages: &[u32], worst: &[u32], levels: usize, a: usize) -> bool
+// Whether a time of action a is above the longest. Where its times are in order (7 is not given for it), the longest is the worst one at the
+// top level.
+fn long_time(averages: &[u32], worst: &[u32], levels: usize, a: usize, ordered: bool) -> bool
     requires { ⌜ (a * levels + levels ≤ length (now averages)) × (a * levels + levels ≤ length (now worst)) ⌝ }
+    requires { ⌜ (1 ≤ levels) × (ordered ≡ true → RowBreaks levels (times levels (now averages) a) (times levels (now worst) a) → ⊥) ⌝ }
     ensures { λ r. ⌜ (r ≡ true) ↔ LongTime (times levels (now (averages .entry)) a) (times levels (now (worst .entry)) a) levels ⌝ }
 {
     let row = a * levels;
+    if ordered {
+        return rules::LONGEST_TIME < worst[row + (levels - 1)];
+    }
     let mut q = 0;
     while q < levels {
         if rules::LONGEST_TIME < averages[row + q] {
@@ -89,7 +94,7 @@ fn disordered(averages: &[u32], worst: &[u32], levels: usize, a: usize) -> bool
     false
 }
 
-// Refusal 6: a deadline above the cycle, a mask that names action n or more, a time above the longest.
+// Refusal 6: a deadline above the cycle, a mask that names action n or more, a time above the longest. `ordered` says that 7 is given for none.
 pub fn range(
     n: usize,
     levels: usize,
@@ -98,8 +103,10 @@ pub fn range(
     deadlines: &[u32],
     averages: &[u32],
     worst: &[u32],
+    ordered: bool,
 ) -> usize
-    requires { ⌜ Roomy n levels (now masks) (now deadlines) (now averages) (now worst) ⌝ }
+    requires { ⌜ Roomy n levels (now masks) (now deadlines) (now averages) (now worst) × (1 ≤ levels) ⌝ }
+    requires { ⌜ (ordered ≡ true → (a : ℕ) → a < n → RowBreaks levels (times levels (now averages) a) (times levels (now worst) a) → ⊥) ⌝ }
     ensures { λ r. ⌜ LowestFault
         (RangeFault (of-tables n levels cycle (now (masks .entry)) (now (deadlines .entry)) (now (averages .entry)) (now (worst .entry)))) n r ⌝ }
 {
@@ -111,7 +118,7 @@ pub fn range(
         if !sets::below(masks[a], n) {
             return a;
         }
-        if long_time(averages, worst, levels, a) {
+        if long_time(averages, worst, levels, a, ordered) {
             return a;
         }
         a += 1;

@@ -26,9 +26,18 @@ pub fn refusal(
     if checks::tight(n, levels, masks, deadlines, averages, worst, room) {
         return 17;
     }
-    // The lowest action at fault for 6 and for 7, n for none.
-    let out = checks::range(n, levels, cycle, masks, deadlines, averages, worst);
+    // The lowest action at fault for 7 and for 6, n for none. 6 is given first, but where no row breaks the rule of 7 it is the sooner told.
     let fallen = checks::table(n, levels, averages, worst);
+    let out = checks::range(
+        n,
+        levels,
+        cycle,
+        masks,
+        deadlines,
+        averages,
+        worst,
+        n <= fallen,
+    );
     if out < n {
         return 6;
     }

@@ -27,7 +27,7 @@ use Rattle.rules.proofs.Demand.Record.{demand-three}
 -- ---- rule and ranges by position
 
 -- a time that never falls from a level to the next never falls
-rises : (time : ℕ → ℕ) (L : ℕ) → (Falls time L → ⊥) → (q r : ℕ) → q ≤ r → r < L → time q ≤ time r
+pub rises : (time : ℕ → ℕ) (L : ℕ) → (Falls time L → ⊥) → (q r : ℕ) → q ≤ r → r < L → time q ≤ time r
 rises time L never q r l = le-ind (λ (m : ℕ). m < L → time q ≤ time m) (λ h. le-refl _)
     (λ m k ih h. le-trans (ih (omega arith)) (up m h)) r l
   where

@@ -4,6 +4,7 @@ use mathlib.Core.Path.{refl}
 use mathlib.Core.List.{List, [], _∷_}
 use mathlib.Core.Logic.{_⊎_, inl, inr}
 use borrow.Author.Needs.{needs}
+use borrow.Author.Tests.{leb-true}
 use Rattle.rules.specs.Image.{Profile, of-tables}
 use Rattle.rules.specs.Refusals.{_when_, First, Count, Range, TimeOut, Table, Looped, Unfit, Tight, write-call}
 use Rattle.pack.specs.Faults.{RangeFault}
@@ -49,7 +50,7 @@ not-17 : (c : tie.Else2) → Tight (Rooms (past-17 c)) → ⊥
 not-17 c = refuted (c .before .tight .ensures) (c .if2 .left)
 
 in-range : (c : tie.Else3) (a : ℕ) → a < past-6 c .args .n → RangeFault (F (past-6 c)) a → ⊥
-in-range c a h f = none-at-fault (c .before .before .range .ensures) (c .if3 .left) (a, h, f)
+in-range c a h f = none-at-fault (c .before .range .ensures) (c .if3 .left) (a, h, f)
 
 not-6 : (c : tie.Else3) → Range (F (past-6 c)) ⊎ TimeOut (F (past-6 c)) → ⊥
 unfolding of-tables
@@ -59,7 +60,7 @@ not-6 c f =
 
 not-7 : (c : tie.Else4) → Table (F (past-6 (c .before))) → ⊥
 unfolding of-tables
-not-7 c = none-at-fault (c .before .before .table .ensures) (c .if4 .left)
+not-7 c = none-at-fault (c .before .before .before .table .ensures) (c .if4 .left)
 
 rest : (c : tie.Else2) (k : ℕ) → Rest (past-17 c) k → First (write-call (F (past-17 c)) (Rooms (past-17 c))) k
 rest c k p = inr (not-3 (c .before .before), inr (not-17 c, p))
@@ -88,25 +89,26 @@ tight-requires c κs = (counts c .0, counts c .2)
 returns-2 : tie.Need-returns-2
 returns-2 c = inr (not-3 (c .before .before), inl (c .before .tight .ensures .0 (c .if2 .taken), refl))
 
-range-requires : tie.Need-range-requires
-range-requires c κs = room c
-
 table-requires : tie.Need-table-requires
 table-requires c κs =
-    let r = room (c .before) in
+    let r = room c in
     (r .averages-room, r .worst-room)
+
+range-requires : tie.Need-range-requires
+range-requires c κs =
+    ((room (c .before), counts (c .before .before .before) .1), λ e a h f. none-at-fault (c .table .ensures) (leb-true _ _ e) (a, h, f))
 
 returns-3 : tie.Need-returns-3
 unfolding of-tables
 returns-3 c =
     let e = c .before .before .before in
-    rest e 6 (inl (range-faults (F (past-17 e)) .0 (some-at-fault (c .before .before .range .ensures) (c .if3 .taken)), refl))
+    rest e 6 (inl (range-faults (F (past-17 e)) .0 (some-at-fault (c .before .range .ensures) (c .if3 .taken)), refl))
 
 returns-4 : tie.Need-returns-4
 unfolding of-tables
 returns-4 c =
     rest (c .before .before .before .before) 7
-    (inr (not-6 (c .before), inl (some-at-fault (c .before .before .table .ensures) (c .if4 .taken), refl)))
+    (inr (not-6 (c .before), inl (some-at-fault (c .before .before .before .table .ensures) (c .if4 .taken), refl)))
 
 judge-requires : tie.Need-judge-requires
 judge-requires c κs =
@@ -130,8 +132,8 @@ refusal-spec =
     returns
     tight-requires
     returns-2
-    range-requires
     table-requires
+    range-requires
     returns-3
     returns-4
     judge-requires

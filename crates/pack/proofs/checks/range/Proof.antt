@@ -14,11 +14,11 @@ use Rattle.pack.proofs.checks.range.Statement.{statement}
 use Rattle.pack.proofs.checks.range.Tie as tie
 
 abbrev Inv-loop : tie.InvT-loop
-Inv-loop n levels cycle masks deadlines averages worst a₀ a =
+Inv-loop n levels cycle masks deadlines averages worst ordered a₀ a =
     (a ≤ n) × ((k : ℕ) → k < a → RangeFault (of-tables n levels cycle masks deadlines averages worst) k → ⊥)
 
 abbrev μ-loop : tie.MeasureT-loop
-μ-loop n levels cycle masks deadlines averages worst a₀ a = n - a
+μ-loop n levels cycle masks deadlines averages worst ordered a₀ a = n - a
 
 loop-holds : tie.Need-loop-holds Inv-loop μ-loop
 loop-holds c = (search needs, below-none _)
@@ -55,8 +55,10 @@ returns-2 c =
 long-time-requires : tie.Need-long-time-requires Inv-loop μ-loop
 long-time-requires c κs =
     let p = c .before .before .before .before .before in
-    let x = p .before .before .before .before .before .before .args in
-    omega (arith, stride-fits (p .before .loop .a) (x .n) (x .levels) (p .loop-test .taken))
+    let start = p .before .before .before .before .before .before in
+    let x = start .args in
+    let fits = stride-fits (p .before .loop .a) (x .n) (x .levels) (p .loop-test .taken) in
+    ((omega (arith, fits, start .pre), omega (arith, fits, start .pre)), (start .pre .0 .1, λ e. start .pre .1 e (p .before .loop .a) (p .loop-test .taken)))
 
 returns-3 : tie.Need-returns-3 Inv-loop μ-loop
 unfolding of-tables
