@@ -6,12 +6,11 @@ use mathlib.Core.Logic.{_≢_}
 use lib.IntN.{ℤ}
 use Rattle.rules.specs.Run as rules
 use Rattle.run.specs.declared.Run.{Run}
-use Rattle.run.specs.declared.Answer.the-variants.{Refused, Given as Gives}
-use Rattle.run.specs.declared.Asked.{Asked}
+use Rattle.run.specs.declared.Answer.the-variants.{Refused}
 use Rattle.run.specs.declared.Started.{Started}
 use Rattle.run.specs.declared.Reported.{Reported}
-use Rattle.run.specs.Calls.{run-of, answer-of, start-of, next-of}
-use Rattle.run.proofs.Answers.{run-of-one, start-of-one, next-of-one, AskKept, asked-kept, reported-kept, started-kept}
+use Rattle.run.specs.Calls.{run-of, start-of, next-of}
+use Rattle.run.proofs.Answers.{run-of-one, start-of-one, next-of-one, asked-kept, reported-kept, started-kept}
 use Rattle.ratio.specs.declared.Reading.{Reading}
 use Rattle.ratio.specs.Ratio.{reading-of}
 use Rattle.speed.proofs.Answers.{reads-settled}

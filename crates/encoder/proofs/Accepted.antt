@@ -1,10 +1,9 @@
 -- The encoder's profile is accepted: one test of its image, computed, and its order by name. Assumes nothing.
 use Prim.Native.Nat.{ℕ}
-use mathlib.Core.Path.{_≡_, refl}
+use mathlib.Core.Path.{refl}
 use mathlib.Core.Bool.{true}
-use mathlib.Core.List.{List}
 use Rattle.rules.specs.Words.{all-pass, sum, greatest-of, least-of, cat}
-use Rattle.rules.specs.Image.{Profile, has, due, header, version, actions, levels, cycle, header-spare, record-bytes, record-at, image-bytes, mask-of, deadline-of, spare-of, average-of, worst-of, profile, of-tables, header-of, level-image, record-image, image}
+use Rattle.rules.specs.Image.{has, due, header, version, actions, levels, cycle, header-spare, record-bytes, record-at, image-bytes, mask-of, deadline-of, spare-of, average-of, worst-of, profile, of-tables, header-of, level-image, record-image, image}
 use Rattle.rules.specs.Limits.{margin, mixed, limit}
 use Rattle.rules.specs.Refusals.{Accepted}
 use Rattle.rules.proofs.Order.OfProfile.{action-at}

@@ -4,13 +4,6 @@ use lib.ListN.{length-take}
 use borrow.Author.Needs.{needs}
 use Rattle.cases.proofs.dries.Statement.{statement}
 use Rattle.cases.proofs.dries.Tie as tie
-use Rattle.cases.proofs.dries.Reads as reads
-use Rattle.cases.proofs.dries.Lts as lts
-use Rattle.check.proofs.same.Reads as same-reads
-use Rattle.files.proofs.read_file.Reads as read-file-reads
-use Rattle.io.proofs.buffer.Reads as buffer-reads
-use Rattle.io.proofs.large_buffer.Reads as large-buffer-reads
-use Rattle.print.proofs.dry_text.Reads as dry-text-reads
 
 buffer-requires : tie.Need-buffer-requires
 buffer-requires c κs = search needs

@@ -4,13 +4,6 @@ use lib.ListN.{length-take}
 use borrow.Author.Needs.{needs}
 use Rattle.dry_run.proofs.main.Statement.{statement}
 use Rattle.dry_run.proofs.main.Tie as tie
-use Rattle.dry_run.proofs.main.Reads as reads
-use Rattle.dry_run.proofs.main.Lts as lts
-use Rattle.files.proofs.read_file.Reads as read-file-reads
-use Rattle.io.proofs.buffer.Reads as buffer-reads
-use Rattle.io.proofs.large_buffer.Reads as large-buffer-reads
-use Rattle.io.proofs.write_all.Reads as write-all-reads
-use Rattle.print.proofs.dry_text.Reads as dry-text-reads
 
 buffer-requires : tie.Need-buffer-requires
 buffer-requires c κs = search needs

@@ -3,9 +3,6 @@ use borrow.Author.Needs.{needs}
 use Rattle.encoder.specs.Times.{masks, deadlines, averages, worsts}
 use Rattle.encoder.proofs.write_image.Statement.{statement}
 use Rattle.encoder.proofs.write_image.Tie as tie
-use Rattle.encoder.proofs.write_image.Reads as reads
-use Rattle.encoder.proofs.write_image.Lts as lts
-use Rattle.profile.proofs.write.Reads as write-reads
 
 slice-aggregate-write : tie.Need-slice-aggregate-write
 slice-aggregate-write c = search needs

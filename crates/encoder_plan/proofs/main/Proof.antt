@@ -4,12 +4,6 @@ use lib.ListN.{length-take}
 use borrow.Author.Needs.{needs}
 use Rattle.encoder_plan.proofs.main.Statement.{statement}
 use Rattle.encoder_plan.proofs.main.Tie as tie
-use Rattle.encoder_plan.proofs.main.Reads as reads
-use Rattle.encoder_plan.proofs.main.Lts as lts
-use Rattle.encoder.proofs.write_image.Reads as write-image-reads
-use Rattle.io.proofs.large_buffer.Reads as large-buffer-reads
-use Rattle.io.proofs.write_all.Reads as write-all-reads
-use Rattle.print.proofs.plan_text.Reads as plan-text-reads
 
 slice-aggregate-write-image : tie.Need-slice-aggregate-write-image
 slice-aggregate-write-image c = search needs

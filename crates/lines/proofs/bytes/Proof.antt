@@ -6,9 +6,6 @@ use native.Mathlib.Omega.{arith}
 use borrow.Author.Needs.{needs}
 use Rattle.lines.proofs.bytes.Statement.{statement}
 use Rattle.lines.proofs.bytes.Tie as tie
-use Rattle.lines.proofs.bytes.Reads as reads
-use Rattle.lines.proofs.bytes.Lts as lts
-use Rattle.lines.proofs.pair.Reads as pair-reads
 
 abbrev Inv-loop : tie.InvT-loop
 Inv-loop line out₀ n₀ at₀ out n at = (n ≤ length out) × (length out ≡ length out₀)

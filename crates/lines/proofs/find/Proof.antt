@@ -4,8 +4,6 @@ use lib.ListN.{length}
 use borrow.Author.Needs.{needs}
 use Rattle.lines.proofs.find.Statement.{statement}
 use Rattle.lines.proofs.find.Tie as tie
-use Rattle.lines.proofs.find.Reads as reads
-use Rattle.lines.proofs.find.Lts as lts
 
 abbrev Inv-loop : tie.InvT-loop
 Inv-loop text from byte at₀ at = (from ≤ at) × (at ≤ length text)

@@ -4,11 +4,6 @@ use lib.ListN.{length}
 use borrow.Author.Needs.{needs}
 use Rattle.lines.proofs.number.Statement.{statement}
 use Rattle.lines.proofs.number.Tie as tie
-use Rattle.lines.proofs.number.Reads as reads
-use Rattle.lines.proofs.number.Lts as lts
-use Rattle.lines.proofs.capped.Reads as capped-reads
-use Rattle.lines.proofs.digit.Reads as digit-reads
-use Rattle.lines.proofs.word.Reads as word-reads
 
 abbrev Inv-loop : tie.InvT-loop
 Inv-loop line k value₀ at₀ value at = (at ≤ length line) × (value ≤ 4294967295)

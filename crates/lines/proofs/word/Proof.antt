@@ -4,9 +4,6 @@ use lib.ListN.{length}
 use borrow.Author.Needs.{needs}
 use Rattle.lines.proofs.word.Statement.{statement}
 use Rattle.lines.proofs.word.Tie as tie
-use Rattle.lines.proofs.word.Reads as reads
-use Rattle.lines.proofs.word.Lts as lts
-use Rattle.lines.proofs.next.Reads as next-reads
 
 abbrev Inv-loop : tie.InvT-loop
 Inv-loop line k at₀ left₀ at left = at ≤ length line

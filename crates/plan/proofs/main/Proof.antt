@@ -4,13 +4,6 @@ use lib.ListN.{length-take}
 use borrow.Author.Needs.{needs}
 use Rattle.plan.proofs.main.Statement.{statement}
 use Rattle.plan.proofs.main.Tie as tie
-use Rattle.plan.proofs.main.Reads as reads
-use Rattle.plan.proofs.main.Lts as lts
-use Rattle.io.proofs.buffer.Reads as buffer-reads
-use Rattle.io.proofs.large_buffer.Reads as large-buffer-reads
-use Rattle.io.proofs.read_full.Reads as read-full-reads
-use Rattle.io.proofs.write_all.Reads as write-all-reads
-use Rattle.print.proofs.plan_text.Reads as plan-text-reads
 
 buffer-requires : tie.Need-buffer-requires
 buffer-requires c κs = search needs

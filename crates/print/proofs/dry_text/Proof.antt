@@ -5,13 +5,6 @@ use borrow.Author.Needs.{needs}
 use Rattle.print.proofs.Counts.{positions}
 use Rattle.print.proofs.dry_text.Statement.{statement}
 use Rattle.print.proofs.dry_text.Tie as tie
-use Rattle.print.proofs.dry_text.Reads as reads
-use Rattle.print.proofs.dry_text.Lts as lts
-use Rattle.frame.proofs.dry_frame.Reads as dry-frame-reads
-use Rattle.print.proofs.put_end.Reads as put-end-reads
-use Rattle.print.proofs.put_refusal.Reads as put-refusal-reads
-use Rattle.print.proofs.put_steps.Reads as put-steps-reads
-use Rattle.print.proofs.take_durations.Reads as take-durations-reads
 
 slice-aggregate-take-durations : tie.Need-slice-aggregate-take-durations
 slice-aggregate-take-durations c = search needs

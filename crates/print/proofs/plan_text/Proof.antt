@@ -6,12 +6,6 @@ use Rattle.print.proofs.Counts.{counts}
 use borrow.Author.Needs.{needs}
 use Rattle.print.proofs.plan_text.Statement.{statement}
 use Rattle.print.proofs.plan_text.Tie as tie
-use Rattle.print.proofs.plan_text.Reads as reads
-use Rattle.print.proofs.plan_text.Lts as lts
-use Rattle.planner.proofs.plan.Reads as plan-reads
-use Rattle.print.proofs.put_field.Reads as put-field-reads
-use Rattle.print.proofs.put_positions.Reads as put-positions-reads
-use Rattle.print.proofs.put_refusal.Reads as put-refusal-reads
 
 few : (e : tie.Else1) → let r = e .before .before .before .before .before .before .before .plan .result in (r .n ≤ 64) × (r .levels ≤ 8)
 few e = counts (e .before .before .before .before .before .before .before .plan .ensures) (e .if1 .left)

@@ -5,10 +5,6 @@ use mathlib.Core.Path.{_≡_}
 use lib.ListN.{length}
 use Rattle.print.proofs.put_limits.Statement.{statement}
 use Rattle.print.proofs.put_limits.Tie as tie
-use Rattle.print.proofs.put_limits.Reads as reads
-use Rattle.print.proofs.put_limits.Lts as lts
-use Rattle.text.proofs.put_byte.Reads as put-byte-reads
-use Rattle.text.proofs.put_signed.Reads as put-signed-reads
 
 abbrev Inv-loop : tie.InvT-loop
 Inv-loop out₀ at limits from levels to₀ q₀ out to q = (q ≤ levels) × (length out ≡ length out₀) × (to ≤ length out₀)

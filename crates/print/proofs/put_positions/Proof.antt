@@ -7,9 +7,6 @@ use native.Mathlib.Omega.{arith}
 use Rattle.fields.proofs.Strides.{stride-fits}
 use Rattle.print.proofs.put_positions.Statement.{statement}
 use Rattle.print.proofs.put_positions.Tie as tie
-use Rattle.print.proofs.put_positions.Reads as reads
-use Rattle.print.proofs.put_positions.Lts as lts
-use Rattle.print.proofs.put_position.Reads as put-position-reads
 
 abbrev Inv-loop : tie.InvT-loop
 Inv-loop out₀ at order limits n levels to₀ i₀ out to i = (i ≤ n) × (length out ≡ length out₀) × (to ≤ length out₀)

@@ -5,10 +5,6 @@ use mathlib.Core.Path.{_≡_}
 use lib.ListN.{length}
 use Rattle.print.proofs.put_steps.Statement.{statement}
 use Rattle.print.proofs.put_steps.Tie as tie
-use Rattle.print.proofs.put_steps.Reads as reads
-use Rattle.print.proofs.put_steps.Lts as lts
-use Rattle.fields.proofs.wide32.Reads as wide32-reads
-use Rattle.print.proofs.put_field.Reads as put-field-reads
 
 abbrev Inv-loop : tie.InvT-loop
 Inv-loop out₀ order given marks n to₀ i₀ out to i = (i ≤ n) × (length out ≡ length out₀) × (to ≤ length out₀)

@@ -5,9 +5,6 @@ use mathlib.Core.Path.{_≡_}
 use lib.ListN.{length}
 use Rattle.print.proofs.take_durations.Statement.{statement}
 use Rattle.print.proofs.take_durations.Tie as tie
-use Rattle.print.proofs.take_durations.Reads as reads
-use Rattle.print.proofs.take_durations.Lts as lts
-use Rattle.fields.proofs.be32.Reads as be32-reads
 
 abbrev Inv-loop : tie.InvT-loop
 Inv-loop bytes out₀ said k₀ out k = (length out ≡ length out₀) × (k ≤ length out₀)

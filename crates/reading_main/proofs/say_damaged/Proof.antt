@@ -4,13 +4,6 @@ use native.Mathlib.Omega.{arith}
 use borrow.Author.Needs.{needs}
 use Rattle.reading_main.proofs.say_damaged.Statement.{statement}
 use Rattle.reading_main.proofs.say_damaged.Tie as tie
-use Rattle.reading_main.proofs.say_damaged.Reads as reads
-use Rattle.reading_main.proofs.say_damaged.Lts as lts
-use Rattle.io.proofs.write_all.Reads as write-all-reads
-use Rattle.reading_main.proofs.say_reading.Reads as say-reading-reads
-use Rattle.samples.proofs.damaged.Reads as damaged-reads
-use Rattle.samples.proofs.damaged_bytes.Reads as damaged-bytes-reads
-use Rattle.speed.proofs.speed_reading.Reads as speed-reading-reads
 
 damaged-requires : tie.Need-damaged-requires
 damaged-requires c κs = search needs

@@ -4,11 +4,6 @@ use native.Mathlib.Omega.{arith}
 use borrow.Author.Needs.{needs}
 use Rattle.reading_main.proofs.say_reading.Statement.{statement}
 use Rattle.reading_main.proofs.say_reading.Tie as tie
-use Rattle.reading_main.proofs.say_reading.Reads as reads
-use Rattle.reading_main.proofs.say_reading.Lts as lts
-use Rattle.io.proofs.write_all.Reads as write-all-reads
-use Rattle.reading_main.proofs.say_ratio.Reads as say-ratio-reads
-use Rattle.reading_text.proofs.put_reading.Reads as put-reading-reads
 
 slice-aggregate-put-reading : tie.Need-slice-aggregate-put-reading
 slice-aggregate-put-reading c = search needs

@@ -5,9 +5,6 @@ use lib.Ieee.{ofBits, neg}
 use borrow.Author.Needs.{needs}
 use Rattle.reading_main.proofs.thousandths.Statement.{statement}
 use Rattle.reading_main.proofs.thousandths.Tie as tie
-use Rattle.reading_main.proofs.thousandths.Reads as reads
-use Rattle.reading_main.proofs.thousandths.Lts as lts
-use Rattle.std.proofs.num.truncating_f64_to_u64.Reads as truncating-f64-to-u64-reads
 
 truncating-f64-to-u64-requires : tie.Need-truncating-f64-to-u64-requires
 unfolding ofBits neg

@@ -4,15 +4,6 @@ use native.Mathlib.Omega.{arith}
 use borrow.Author.Needs.{needs}
 use Rattle.readings.proofs.agrees.Statement.{statement}
 use Rattle.readings.proofs.agrees.Tie as tie
-use Rattle.readings.proofs.agrees.Reads as reads
-use Rattle.readings.proofs.agrees.Lts as lts
-use Rattle.check.proofs.same.Reads as same-reads
-use Rattle.io.proofs.buffer.Reads as buffer-reads
-use Rattle.lines.proofs.bytes.Reads as bytes-reads
-use Rattle.lines.proofs.number.Reads as number-reads
-use Rattle.lines.proofs.word.Reads as word-reads
-use Rattle.reading_text.proofs.put_reading.Reads as put-reading-reads
-use Rattle.speed.proofs.speed_reading.Reads as speed-reading-reads
 
 buffer-requires : tie.Need-buffer-requires
 buffer-requires c κs = search needs

@@ -6,14 +6,6 @@ use native.Mathlib.Omega.{arith}
 use borrow.Author.Needs.{needs}
 use Rattle.readings.proofs.compare.Statement.{statement}
 use Rattle.readings.proofs.compare.Tie as tie
-use Rattle.readings.proofs.compare.Reads as reads
-use Rattle.readings.proofs.compare.Lts as lts
-use Rattle.io.proofs.print_decimal.Reads as print-decimal-reads
-use Rattle.io.proofs.write_all.Reads as write-all-reads
-use Rattle.lines.proofs.find.Reads as find-reads
-use Rattle.lines.proofs.next.Reads as next-reads
-use Rattle.readings.proofs.agrees.Reads as agrees-reads
-use Rattle.readings.proofs.disagrees.Reads as disagrees-reads
 
 abbrev Inv-loop : tie.InvT-loop
 Inv-loop text at₀ line₀ agreed₀ t6 t7 at line agreed = (at ≤ length text) × (line ≤ at) × (agreed ≤ line)

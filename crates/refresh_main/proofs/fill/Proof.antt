@@ -5,9 +5,6 @@ use lib.ListN.{length}
 use borrow.Author.Needs.{needs}
 use Rattle.refresh_main.proofs.fill.Statement.{statement}
 use Rattle.refresh_main.proofs.fill.Tie as tie
-use Rattle.refresh_main.proofs.fill.Reads as reads
-use Rattle.refresh_main.proofs.fill.Lts as lts
-use Rattle.refresh_main.proofs.put.Reads as put-reads
 
 abbrev Inv-loop : tie.InvT-loop
 Inv-loop trace₀ «record» r₀ trace r = (r ≤ length trace / 5) × (length trace ≡ length trace₀)

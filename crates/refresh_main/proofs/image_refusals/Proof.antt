@@ -3,9 +3,6 @@ use Prim.Native.Nat.{_≤_, _-_}
 use borrow.Author.Needs.{needs}
 use Rattle.refresh_main.proofs.image_refusals.Statement.{statement}
 use Rattle.refresh_main.proofs.image_refusals.Tie as tie
-use Rattle.refresh_main.proofs.image_refusals.Reads as reads
-use Rattle.refresh_main.proofs.image_refusals.Lts as lts
-use Rattle.refresh_main.proofs.say_damaged.Reads as say-damaged-reads
 
 abbrev Inv-loop : tie.InvT-loop
 Inv-loop number₀ number = number ≤ 10

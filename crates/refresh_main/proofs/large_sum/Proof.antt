@@ -5,12 +5,6 @@ use native.Mathlib.Omega.{arith}
 use borrow.Author.Needs.{needs}
 use Rattle.refresh_main.proofs.large_sum.Statement.{statement}
 use Rattle.refresh_main.proofs.large_sum.Tie as tie
-use Rattle.refresh_main.proofs.large_sum.Reads as reads
-use Rattle.refresh_main.proofs.large_sum.Lts as lts
-use Rattle.io.proofs.write_all.Reads as write-all-reads
-use Rattle.refresh_main.proofs.full.Reads as full-reads
-use Rattle.refresh_main.proofs.say_long.Reads as say-long-reads
-use Rattle.refresh_main.proofs.say_times.Reads as say-times-reads
 
 full-requires : tie.Need-full-requires
 full-requires c κs = search needs

@@ -5,12 +5,6 @@ use native.Mathlib.Omega.{arith}
 use borrow.Author.Needs.{needs}
 use Rattle.refresh_main.proofs.long_trace.Statement.{statement}
 use Rattle.refresh_main.proofs.long_trace.Tie as tie
-use Rattle.refresh_main.proofs.long_trace.Reads as reads
-use Rattle.refresh_main.proofs.long_trace.Lts as lts
-use Rattle.refresh_main.proofs.full.Reads as full-reads
-use Rattle.refresh_main.proofs.say.Reads as say-reads
-use Rattle.refresh_main.proofs.say_times.Reads as say-times-reads
-use Rattle.samples.proofs.three.Reads as three-reads
 
 three-requires : tie.Need-three-requires
 three-requires c κs = search needs

@@ -4,13 +4,6 @@ use native.Mathlib.Omega.{arith}
 use borrow.Author.Needs.{needs}
 use Rattle.refresh_main.proofs.say.Statement.{statement}
 use Rattle.refresh_main.proofs.say.Tie as tie
-use Rattle.refresh_main.proofs.say.Reads as reads
-use Rattle.refresh_main.proofs.say.Lts as lts
-use Rattle.check.proofs.same.Reads as same-reads
-use Rattle.io.proofs.write_all.Reads as write-all-reads
-use Rattle.refresh.proofs.refresh.Reads as refresh-reads
-use Rattle.refresh_main.proofs.say_image.Reads as say-image-reads
-use Rattle.refresh_main.proofs.say_refused.Reads as say-refused-reads
 
 slice-aggregate-refresh : tie.Need-slice-aggregate-refresh
 slice-aggregate-refresh c = search needs

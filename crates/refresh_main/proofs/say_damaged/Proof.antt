@@ -4,13 +4,6 @@ use native.Mathlib.Omega.{arith}
 use borrow.Author.Needs.{needs}
 use Rattle.refresh_main.proofs.say_damaged.Statement.{statement}
 use Rattle.refresh_main.proofs.say_damaged.Tie as tie
-use Rattle.refresh_main.proofs.say_damaged.Reads as reads
-use Rattle.refresh_main.proofs.say_damaged.Lts as lts
-use Rattle.io.proofs.write_all.Reads as write-all-reads
-use Rattle.refresh.proofs.refresh.Reads as refresh-reads
-use Rattle.refresh_main.proofs.say_refused.Reads as say-refused-reads
-use Rattle.samples.proofs.damaged.Reads as damaged-reads
-use Rattle.samples.proofs.damaged_bytes.Reads as damaged-bytes-reads
 
 damaged-requires : tie.Need-damaged-requires
 damaged-requires c κs = search needs

@@ -4,13 +4,6 @@ use native.Mathlib.Omega.{arith}
 use borrow.Author.Needs.{needs}
 use Rattle.refresh_main.proofs.whole_traces.Statement.{statement}
 use Rattle.refresh_main.proofs.whole_traces.Tie as tie
-use Rattle.refresh_main.proofs.whole_traces.Reads as reads
-use Rattle.refresh_main.proofs.whole_traces.Lts as lts
-use Rattle.io.proofs.write_all.Reads as write-all-reads
-use Rattle.refresh_main.proofs.open.Reads as open-reads
-use Rattle.refresh_main.proofs.put.Reads as put-reads
-use Rattle.refresh_main.proofs.say.Reads as say-reads
-use Rattle.samples.proofs.three.Reads as three-reads
 
 three-requires : tie.Need-three-requires
 three-requires c κs = search needs

@@ -1,10 +1,10 @@
 -- Tables that agree where a cycle reads them run the same cycle. Assumes nothing.
 use Prim.Native.Nat.{ℕ, zero, suc, _+_, _-_, _≤_, _<_, min}
-use mathlib.Core.Path.{_≡_, refl, ap, sym, subst, _∙_}
+use mathlib.Core.Path.{_≡_, refl, ap, sym, _∙_}
 use mathlib.Core.Bool.{Bool, true, false, not, cond, _&&_, _||_}
 use native.Mathlib.Nat.{le-refl}
 use native.Mathlib.Omega.{arith}
-use borrow.Author.Tests.{le-leb, lt-leb}
+use borrow.Author.Tests.{le-leb}
 use native.Mathlib.Decide.{decLe}
 use lib.Dec.{leb}
 use lib.IntN.{ℤ, pos}
@@ -14,7 +14,7 @@ use Rattle.rules.specs.Limits.{Plan}
 use Rattle.rules.specs.Run.{Run, level-given, fits, qualifies, left-granted, begun, decide, coast, decides, given, ended}
 use Rattle.rules.specs.Dry.{step, before}
 use Rattle.rules.proofs.Tests.{last-is}
-use Rattle.rules.proofs.Demand.Record.{Same, given-same, position-is}
+use Rattle.rules.proofs.Demand.Record.{position-is}
 
 -- what a cycle of coasts of at most `cap` reads
 pub record Alike (cap : ℕ) (P Q : Plan) : Type 0 where

@@ -4,10 +4,6 @@ use native.Mathlib.Omega.{arith}
 use borrow.Author.Needs.{needs}
 use Rattle.traces.proofs.answers.Statement.{statement}
 use Rattle.traces.proofs.answers.Tie as tie
-use Rattle.traces.proofs.answers.Reads as reads
-use Rattle.traces.proofs.answers.Lts as lts
-use Rattle.check.proofs.same.Reads as same-reads
-use Rattle.refresh.proofs.refresh.Reads as refresh-reads
 
 slice-aggregate-refresh : tie.Need-slice-aggregate-refresh
 slice-aggregate-refresh c = search needs

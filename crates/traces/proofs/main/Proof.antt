@@ -5,12 +5,6 @@ use native.Mathlib.Omega.{arith}
 use borrow.Author.Needs.{needs}
 use Rattle.traces.proofs.main.Statement.{statement}
 use Rattle.traces.proofs.main.Tie as tie
-use Rattle.traces.proofs.main.Reads as reads
-use Rattle.traces.proofs.main.Lts as lts
-use Rattle.io.proofs.print_decimal.Reads as print-decimal-reads
-use Rattle.io.proofs.write_all.Reads as write-all-reads
-use Rattle.traces.proofs.agrees.Reads as agrees-reads
-use Rattle.traces.proofs.disagrees.Reads as disagrees-reads
 
 abbrev Inv-loop : tie.InvT-loop
 Inv-loop agreed₀ case₀ t5 agreed case = (case ≤ 24) × (agreed ≤ case)

@@ -1,7 +1,6 @@
 -- Assumes nothing.
 use mathlib.Core.Path.{_≡_, refl}
 use borrow.Author.Needs.{needs}
-use Rattle.rules.specs.Run as rules
 use Rattle.run.specs.declared.Answer.{Answer}
 use Rattle.run.specs.declared.Answer.the-variants.{Refused, Given as Gives}
 use Rattle.run.specs.declared.Asked.{Asked}
