@@ -14,18 +14,15 @@ pub struct Tally {
 }
 
 /// The numbers that each call can give.
-pub const NUMBERS: [(&str, &[u8]); 16] = [
+pub const NUMBERS: [(&str, &[u8]); 13] = [
     ("check", &[0, 1, 2, 3, 4, 5, 6, 7, 8, 9]),
     ("read", &[0, 1, 2, 3, 4, 5, 6, 7, 8, 9, 17]),
     ("write", &[0, 3, 6, 7, 8, 9, 17]),
     ("lookup", &[0, 1, 2, 3, 4, 5, 6, 7, 8, 9, 15]),
     ("plan", &[0, 1, 2, 3, 4, 5, 6, 7, 8, 9, 17]),
     ("start", &[0, 3]),
-    ("start lent", &[0, 3]),
     ("ask", &[0, 10, 11, 17]),
-    ("ask lent", &[0, 10, 11, 17]),
     ("report", &[0, 11, 12, 13, 17]),
-    ("report lent", &[0, 11, 12, 13, 17]),
     ("dry run", &[0, 3, 16, 17]),
     ("dry frame", &[0, 1, 2, 3, 4, 5, 6, 7, 8, 9, 16, 17]),
     ("on time", &[0]),
@@ -337,18 +334,39 @@ impl Pair<'_> {
         Ok(())
     }
 
+    /// A start over a record of any content: it is not read.
     fn start(&mut self) -> Result<(), String> {
         let (n, levels) = self.draw.shape();
-        let result = self.same("start", &|| format!("{n} {levels}"), |calls| calls.start(n, levels))?;
-        self.tally.number("start", result.1);
         let before = self.draw.run(3, 2);
-        let result = self.same("start lent", &|| format!("{before:?} {n} {levels}"), |calls| {
-            let mut lent = before;
-            let number = calls.start_lent(&mut lent, n, levels);
-            (lent, number)
+        let result = self.same("start", &|| format!("{before:?} {n} {levels}"), |calls| {
+            let mut run = before;
+            let number = calls.start_lent(&mut run, n, levels);
+            (run, number)
         })?;
-        self.tally.number("start lent", result.1);
+        self.tally.number("start", result.1);
         Ok(())
+    }
+
+    /// An asking over the lent record, which comes back as the call leaves it.
+    fn ask(&mut self, run: Run, order: &[u8], limits: &[i32], coasts: &[i32]) -> Result<Run, String> {
+        let asked = self.same("ask", &|| format!("{run:?} {order:?} {limits:?} {coasts:?}"), |calls| {
+            let mut run = run;
+            let answer = calls.ask_lent(&mut run, order, limits, coasts);
+            (run, answer)
+        })?;
+        self.note_asked(&asked);
+        Ok(asked.0)
+    }
+
+    /// A report over the lent record.
+    fn report(&mut self, run: Run, clock: u32, worst: &[u32]) -> Result<Run, String> {
+        let reported = self.same("report", &|| format!("{run:?} {clock} {worst:?}"), |calls| {
+            let mut run = run;
+            let number = calls.report_lent(&mut run, clock, worst);
+            (run, number)
+        })?;
+        self.tally.number("report", reported.1);
+        Ok(reported.0)
     }
 
     /// Asking and reporting on records at the edges, with tables that no planner wrote.
@@ -374,24 +392,8 @@ impl Pair<'_> {
             let worst = vec![longest; self.draw.room(n * levels)];
             let clock = self.draw.clock(run, longest);
 
-            let tables = || format!("{run:?} {order:?} {limits:?} {coasts:?}");
-            let asked = self.same("ask", &tables, |calls| calls.ask(run, &order, &limits, &coasts))?;
-            self.note_asked(&asked);
-            let asked = self.same("ask lent", &tables, |calls| {
-                let mut lent = run;
-                let answer = calls.ask_lent(&mut lent, &order, &limits, &coasts);
-                (lent, answer)
-            })?;
-            self.tally.number("ask lent", number_of(&asked.1));
-            let input = || format!("{run:?} {clock} {longest} {}", worst.len());
-            let reported = self.same("report", &input, |calls| calls.report(run, clock, &worst))?;
-            self.tally.number("report", reported.1);
-            let reported = self.same("report lent", &input, |calls| {
-                let mut lent = run;
-                let number = calls.report_lent(&mut lent, clock, &worst);
-                (lent, number)
-            })?;
-            self.tally.number("report lent", reported.1);
+            self.ask(run, &order, &limits, &coasts)?;
+            self.report(run, clock, &worst)?;
         }
         Ok(())
     }
@@ -466,17 +468,8 @@ impl Pair<'_> {
         let (mut run, _) = self.left.start(n, levels);
         for _ in 0..2 * n + 8 {
             let asks = run.running == self.draw.once_in(16);
-            if asks {
-                let input = || format!("{run:?} {order:?} {limits:?} {coasts:?}");
-                let asked = self.same("ask", &input, |calls| calls.ask(run, order, limits, coasts))?;
-                self.note_asked(&asked);
-                let lent = self.same("ask lent", &input, |calls| {
-                    let mut lent = run;
-                    let answer = calls.ask_lent(&mut lent, order, limits, coasts);
-                    (lent, answer)
-                })?;
-                self.tally.number("ask lent", number_of(&lent.1));
-                run = asked.0;
+            run = if asks {
+                self.ask(run, order, limits, coasts)?
             } else {
                 let cell = (run.position * levels + run.level) as usize;
                 let longest = worst.get(cell).copied().unwrap_or(0);
@@ -484,17 +477,8 @@ impl Pair<'_> {
                     0 => self.draw.clock(run, longest),
                     _ => run.clock + self.draw.between(0, longest),
                 };
-                let input = || format!("{run:?} {clock} {worst:?}");
-                let reported = self.same("report", &input, |calls| calls.report(run, clock, worst))?;
-                self.tally.number("report", reported.1);
-                let lent = self.same("report lent", &input, |calls| {
-                    let mut lent = run;
-                    let number = calls.report_lent(&mut lent, clock, worst);
-                    (lent, number)
-                })?;
-                self.tally.number("report lent", lent.1);
-                run = reported.0;
-            }
+                self.report(run, clock, worst)?
+            };
         }
         Ok(())
     }
