@@ -1,18 +1,18 @@
 -- Refreshing averages: which record is at fault, one pass over the trace, and that the new averages obey the table rule.
-use mathlib.Core.Path.{_≡_, refl, ap₂, _∙_, subst}
+use mathlib.Core.Path.{_≡_, refl, subst}
 use mathlib.Core.Bool.{Bool, true, false, cond, _&&_, false≢true}
 use mathlib.Core.List.{List, [], _∷_}
 use mathlib.Core.Logic.{_↔_, _⊎_, inl, inr, ⊎-elim, Iff·rfl}
-use Prim.Native.Nat.{ℕ, zero, suc, _+_, _*_, _/_, _≤_, _<_, max, zero-le}
-use native.Mathlib.Nat.{le-refl, le-trans, le-max-left, max-le, max-eq-right, div-le-of-le-mul, not-le-of-lt, lt-of-lt-of-le}
+use Prim.Native.Nat.{ℕ, zero, suc, _+_, _*_, _/_, _≤_, _<_}
+use native.Mathlib.Nat.{le-refl, le-trans, le-max-left, max-le, div-le-of-le-mul, not-le-of-lt, lt-of-lt-of-le}
 use native.Mathlib.Decide.{decLe, decLt}
 use native.Mathlib.Omega.{arith}
 use borrow.Author.Count.{below-more}
-use borrow.Author.Tests.{eqb-true, eq-eqb, ne-eqb}
+use borrow.Author.Tests.{eqb-true, ne-eqb}
 use lib.Dec.{eqb, lit<}
 use Rattle.rules.specs.Words.{sum}
 use Rattle.rules.specs.Image.{Profile, due, profile}
-use Rattle.rules.specs.Refusals.{Ground, _when_, First, Count, Range, TimeOut, Falls, Table, Looped, Unfit, Tight}
+use Rattle.rules.specs.Refusals.{Ground, _when_, First, Count, Range, TimeOut, Table, Looped, Unfit, Tight}
 use Rattle.rules.specs.Refresh.{records, open-of, action-of, level-of, duration-of, measures, counted, summed, unmeasured, measured, raised, new-average, refreshed, Trace, Name, Duration, Fault, FirstFault, refresh-call}
 use Rattle.rules.proofs.Differences.{not-above}
 use Rattle.rules.proofs.Terms.{sum-within}
@@ -65,15 +65,7 @@ module _ (F : Profile) (trace : List ℕ) where
   pub fault-one : (r e : ℕ) → FirstFault F trace r → FirstFault F trace e → r ≡ e
   fault-one r e f g = omega (arith, not-above (λ l. f .1 .1 e l (g .1 .0)), not-above (λ l. g .1 .1 r l (f .1 .0)))
 
-  -- So 15 and 16 are the two ways of a fault, and exclude one another.
-  pub named-or-longer : (r : ℕ) → FirstFault F trace r → Named F trace ⊎ Longer F trace
-  named-or-longer r f = go (name? r) (f .1 .0)
-    where
-      go : Dec (Name F trace r) → Fault F trace r → Named F trace ⊎ Longer F trace
-      go (yes h) w = inl (r, f, h)
-      go (no h) (inl w) = absurd (h w)
-      go (no h) (inr w) = inr (r, f, h, w)
-
+  -- So 15 and 16 exclude one another.
   pub named-not-longer : Named F trace → Longer F trace → ⊥
   named-not-longer (r, f, named) (e, g, present, _) = present (subst (Name F trace) (fault-one r e f g) named)
 
@@ -104,11 +96,7 @@ all-three true false z h = absurd (false≢true h)
 all-three false y z h = absurd (false≢true h)
 
 module _ (trace : List ℕ) (a q : ℕ) where
-  -- Which record measures a at q.
-  pub measures-yes : (r : ℕ) → open-of trace r ≡ true → action-of trace r ≡ a → level-of trace r ≡ q → measures trace a q r ≡ true
-  unfolding measures
-  measures-yes r o e f = rw (o, eq-eqb (action-of trace r) a e, eq-eqb (level-of trace r) q f)
-
+  -- A measurement of a at q is an open record of it.
   pub measures-only : (r : ℕ) → measures trace a q r ≡ true → (open-of trace r ≡ true) × (action-of trace r ≡ a) × (level-of trace r ≡ q)
   unfolding measures
   measures-only r h =
@@ -141,18 +129,7 @@ module _ (trace : List ℕ) (a q : ℕ) where
       one true r = omega arith
       one false r = omega arith
 
--- ---- with nothing measured
-
--- Averages that do not fall stay.
-pub raised-as : (time old : ℕ → ℕ) (L : ℕ) → (Falls old L → ⊥) → (q : ℕ) → q < L → ((p : ℕ) → p ≤ q → time p ≡ old p) → raised time q ≡ old q
-unfolding raised
-raised-as time old L rises zero l same = same 0 zero-le
-raised-as time old L rises (suc q) l same =
-    let up : old q ≤ old (suc q) = not-above (λ h. rises (q, l, h)) in
-    ap₂ max (raised-as time old L rises q (omega arith) (λ p h. same p (omega arith))) (same (suc q) (le-refl (suc q))) ∙ max-eq-right up
-
-pub raised-same : (time : ℕ → ℕ) (L : ℕ) → (Falls time L → ⊥) → (q : ℕ) → q < L → raised time q ≡ time q
-raised-same time L rises q l = raised-as time time L rises q l (λ p h. refl)
+-- ---- what is measured
 
 module _ (F : Profile) (trace : List ℕ) (a : ℕ) where
   pub measured-none : (q : ℕ) → counted trace a q (records trace) ≡ 0 → measured F trace a q ≡ F .average a q
@@ -163,13 +140,6 @@ module _ (F : Profile) (trace : List ℕ) (a : ℕ) where
       → measured F trace a q ≡ summed trace a q (records trace) / counted trace a q (records trace)
   unfolding measured
   measured-some q h = rw (ne-eqb (counted trace a q (records trace)) 0 (λ e. omega arith))
-
-  -- An average stays where the action was measured at no level up to this one.
-  pub new-average-same : (Table F → ⊥) → a < F .n → (q : ℕ) → q < F .levels → ((p : ℕ) → p ≤ q → counted trace a p (records trace) ≡ 0)
-      → new-average F trace a q ≡ F .average a q
-  unfolding new-average
-  new-average-same rule l q level none =
-      raised-as (measured F trace a) (F .average a) (F .levels) (λ h. rule (a, l, inr (inl h))) q level (λ p h. measured-none p (none p h))
 
 -- ---- the table rule
 
