@@ -12,7 +12,7 @@ use Rattle.rules.specs.Refusals.{_when_, First, Looped, Unfit}
 use Rattle.rules.proofs.Tests.{not-both}
 use Rattle.rules.proofs.Order.Alike.{Alike, alike-back, looped-alike, fit-alike, order-alike}
 use Rattle.order.specs.Lent.{lent}
-use Rattle.order.specs.Spread.{Urgent}
+use Rattle.urgency.specs.Spread.{Urgent}
 use Rattle.order.specs.Arranged.{Lists, Placed}
 use Rattle.order.specs.Judged.{Ordered, TellsFit, Verdict}
 

@@ -1,10 +1,6 @@
-pub mod Lists
-pub mod Spread
-pub mod Members
 pub mod Waiting
 pub mod Picking
 pub mod Placing
 pub mod Ending
 pub mod Judging
 pub mod Numbering
-pub mod Closing

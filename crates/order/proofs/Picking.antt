@@ -8,11 +8,11 @@ use native.Mathlib.Nat.{le-of-eq}
 use native.Mathlib.Omega.{arith}
 use lib.ListN.{getD}
 use Rattle.rules.specs.Image.{has}
+use Rattle.rules.proofs.Tests.{true-or-false, not-both}
 use Rattle.rules.proofs.Order.Stepwise.{First}
 use Rattle.sets.specs.Sets.{Lowest, Without}
 use Rattle.sets.proofs.Bits.{has-empty}
 use Rattle.sets.proofs.Laws.{was, or-gone, rest-above}
-use Rattle.sets.proofs.Cases.{bool-cases, true-false}
 use Rattle.order.specs.Arranged.{Next}
 
 -- a is the best member of s so far, and t has the members still to be looked at
@@ -31,15 +31,15 @@ module _ (u : List ℕ) {s : ℕ} where
     member = low .member;
     part = was w;
     ahead = rest-above w low;
-    past = λ b p e. elim (or-gone w b p) [ inl i ↦ first-self u a b i | inr i ↦ absurd (true-false i e) ];
+    past = λ b p e. elim (or-gone w b p) [ inl i ↦ first-self u a b i | inr i ↦ absurd (not-both i e) ];
   }
 
   module _ {t a b t′ : ℕ} (h : Best u s t a) (low : Lowest t b) (w : Without t b t′) where
     -- what b is compared with goes after it
     past-more : {x : ℕ} → First (λ j. getD u j 0) x b → ((c : ℕ) → has s c ≡ true → has t c ≡ false → First (λ j. getD u j 0) x c)
         → (c : ℕ) → has s c ≡ true → has t′ c ≡ false → First (λ j. getD u j 0) x c
-    past-more {x} here before c p e = elim (bool-cases (has t c)) [
-      | inl q ↦ elim (or-gone w c q) [ inl i ↦ subst (First (λ j. getD u j 0) x) i here | inr i ↦ absurd (true-false i e) ]
+    past-more {x} here before c p e = elim (true-or-false (has t c)) [
+      | inl q ↦ elim (or-gone w c q) [ inl i ↦ subst (First (λ j. getD u j 0) x) i here | inr i ↦ absurd (not-both i e) ]
       | inr q ↦ before c p q
     ]
 

@@ -10,16 +10,18 @@ use lib.ListN.{length, getD, set, length-set}
 use lib.Seq.{getD-set-same, getD-set-other}
 use Rattle.rules.specs.Image.{has}
 use Rattle.rules.specs.Order.{Order, Loop, ByUrgency}
+use Rattle.rules.proofs.Tests.{is-true?, failed, not-both}
 use Rattle.rules.proofs.Order.Best.{by-urgency-permitted}
 use Rattle.rules.proofs.Order.Loops.{no-loop}
 use Rattle.rules.proofs.Order.Stepwise
 use Rattle.rules.proofs.Order.Stepwise.{Earlier, Free, free-same, next-same, stuck-in-loop}
 use Rattle.sets.specs.Sets.{members, With}
 use Rattle.sets.proofs.Bits.{has-empty}
-use Rattle.sets.proofs.Laws.{has?, has-no, added, stays, either}
+use Rattle.sets.proofs.Laws.{added, stays, either}
 use Rattle.sets.proofs.Members.{members-none, members-with}
-use Rattle.sets.proofs.Cases.{eq-or-ne, true-false}
-use Rattle.order.specs.Lent.{before, Masked}
+use Rattle.sets.proofs.Cases.{eq-or-ne}
+use Rattle.sets.specs.Sets.{before}
+use Rattle.order.specs.Lent.{Masked}
 use Rattle.order.specs.Arranged.{Ready, Parted, Next, Placed}
 use Rattle.order.proofs.Waiting.{parted-each}
 
@@ -27,10 +29,10 @@ use Rattle.order.proofs.Waiting.{parted-each}
 
 module _ {n : ℕ} {masks : List ℕ} (x : Masked n masks) {done a : ℕ} where
   ready-free : Ready n masks done a → Free n (before masks) (λ b. has done b ≡ true) a
-  ready-free r = ((λ d. true-false d (r .waits)), λ b l h. r .free b h)
+  ready-free r = ((λ d. not-both d (r .waits)), λ b l h. r .free b h)
 
   free-ready : a < n → Free n (before masks) (λ b. has done b ≡ true) a → Ready n masks done a
-  free-ready l f = record { present = l; waits = has-no done a (f .0); free = λ b h. f .1 b (x .below a l b h) h }
+  free-ready l f = record { present = l; waits = failed (has done a) (f .0); free = λ b h. f .1 b (x .below a l b h) h }
 
 -- ---- lists
 
@@ -62,7 +64,7 @@ module _ (n : ℕ) (masks u : List ℕ) where
     most = omega arith;
     long = long;
     counts = members-none 64;
-    exact = λ a. (λ h. absurd (true-false h (has-empty a)), λ e. absurd (omega (arith, e .1)));
+    exact = λ a. (λ h. absurd (not-both h (has-empty a)), λ e. absurd (omega (arith, e .1)));
     parted = parted;
     nexts = λ j m. absurd (omega arith);
   }
@@ -130,12 +132,12 @@ module _ (n : ℕ) (masks u : List ℕ) where
     }
       where
         none : (a : ℕ) → a < n → Free n (before masks) (Earlier (λ i. getD l i 0) k) a → ⊥
-        none a h f = true-false
+        none a h f = not-both
             (parted-each (g .parted) a (free-ready x h (free-same n (before masks) (λ b. (g .exact b .1, g .exact b .0)) a f)))
             (ap (λ (s : ℕ). has s a) e ∙ has-empty a)
 
         loop : Loop n (before masks)
-        loop = stuck-in-loop n (before masks) (λ b a. has? (getD masks a 0) b) (λ i. getD l i 0) k m none
+        loop = stuck-in-loop n (before masks) (λ b a. is-true? (has (getD masks a 0) b)) (λ i. getD l i 0) k m none
 
   -- ---- all are placed
 

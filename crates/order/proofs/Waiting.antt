@@ -1,5 +1,5 @@
 -- The actions that are not done: ready, or waiting with a predecessor that is not done.
-use mathlib.Core.Path.{_≡_, refl, sym, ap, ap₂, subst, _∙_}
+use mathlib.Core.Path.{_≡_, refl, sym, ap, subst, _∙_}
 use mathlib.Core.Bool.{Bool, true, false, not, _&&_}
 use mathlib.Core.Logic.{_⊎_, inl, inr}
 use mathlib.Core.List.{List}
@@ -8,14 +8,14 @@ use native.Mathlib.Omega.{arith}
 use lib.Bits.{bitAnd}
 use lib.ListN.{getD, set, length-set, replicate, length-replicate}
 use lib.Seq.{getD-set-same, getD-set-other}
-use borrow.Author.Tests.{ltb-true, lt-ltb, not-true}
+use borrow.Author.Tests.{ltb-true, lt-ltb, not-true, not-false}
 use Rattle.rules.specs.Image.{has}
-use Rattle.sets.specs.Sets.{Subset, AllBelow, Lowest, With, Without}
+use Rattle.rules.proofs.Tests.{true-or-false, not-both, and-true}
+use Rattle.sets.specs.Sets.{Subset, AllBelow, Lowest, Highest, With, Without}
 use Rattle.sets.proofs.Bits.{has-and, has-not, has-empty}
-use Rattle.sets.proofs.Laws.{added, stays, others, either, was, kept, apart, or-gone}
-use Rattle.sets.proofs.Cases.{eq-or-ne, bool-cases, true-false, and-both}
-use Rattle.order.specs.Lent.{Masked}
-use Rattle.order.specs.Arranged.{Ready, Highest, WaitsWith, Parted}
+use Rattle.sets.proofs.Laws.{lt-below, added, stays, others, either, was, kept, apart, or-gone}
+use Rattle.sets.proofs.Cases.{lt-or-le, eq-or-ne}
+use Rattle.order.specs.Arranged.{Ready, WaitsWith, Parted}
 
 -- ---- the predecessors that are not done, `mask & !done`
 
@@ -23,15 +23,18 @@ module _ (mask : ℕ) {done : ℕ} (d : done < 2 ^ 64) where
   rest-is : (j : ℕ) → j < 64 → has (bitAnd mask ((2 ^ 64 - 1) - done)) j ≡ (has mask j && not (has done j))
   rest-is j l = has-and mask ((2 ^ 64 - 1) - done) j ∙ ap (λ (x : Bool). has mask j && x) (has-not 64 done j d l)
 
-  none-left : ((j : ℕ) → has mask j ≡ true → j < 64) → bitAnd mask ((2 ^ 64 - 1) - done) ≡ 0 → Subset mask done
-  none-left small e j p = elim (bool-cases (has done j)) [
-    | inl q ↦ q
-    | inr q ↦ absurd (true-false (rest-is j (small j p) ∙ ap₂ _&&_ p (ap not q)) (ap (λ (s : ℕ). has s j) e ∙ has-empty j))
-  ]
+  -- there are none, and all predecessors are done; or there is one
+  pub some-left : mask < 2 ^ 64 → (Subset mask done → ⊥) → 0 < bitAnd mask ((2 ^ 64 - 1) - done)
+  some-left m held = elim (lt-or-le 0 (bitAnd mask ((2 ^ 64 - 1) - done))) [ inl l ↦ l | inr l ↦ absurd (held (all-done (omega arith))) ]
+    where
+      all-done : bitAnd mask ((2 ^ 64 - 1) - done) ≡ 0 → Subset mask done
+      all-done e j p =
+          let none : has (bitAnd mask ((2 ^ 64 - 1) - done)) j ≡ false = ap (λ (s : ℕ). has s j) e ∙ has-empty j in
+          not-false (has done j) (sym (ap (λ (x : Bool). x && not (has done j)) p) ∙ sym (rest-is j (lt-below 64 mask m j p)) ∙ none)
 
   one-left : {b : ℕ} → Highest (bitAnd mask ((2 ^ 64 - 1) - done)) b → (has mask b ≡ true) × (has done b ≡ false)
   one-left {b} m =
-      let both = and-both _ _ (sym (rest-is b (m .small)) ∙ m .member) in
+      let both = and-true _ _ .0 (sym (rest-is b (m .small)) ∙ m .member) in
       (both .0, not-true (has done b) (both .1))
 
 -- ---- at first all are to be looked at
@@ -45,26 +48,26 @@ pub parted-start : (n : ℕ) (masks : List ℕ) {all : ℕ} → AllBelow n all �
 parted-start n masks {all} every = record {
   long = length-replicate {A = ℕ} 64 0;
   left = λ a p. (ltb-true a n (sym (every .each a) ∙ p), has-empty a);
-  ready = λ a p. absurd (true-false p (has-empty a));
-  waiting = λ b a u p. absurd (true-false p (ap (λ (s : ℕ). has s a) (none-yet 64 b) ∙ has-empty a));
-  each = λ a l u e. absurd (true-false (every .each a ∙ lt-ltb a n l) e);
+  ready = λ a p. absurd (not-both p (has-empty a));
+  waiting = λ b a u p. absurd (not-both p (ap (λ (s : ℕ). has s a) (none-yet 64 b) ∙ has-empty a));
+  each = λ a l u e. absurd (not-both (every .each a ∙ lt-ltb a n l) e);
 }
 
 -- ---- one is looked at
 
-module _ {n : ℕ} {masks : List ℕ} {done free t a t′ : ℕ} {w : List ℕ} (x : Masked n masks) (d : done < 2 ^ 64) (g : Parted n masks done free t w)
+module _ {n : ℕ} {masks : List ℕ} {done free t a t′ : ℕ} {w : List ℕ} (d : done < 2 ^ 64) (g : Parted n masks done free t w)
     (low : Lowest t a) (out : Without t a t′) where
   abbrev rest : ℕ
   rest = bitAnd (getD masks a 0) ((2 ^ 64 - 1) - done)
 
   -- an action in none of the sets but t′ is a, or was in none before
   looked : (c : ℕ) → has t′ c ≡ false → (a ≡ c) ⊎ (has t c ≡ false)
-  looked c e = elim (bool-cases (has t c)) [
-    | inl q ↦ elim (or-gone out c q) [ inl i ↦ inl i | inr i ↦ absurd (true-false i e) ]
+  looked c e = elim (true-or-false (has t c)) [
+    | inl q ↦ elim (or-gone out c q) [ inl i ↦ inl i | inr i ↦ absurd (not-both i e) ]
     | inr q ↦ inr q
   ]
 
-  pub parted-free : {free′ : ℕ} → rest ≡ 0 → With free a free′ → Parted n masks done free′ t′ w
+  pub parted-free : {free′ : ℕ} → Subset (getD masks a 0) done → With free a free′ → Parted n masks done free′ t′ w
   parted-free {free′} e in′ = record {
     long = g .long;
     left = λ c p. g .left c (was out c p);
@@ -77,11 +80,7 @@ module _ {n : ℕ} {masks : List ℕ} {done free t a t′ : ℕ} {w : List ℕ} 
   }
     where
       here : Ready n masks done a
-      here = let l = g .left a (low .member) in record {
-        present = l .0;
-        waits = l .1;
-        free = none-left (getD masks a 0) d (λ j p. omega (arith, x .few, x .below a (l .0) j p)) e;
-      }
+      here = let l = g .left a (low .member) in record { present = l .0; waits = l .1; free = e }
 
   pub parted-held : {b v : ℕ} → Highest rest b → With (getD w b 0) a v → Parted n masks done free t′ (set w b v)
   parted-held {b} {v} m in′ = record {
@@ -124,7 +123,7 @@ module _ {n : ℕ} {masks : List ℕ} {done free : ℕ} {w : List ℕ} (g : Part
   pub parted-each : (a : ℕ) → Ready n masks done a → has free a ≡ true
   parted-each a y = elim (g .each a (y .present) (y .waits) (has-empty a)) [
     | inl p ↦ p
-    | inr p ↦ absurd (true-false (y .free (p .0) (g .waiting (p .0) a (p .1) (p .2) .before)) (p .1))
+    | inr p ↦ absurd (not-both (y .free (p .0) (g .waiting (p .0) a (p .1) (p .2) .before)) (p .1))
   ]
 
   -- ---- one is done: those that wait with it are to be looked at
@@ -136,13 +135,13 @@ module _ {n : ℕ} {masks : List ℕ} {done free : ℕ} {w : List ℕ} (g : Part
     -- what is not done now was not done before, and is not a
     undone : (c : ℕ) → has done′ c ≡ false → (has done c ≡ false) × (a ≡ c → ⊥)
     undone c u = (
-      elim (bool-cases (has done c)) [ inl q ↦ absurd (true-false (stays in′ c q) u) | inr q ↦ q ],
-      λ e. true-false (subst (λ (j : ℕ). has done′ j ≡ true) e (added in′)) u,
+      elim (true-or-false (has done c)) [ inl q ↦ absurd (not-both (stays in′ c q) u) | inr q ↦ q ],
+      λ e. not-both (subst (λ (j : ℕ). has done′ j ≡ true) e (added in′)) u,
     )
 
     -- a waits with none, so what waits is not a
     still : {b c : ℕ} → WaitsWith n masks done b c → has done′ c ≡ false
-    still {b} {c} y = others in′ c (λ e. true-false
+    still {b} {c} y = others in′ c (λ e. not-both
         (now .free b (subst (λ (j : ℕ). has (getD masks j 0) b ≡ true) (sym e) (y .before))) (y .held)) ∙ y .waits
 
     pub parted-done : Parted n masks done′ free′ (getD w a 0) w
@@ -158,6 +157,6 @@ module _ {n : ℕ} {masks : List ℕ} {done free : ℕ} {w : List ℕ} (g : Part
           record { present = y .present; waits = still y; held = u; before = y .before };
       each = λ c l u e. let v = undone c u in elim (g .each c l (v .0) (has-empty c)) [
         | inl p ↦ inl (kept out c (v .1) ∙ p)
-        | inr p ↦ inr (p .0, others in′ (p .0) (λ i. true-false (subst (λ (j : ℕ). has (getD w j 0) c ≡ true) (sym i) (p .2)) e) ∙ p .1, p .2)
+        | inr p ↦ inr (p .0, others in′ (p .0) (λ i. not-both (subst (λ (j : ℕ). has (getD w j 0) c ≡ true) (sym i) (p .2)) e) ∙ p .1, p .2)
       ];
     }

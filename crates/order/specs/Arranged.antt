@@ -8,19 +8,13 @@ use lib.ListN.{length, getD}
 use Rattle.rules.specs.Image.{has}
 use Rattle.rules.specs.Order.{Order, Loop, ByUrgency}
 use Rattle.sets.specs.Sets.{Subset}
-use Rattle.order.specs.Lent.{before}
+use Rattle.sets.specs.Sets.{before}
 
 -- Action a is ready: it is not done yet, and all its predecessors are.
 pub record Ready (n : ℕ) (masks : List ℕ) (done a : ℕ) : Type 0 where
   pub present : a < n
   pub waits : has done a ≡ false
   pub free : Subset (getD masks a 0) done
-
--- r is the highest member of s.
-pub record Highest (s r : ℕ) : Type 0 where
-  pub small : r < 64
-  pub member : has s r ≡ true
-  pub most : (j : ℕ) → has s j ≡ true → j ≤ r
 
 -- Action a waits with b: neither is done, and b comes before a.
 pub record WaitsWith (n : ℕ) (masks : List ℕ) (done b a : ℕ) : Type 0 where

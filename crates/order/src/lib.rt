@@ -1,119 +1,26 @@
 // The order of actions on lent slices: the masks and deadlines by action, the level 0 worst time of action a at a * stride.
 // A deadline of 0 stands for the cycle.
 
+use sets::above_lowest;
 use sets::all_below;
 use sets::count;
+use sets::highest;
 use sets::lowest;
-use sets::member;
+use sets::subset;
 use sets::with;
 use sets::without;
+use urgency::due;
+use urgency::urgencies;
 ghost use mathlib.Core.Path.{_≡_};
-ghost use mathlib.Core.Bool.{true, cond};
+ghost use mathlib.Core.Bool.{true};
 ghost use mathlib.Core.Logic.{_↔_};
 ghost use mathlib.Core.List.{List, []};
-ghost use Prim.Native.Nat.{ℕ, _+_, _≤_, _<_};
-ghost use lib.Dec.{eqb};
+ghost use Prim.Native.Nat.{ℕ, _≤_, _<_};
 ghost use lib.ListN.{length, getD};
-ghost use Rattle.rules.specs.Image.{has, due};
-ghost use Rattle.sets.specs.Sets.{Below, Lowest, Without};
+ghost use Rattle.sets.specs.Sets.{Below};
 ghost use Rattle.order.specs.Lent.{lent, Masked, Timed};
-ghost use Rattle.order.specs.Arranged.{Highest, Parted, Next, Placed};
+ghost use Rattle.order.specs.Arranged.{Parted, Next, Placed};
 ghost use Rattle.order.specs.Judged.{ByNumber, Ordered, TellsFit, Verdict};
-ghost use Rattle.order.specs.Looped.{Rows, FirstLooped};
-ghost use Rattle.order.specs.Spread.{HandedOn, Passed, Urgent};
-
-// ---- sets
-
-// The highest member of a set that has one.
-fn highest(s: u64) -> usize
-    requires { ⌜ 0 < s ⌝ }
-    ensures { λ r. ⌜ Highest s r ⌝ }
-{
-    63 - u64::leading_zeros(s) as usize
-}
-
-// The members of a set above the lowest.
-fn above_lowest(s: u64) -> u64
-    requires { ⌜ 0 < s ⌝ }
-    ensures { λ r. ⌜ ((b : ℕ) → Lowest s b → Without s b r) ⌝ }
-{
-    s & (s - 1)
-}
-
-// ---- urgency
-
-// A deadline as it counts.
-fn due(deadline: u32, cycle: u32) -> u32
-    ensures { λ r. ⌜ r ≡ cond (eqb deadline 0) cycle deadline ⌝ }
-{
-    if deadline == 0 { cycle } else { deadline }
-}
-
-// The deadline of each action.
-fn dues(deadlines: &[u32], cycle: u32, n: usize) -> [u32; 64]
-    requires { ⌜ (n ≤ 64) × (n ≤ length (now deadlines)) ⌝ }
-    ensures long { λ r. ⌜ length r ≡ 64 ⌝ }
-    ensures each { λ r. ⌜ ((a : ℕ) → a < n → getD r a 0 ≡ due (lent n cycle [] (now (deadlines .entry)) [] 0) a) ⌝ }
-{
-    let mut u = [0u32; 64];
-    let mut a: usize = 0;
-    while a < n {
-        u[a] = due(deadlines[a], cycle);
-        a += 1;
-    }
-    u
-}
-
-// Makes each member of the mask of a at least as urgent as a. Answers whether one above a became more urgent.
-fn hand_on(mask: u64, a: usize, u: &mut [u32; 64]) -> bool
-    requires { ⌜ (a < 64) × (length (now u) ≡ 64) ⌝ }
-    ensures { λ r. ⌜ HandedOn (has mask) a (now (u .entry)) (now (u .exit)) r ⌝ }
-{
-    let x = u[a];
-    let mut late = false;
-    let mut t = mask;
-    while t != 0 {
-        let b = lowest(t);
-        if x < u[b] {
-            u[b] = x;
-            if a < b {
-                late = true;
-            }
-        }
-        t = above_lowest(t);
-    }
-    late
-}
-
-// One pass from the last action to the first. What an action got before its turn it hands on at its turn, so another pass is needed
-// only where an action became more urgent after its turn.
-fn pass(masks: &[u64], n: usize, u: &mut [u32; 64]) -> bool
-    requires { ⌜ (n ≤ 64) × (n ≤ length (now masks)) × (length (now u) ≡ 64) ⌝ }
-    ensures { λ r. ⌜ Passed n 0 (now (masks .entry)) (now (u .entry)) (now (u .exit)) r ⌝ }
-{
-    let mut again = false;
-    let mut a = n;
-    while 0 < a {
-        a -= 1;
-        if hand_on(masks[a], a, u) {
-            again = true;
-        }
-    }
-    again
-}
-
-// The urgency of each action.
-pub fn urgencies(masks: &[u64], deadlines: &[u32], cycle: u32, n: usize) -> [u32; 64]
-    requires { ⌜ (n ≤ 64) × (n ≤ length (now masks)) × (n ≤ length (now deadlines)) ⌝ }
-    ensures { λ r. ⌜ Urgent (lent n cycle (now (masks .entry)) (now (deadlines .entry)) [] 0) r ⌝ }
-{
-    let mut u = dues(deadlines, cycle, n);
-    let mut again = true;
-    while again {
-        again = pass(masks, n, &mut u);
-    }
-    u
-}
 
 // ---- order
 
@@ -127,11 +34,11 @@ fn release(masks: &[u64], from: u64, done: u64, free: u64, waiting: &mut [u64; 6
     let mut t = from;
     while t != 0 {
         let a = lowest(t);
-        let rest = masks[a] & !done;
-        if rest == 0 {
+        let mask = masks[a];
+        if subset(mask, done) {
             r = with(r, a);
         } else {
-            let b = highest(rest);
+            let b = highest(mask & !done);
             waiting[b] = with(waiting[b], a);
         }
         t = above_lowest(t);
@@ -287,67 +194,4 @@ pub fn judge(
     } else {
         Judged { refusal: 9, order }
     }
-}
-
-// ---- loops
-
-// The masks of the n actions.
-fn copied(masks: &[u64], n: usize) -> [u64; 64]
-    requires { ⌜ (n ≤ 64) × (n ≤ length (now masks)) ⌝ }
-    ensures long { λ r. ⌜ length r ≡ 64 ⌝ }
-    ensures each { λ r. ⌜ ((a : ℕ) → a < n → getD r a 0 ≡ getD (now (masks .entry)) a 0) ⌝ }
-{
-    let mut all = [0u64; 64];
-    let mut a: usize = 0;
-    while a < n {
-        all[a] = masks[a];
-        a += 1;
-    }
-    all
-}
-
-// Where k comes before an action, so does all that comes before k.
-fn through(all: &mut [u64; 64], n: usize, k: usize)
-    requires { ⌜ (n ≤ 64) × (k < n) ⌝ }
-    ensures { λ _. ⌜ ((masks : List ℕ) → Rows masks n k (now (all .entry)) → Rows masks n (k + 1) (now (all .exit))) ⌝ }
-{
-    let far = all[k];
-    let mut b: usize = 0;
-    while b < n {
-        let near = all[b];
-        if member(near, k) {
-            all[b] = near | far;
-        }
-        b += 1;
-    }
-}
-
-// For each action the set of those that it must follow.
-fn closed(masks: &[u64], n: usize) -> [u64; 64]
-    requires { ⌜ (n ≤ 64) × (n ≤ length (now masks)) ⌝ }
-    ensures { λ r. ⌜ Rows (now (masks .entry)) n n r ⌝ }
-{
-    let mut all = copied(masks, n);
-    let mut k: usize = 0;
-    while k < n {
-        through(&mut all, n, k);
-        k += 1;
-    }
-    all
-}
-
-// The lowest action on a loop, n where there is none.
-pub fn first_looped(masks: &[u64], n: usize) -> usize
-    requires { ⌜ (n ≤ 64) × (n ≤ length (now masks)) ⌝ }
-    ensures { λ r. ⌜ FirstLooped n (now (masks .entry)) r ⌝ }
-{
-    let all = closed(masks, n);
-    let mut a: usize = 0;
-    while a < n {
-        if member(all[a], a) {
-            return a;
-        }
-        a += 1;
-    }
-    n
 }

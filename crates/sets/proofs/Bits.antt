@@ -1,6 +1,6 @@
 -- What a set has, one binary digit at a time, and what the operators of u64 do to it.
 use mathlib.Core.Path.{_≡_, refl, sym, ap, _∙_}
-use mathlib.Core.Bool.{Bool, true, false, not, _&&_, _||_}
+use mathlib.Core.Bool.{Bool, false, not, _&&_, _||_}
 use mathlib.Core.Logic.{_⊎_, inl, inr}
 use Prim.Native.Nat.{ℕ, zero, suc, _+_, _-_, _*_, _/_, _%_, _^_, _≤_, _<_, min, max}
 use native.Mathlib.Nat.{div-one, zero-div, div-eq-of-lt, lt-of-lt-of-le, pow-suc, one-mul}
@@ -9,17 +9,16 @@ use native.Mathlib.Omega.{arith}
 use lib.Dec.{eqb, ltb, eqb·zero-suc, eqb·suc-zero, eqb·suc-suc}
 use lib.Arith.{digits-mod}
 use lib.Pow.{pow-mono, pow-pos, shr-shr, shl-exact, ones-lt}
-use lib.Count.{trailingZeros, under}
 use lib.Bits.{bitAnd, bitOr, and-step, or-step, and-shr, or-shr}
 use borrow.Author.Tests.{lt-ltb, le-ltb}
 use Rattle.rules.specs.Words.{one-if}
 use Rattle.rules.specs.Image.{has}
-use Rattle.sets.specs.Sets.{Lowest, One, AllBelow}
+use Rattle.sets.specs.Sets.{One, AllBelow}
 use Rattle.sets.proofs.Cases.{lt-or-le}
 
 -- ---- a binary digit is 0 or 1
 
-digit : (P : ℕ → Type 0) → P 0 → P 1 → (p : ℕ) → p < 2 → P p
+pub digit : (P : ℕ → Type 0) → P 0 → P 1 → (p : ℕ) → p < 2 → P p
 digit P z o zero h = z
 digit P z o (suc zero) h = o
 digit P z o (suc (suc p)) h = absurd (omega arith)
@@ -127,30 +126,3 @@ has-ones k j = go (lt-or-le j k)
 
 pub ones-below : (n : ℕ) → AllBelow n (2 ^ n - 1)
 ones-below n = record { is = refl; each = has-ones n }
-
--- ---- `u64::trailing_zeros(s)`
-
-abbrev IsLowest : ℕ → ℕ → ℕ → Type 0
-IsLowest k s t = (t < k) × (has s t ≡ true) × ((j : ℕ) → j < t → has s j ≡ false)
-
-lowest-even : (k s t : ℕ) → s % 2 ≡ 0 → IsLowest k (s / 2) t → IsLowest (suc k) s (suc t)
-lowest-even k s t e h = (omega arith, has-suc s t ∙ h .1, none)
-  where
-    none : (j : ℕ) → j < suc t → has s j ≡ false
-    none zero l = has-low s ∙ ap (λ (x : ℕ). eqb x 1) e
-    none (suc j) l = has-suc s j ∙ h .2 j (omega arith)
-
-lowest-odd : (k s : ℕ) → s % 2 ≡ 1 → IsLowest (suc k) s 0
-lowest-odd k s e = (omega arith, has-low s ∙ ap (λ (x : ℕ). eqb x 1) e, λ j l. absurd (omega arith))
-
-lowest-of : (k s : ℕ) → 0 < s → s < 2 ^ k → IsLowest k s (trailingZeros k s)
-unfolding trailingZeros
-lowest-of zero s p h = absurd (omega arith)
-lowest-of (suc k) s p h =
-    digit (λ d. s % 2 ≡ d → IsLowest (suc k) s (under d (trailingZeros k (s / 2))))
-    (λ e. lowest-even k s (trailingZeros k (s / 2)) e (lowest-of k (s / 2) (omega arith) (omega (arith, pow-suc 2 k))))
-    (λ e. lowest-odd k s e)
-    (s % 2) (omega arith) refl
-
-pub trailing-lowest : (s : ℕ) → 0 < s → s < 2 ^ 64 → Lowest s (trailingZeros 64 s)
-trailing-lowest s p h = let t = lowest-of 64 s p h in record { small = t .0; member = t .1; least = t .2 }

@@ -1,35 +1,26 @@
 -- The laws of 64-bit sets.
 use mathlib.Core.Path.{_≡_, refl, sym, ap, _∙_}
-use mathlib.Core.Bool.{Bool, true, false, not, _&&_, _||_, and-true, and-false, or-true, or-false, Bool-discrete}
+use mathlib.Core.Bool.{Bool, true, false, not, _&&_, _||_, and-true, and-false, or-true, or-false}
 use mathlib.Core.Logic.{_⊎_, inl, inr, ⊎-map, _↔_}
-use Prim.Native.Nat.{ℕ, zero, suc, _-_, _^_, _≤_, _<_}
+use Prim.Native.Nat.{ℕ, _-_, _^_, _≤_, _<_}
 use native.Mathlib.Nat.{lt-of-le-of-lt}
 use native.Mathlib.Numerals.{lt-of-le-of-ne}
+use native.Mathlib.Decide.{decLe}
 use native.Mathlib.Omega.{arith}
 use lib.Dec.{eqb}
 use lib.Pow.{pow-lt, pow-pos}
 use lib.Bits.{bitAnd, and-le-l, and-le-r}
-use borrow.Author.Tests.{eq-eqb, ne-eqb, eqb-true, ltb-true, ltb-false, lt-ltb, not-true, not-false}
+use borrow.Author.Tests.{eq-eqb, ne-eqb, eqb-true, lt-ltb}
 use Rattle.rules.specs.Image.{has}
+use Rattle.rules.proofs.Sums.{find, both}
+use Rattle.rules.proofs.Tests.{is-true?, not-both, and-true as both-true, or-true as either-true}
 use Rattle.sets.specs.Sets.{Subset, Below, Lowest, With, Without, plus}
-use Rattle.sets.proofs.Cases.{lt-or-le, eq-or-ne, bool-cases, true-false, and-both, or-either, none-or-some}
-use Rattle.sets.proofs.Bits.{has-empty, has-above, has-or, has-and, has-not, has-pow, has-ones, ext}
-
--- s has b, or not
-pub has? : (s b : ℕ) → Dec (has s b ≡ true)
-has? s b = Bool-discrete (has s b) true
-
-pub has-no : (s b : ℕ) → (has s b ≡ true → ⊥) → has s b ≡ false
-has-no s b f = elim (bool-cases (has s b)) [ inl e ↦ absurd (f e) | inr e ↦ e ]
-
--- a set with a member is not the empty one
-pub has-pos : (s b : ℕ) → has s b ≡ true → 0 < s
-has-pos zero b p = absurd (true-false p (has-empty b))
-has-pos (suc s) b p = omega arith
+use Rattle.sets.proofs.Cases.{lt-or-le, eq-or-ne}
+use Rattle.sets.proofs.Bits.{has-above, has-or, has-and, has-not, has-pow, has-ones, ext}
 
 -- a number below 2 ^ n has members below n
 pub lt-below : (n s : ℕ) → s < 2 ^ n → Below s n
-lt-below n s h j p = elim (lt-or-le j n) [ inl l ↦ l | inr l ↦ absurd (true-false p (has-above n s j h l)) ]
+lt-below n s h j p = elim (lt-or-le j n) [ inl l ↦ l | inr l ↦ absurd (not-both p (has-above n s j h l)) ]
 
 -- ---- parts
 
@@ -51,19 +42,6 @@ module _ (a b : ℕ) where
   pub subset-le : a < 2 ^ 64 → Subset a b → a ≤ b
   subset-le f h = omega (arith, and-le-r a b, subset-no f h)
 
--- parts of each other are equal
-pub subset-both : (a b : ℕ) → a < 2 ^ 64 → b < 2 ^ 64 → Subset a b → Subset b a → a ≡ b
-subset-both a b f g h l = omega (arith, subset-le a b f h, subset-le b a g l)
-
--- a is a part of b, or has a member that is none of b
-pub part-or-not : (a b : ℕ) → a < 2 ^ 64 → Subset a b ⊎ ((p : ℕ) × (has a p ≡ true) × (has b p ≡ false))
-part-or-not a b f = go (none-or-some (λ j. has a j && not (has b j)) 64)
-  where
-    go : ((j : ℕ) → j < 64 → (has a j && not (has b j)) ≡ false) ⊎ ((j : ℕ) × (j < 64) × ((has a j && not (has b j)) ≡ true))
-        → Subset a b ⊎ ((p : ℕ) × (has a p ≡ true) × (has b p ≡ false))
-    go (inl h) = inl (λ j p. not-false (has b j) (sym (ap (λ (x : Bool). x && not (has b j)) p) ∙ h j (lt-below 64 a f j p)))
-    go (inr w) = let e = and-both _ _ (w .2) in inr (w .0, e .0, not-true (has b (w .0)) (e .1))
-
 -- ---- sets below n
 
 -- members below n make a number below 2 ^ n
@@ -73,12 +51,10 @@ below-lt n s f h =
 
 -- the members of s are below n, or one is not
 pub below-or-not : (s n : ℕ) → s < 2 ^ 64 → Below s n ⊎ ((b : ℕ) × (n ≤ b) × (has s b ≡ true))
-below-or-not s n f = go (part-or-not s (2 ^ n - 1) f)
-  where
-    go : Subset s (2 ^ n - 1) ⊎ ((p : ℕ) × (has s p ≡ true) × (has (2 ^ n - 1) p ≡ false))
-        → Below s n ⊎ ((b : ℕ) × (n ≤ b) × (has s b ≡ true))
-    go (inl h) = inl (λ j p. ltb-true j n (sym (has-ones n j) ∙ h j p))
-    go (inr w) = inr (w .0, ltb-false (w .0) n (sym (has-ones n (w .0)) ∙ w .2), w .1)
+below-or-not s n f = elim (find 64 (λ b. (n ≤ b) × (has s b ≡ true)) (λ b. both (decLe n b) (is-true? (has s b)))) [
+  | inl w ↦ inr (w .0, w .2 .0, w .2 .1)
+  | inr h ↦ inl (λ j p. elim (lt-or-le j n) [ inl l ↦ l | inr l ↦ absurd (h j (lt-below 64 s f j p) (l, p)) ])
+]
 
 -- below n exactly if no member is n or more
 pub below-exact : (s n : ℕ) → Below s n ↔ (((b : ℕ) × (n ≤ b) × (has s b ≡ true)) → ⊥)
@@ -90,10 +66,7 @@ below-exact s n = (
 -- ---- the lowest member
 
 pub lowest-le : {s b : ℕ} → Lowest s b → (j : ℕ) → has s j ≡ true → b ≤ j
-lowest-le {s} {b} low j p = elim (lt-or-le j b) [ inl l ↦ absurd (true-false p (low .least j l)) | inr l ↦ l ]
-
-pub lowest-unique : {s a b : ℕ} → Lowest s a → Lowest s b → a ≡ b
-lowest-unique {s} {a} {b} h l = omega (arith, lowest-le h b (l .member), lowest-le l a (h .member))
+lowest-le {s} {b} low j p = elim (lt-or-le j b) [ inl l ↦ absurd (not-both p (low .least j l)) | inr l ↦ l ]
 
 -- ---- `s & !one(b)`
 
@@ -113,10 +86,10 @@ module _ {s b r : ℕ} (w : Without s b r) where
   kept j n = w .each j ∙ ap (λ (x : Bool). has s j && not x) (ne-eqb b j n) ∙ and-true (has s j)
 
   pub was : (j : ℕ) → has r j ≡ true → has s j ≡ true
-  was j p = and-both (has s j) (not (eqb b j)) (sym (w .each j) ∙ p) .0
+  was j p = both-true (has s j) (not (eqb b j)) .0 (sym (w .each j) ∙ p) .0
 
   pub apart : (j : ℕ) → has r j ≡ true → b ≡ j → ⊥
-  apart j p e = true-false p (ap (has r) (sym e) ∙ gone)
+  apart j p e = not-both p (ap (has r) (sym e) ∙ gone)
 
   -- a member of s is b or one of r
   pub or-gone : (j : ℕ) → has s j ≡ true → (b ≡ j) ⊎ (has r j ≡ true)
@@ -124,7 +97,7 @@ module _ {s b r : ℕ} (w : Without s b r) where
 
   -- the number falls, as a loop over the members needs
   pub falls : has s b ≡ true → r < s
-  falls p = lt-of-le-of-ne (w .less) (λ e. true-false p (ap (λ (n : ℕ). has n b) (sym e) ∙ gone))
+  falls p = lt-of-le-of-ne (w .less) (λ e. not-both p (ap (λ (n : ℕ). has n b) (sym e) ∙ gone))
 
   -- the others are above the lowest
   pub rest-above : Lowest s b → (j : ℕ) → has r j ≡ true → b < j
@@ -149,4 +122,4 @@ module _ {s b r : ℕ} (w : With s b r) where
 
   -- a member of r is one of s or b
   pub either : (j : ℕ) → has r j ≡ true → (has s j ≡ true) ⊎ (b ≡ j)
-  either j p = ⊎-map (λ e. e) (eqb-true b j) (or-either (has s j) (eqb b j) (sym (w .each j) ∙ p))
+  either j p = ⊎-map (λ e. e) (eqb-true b j) (either-true (has s j) (eqb b j) .0 (sym (w .each j) ∙ p))

@@ -8,8 +8,8 @@ use native.Mathlib.Omega.{arith}
 use lib.Count.{ones, ones-step}
 use Rattle.rules.specs.Words.{sum, one-if}
 use Rattle.rules.specs.Image.{has}
-use Rattle.sets.specs.Sets.{members, Subset, With}
-use Rattle.sets.proofs.Cases.{lt-or-le, eq-or-ne, bool-cases}
+use Rattle.sets.specs.Sets.{members, With}
+use Rattle.sets.proofs.Cases.{eq-or-ne}
 use Rattle.sets.proofs.Bits.{has-suc, has-empty, low-digit}
 use Rattle.sets.proofs.Laws.{added, others}
 
@@ -18,10 +18,6 @@ use Rattle.sets.proofs.Laws.{added, others}
 one-if-le : (x : Bool) → one-if x ≤ 1
 one-if-le true = omega arith
 one-if-le false = omega arith
-
-one-if-mono : (x y : Bool) → (x ≡ true → y ≡ true) → one-if x ≤ one-if y
-one-if-mono true y f = omega (arith, ap one-if (f refl))
-one-if-mono false y f = omega arith
 
 -- ---- one action more
 
@@ -62,28 +58,8 @@ pub members-le : (k s : ℕ) → members k s ≤ k
 members-le zero s = omega (arith, members-zero s)
 members-le (suc k) s = omega (arith, members-suc k s, members-le k s, one-if-le (has s k))
 
--- a set that has every action below n has n members or more
-pub members-ge : (k n s : ℕ) → n ≤ k → ((j : ℕ) → j < n → has s j ≡ true) → n ≤ members k s
-members-ge zero n s h f = omega arith
-members-ge (suc k) n s h f = go (λ m. members-ge k m s) (lt-or-le k n)
-  where
-    go : ((m : ℕ) → m ≤ k → ((j : ℕ) → j < m → has s j ≡ true) → m ≤ members k s) → (k < n) ⊎ (n ≤ k) → n ≤ members (suc k) s
-    go ih (inl l) = omega (arith, ih k (omega arith) (λ j q. f j (omega arith)), members-in k s (f k l))
-    go ih (inr l) = omega (arith, ih n l f, members-suc k s)
+-- ---- a new member counts for one
 
--- a set of k members below k has every action below k
-pub members-all : (k s j : ℕ) → k ≤ members k s → j < k → has s j ≡ true
-members-all zero s j h l = absurd (omega arith)
-members-all (suc k) s j h l = go (λ g q. members-all k s j g q) (bool-cases (has s k)) (eq-or-ne k j)
-  where
-    go : (k ≤ members k s → j < k → has s j ≡ true) → (has s k ≡ true) ⊎ (has s k ≡ false) → (k ≡ j) ⊎ (k ≡ j → ⊥) → has s j ≡ true
-    go ih (inl e) (inl q) = ap (has s) (sym q) ∙ e
-    go ih (inl e) (inr n) = ih (omega (arith, members-in k s e)) (omega arith)
-    go ih (inr e) q = absurd (omega (arith, members-out k s e, members-le k s))
-
--- ---- two sets
-
--- a new member counts for one
 module _ {s b r : ℕ} (w : With s b r) where
   members-same : (k : ℕ) → k ≤ b → members k r ≡ members k s
   members-same zero h = members-zero r ∙ sym (members-zero s)
@@ -98,18 +74,3 @@ module _ {s b r : ℕ} (w : With s b r) where
       go ih (inl e) =
           omega (arith, members-same k (omega arith), members-in k r (ap (has r) (sym e) ∙ added w), members-out k s (ap (has s) (sym e) ∙ p))
       go ih (inr n) = omega (arith, ih (omega arith), members-suc k r, members-suc k s, ap one-if (others w k n))
-
-module _ (a b : ℕ) (h : Subset a b) where
-  -- a part has no more members
-  pub members-mono : (k : ℕ) → members k a ≤ members k b
-  members-mono zero = omega (arith, members-zero a)
-  members-mono (suc k) = omega (arith, members-suc k a, members-suc k b, members-mono k, one-if-mono (has a k) (has b k) (h k))
-
-  -- a part that lacks one has fewer
-  pub members-less : (k p : ℕ) → has a p ≡ false → has b p ≡ true → p < k → members k a < members k b
-  members-less zero p f t l = absurd (omega arith)
-  members-less (suc k) p f t l = go (λ q. members-less k p f t q) (eq-or-ne p k)
-    where
-      go : (p < k → members k a < members k b) → (p ≡ k) ⊎ (p ≡ k → ⊥) → members (suc k) a < members (suc k) b
-      go ih (inl e) = omega (arith, members-mono k, members-out k a (ap (has a) (sym e) ∙ f), members-in k b (ap (has b) (sym e) ∙ t))
-      go ih (inr n) = omega (arith, members-suc k a, members-suc k b, ih (omega arith), one-if-mono (has a k) (has b k) (h k))

@@ -3,6 +3,8 @@ use mathlib.Core.Path.{_≡_}
 use mathlib.Core.Bool.{true, false, not, _&&_, _||_}
 use Prim.Native.Nat.{ℕ, _-_, _^_, _<_, _≤_}
 use lib.Bits.{bitOr}
+use mathlib.Core.List.{List}
+use lib.ListN.{getD}
 use lib.Dec.{eqb, ltb}
 use Rattle.rules.specs.Words.{sum, one-if}
 use Rattle.rules.specs.Image.{has}
@@ -24,6 +26,12 @@ pub record Lowest (s r : ℕ) : Type 0 where
   pub small : r < 64
   pub member : has s r ≡ true
   pub least : (j : ℕ) → j < r → has s j ≡ false
+
+-- r is the highest member of s
+pub record Highest (s r : ℕ) : Type 0 where
+  pub small : r < 64
+  pub member : has s r ≡ true
+  pub most : (j : ℕ) → has s j ≡ true → j ≤ r
 
 -- r has b alone
 pub record One (b r : ℕ) : Type 0 where
@@ -48,3 +56,9 @@ pub record With (s b r : ℕ) : Type 0 where
 pub record Without (s b r : ℕ) : Type 0 where
   pub less : r ≤ s
   pub each : (j : ℕ) → has r j ≡ (has s j && not (eqb b j))
+
+-- ---- masks: by action the set of its predecessors
+
+-- b comes before a: `Before` of each profile with these masks
+abbrev pub before : List ℕ → ℕ → ℕ → Type 0
+before masks b a = has (getD masks a 0) b ≡ true

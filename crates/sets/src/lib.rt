@@ -3,9 +3,9 @@
 ghost use mathlib.Core.Path.{_≡_};
 ghost use mathlib.Core.Bool.{true};
 ghost use mathlib.Core.Logic.{_↔_};
-ghost use Prim.Native.Nat.{_<_, _≤_};
+ghost use Prim.Native.Nat.{ℕ, _<_, _≤_};
 ghost use Rattle.rules.specs.Image.{has};
-ghost use Rattle.sets.specs.Sets.{members, Subset, Below, Lowest, One, AllBelow, With, Without};
+ghost use Rattle.sets.specs.Sets.{members, Subset, Below, Lowest, Highest, One, AllBelow, With, Without};
 
 // Whether s has b.
 pub fn member(s: u64, b: usize) -> bool
@@ -56,6 +56,22 @@ pub fn lowest(s: u64) -> usize
     ensures { λ r. ⌜ Lowest s r ⌝ }
 {
     u64::trailing_zeros(s) as usize
+}
+
+// The highest member of a set that has one.
+pub fn highest(s: u64) -> usize
+    requires { ⌜ 0 < s ⌝ }
+    ensures { λ r. ⌜ Highest s r ⌝ }
+{
+    63 - u64::leading_zeros(s) as usize
+}
+
+// The members of a set above the lowest.
+pub fn above_lowest(s: u64) -> u64
+    requires { ⌜ 0 < s ⌝ }
+    ensures { λ r. ⌜ ((b : ℕ) → Lowest s b → Without s b r) ⌝ }
+{
+    s & (s - 1)
 }
 
 // How many members s has.

@@ -3,7 +3,7 @@ use Prim.Native.Nat.{_-_, _≤_}
 use native.Mathlib.Omega.{arith}
 use borrow.Author.Needs.{needs}
 use lib.ListN.{length, length-set}
-use Rattle.order.proofs.Lists.{Filled, filled-more}
+use Rattle.sets.proofs.Lists.{Filled, filled-more}
 use Rattle.order.proofs.numbers.Statement.{statement}
 use Rattle.order.proofs.numbers.Tie as tie
 

@@ -3,11 +3,12 @@ use Prim.Native.Nat.{ℕ}
 use native.Mathlib.Omega.{arith}
 use borrow.Author.Needs.{needs}
 use lib.ListN.{length}
+use Rattle.rules.proofs.Tests.{not-both}
 use Rattle.sets.specs.Sets.{Below}
 use Rattle.sets.proofs.Laws.{falls, was}
 use Rattle.order.specs.Lent.{Masked}
 use Rattle.order.specs.Arranged.{Parted}
-use Rattle.order.proofs.Waiting.{parted-free, parted-held}
+use Rattle.order.proofs.Waiting.{some-left, parted-free, parted-held}
 use Rattle.order.proofs.release.Statement.{statement}
 use Rattle.order.proofs.release.Tie as tie
 
@@ -24,17 +25,23 @@ loop-holds c = (c .before .pre, λ n x g. g)
 lowest-requires : tie.Need-lowest-requires Inv-loop μ-loop
 lowest-requires c κs = search needs
 
-mul-rest : tie.Need-mul-rest Inv-loop μ-loop
-mul-rest c = record { fits = omega (arith, c .lowest .ensures .small) }
+mul-mask : tie.Need-mul-mask Inv-loop μ-loop
+mul-mask c = record { fits = omega (arith, c .lowest .ensures .small) }
 
-shared-slice-read-rest : tie.Need-shared-slice-read-rest Inv-loop μ-loop
-shared-slice-read-rest c = c .before .before .before .loop .inv .0 _ (c .before .lowest .ensures .member)
+shared-slice-read-mask : tie.Need-shared-slice-read-mask Inv-loop μ-loop
+shared-slice-read-mask c = c .before .before .before .loop .inv .0 _ (c .before .lowest .ensures .member)
+
+subset-requires : tie.Need-subset-requires Inv-loop μ-loop
+subset-requires c κs = search needs
 
 with-requires : tie.Need-with-requires Inv-loop μ-loop
-with-requires c κs = c .before .before .lowest .ensures .small
+with-requires c κs = c .before .before .before .lowest .ensures .small
 
 highest-requires : tie.Need-highest-requires Inv-loop μ-loop
-highest-requires c κs = omega (arith, c .if1 .left)
+highest-requires c κs =
+    let read = c .before .before in
+    some-left _ (read .before .before .before .before .before .fits .done .fits) (read .shared-slice-known2 .given _ .fits)
+    (λ h. not-both (c .before .subset .ensures .1 h) (c .if1 .left))
 
 mul-with : tie.Need-mul-with Inv-loop μ-loop
 mul-with c = record { fits = omega (arith, c .highest .ensures .small) }
@@ -43,7 +50,7 @@ element-copy-out-with : tie.Need-element-copy-out-with Inv-loop μ-loop
 element-copy-out-with c = c .highest .ensures .small
 
 with-requires-2 : tie.Need-with-requires-2 Inv-loop μ-loop
-with-requires-2 c κs = c .before .before .before .before .lowest .ensures .small
+with-requires-2 c κs = c .before .before .before .before .before .lowest .ensures .small
 
 mul-waiting : tie.Need-mul-waiting Inv-loop μ-loop
 mul-waiting c = record { fits = omega (arith, c .before .before .highest .ensures .small) }
@@ -56,19 +63,20 @@ above-lowest-requires c κs = search needs
 
 loop-less : tie.Need-loop-less Inv-loop μ-loop
 loop-less c =
-    let low = c .before .before .before .lowest .ensures in
+    let low = c .before .before .before .before .lowest .ensures in
     falls (c .above-lowest .ensures _ low) (low .member)
 
 loop-again : tie.Need-loop-again Inv-loop μ-loop
 loop-again c =
-    let at = c .before .before .before .before .before in
-    let low = c .before .before .before .lowest .ensures in
+    let at = c .before .before .before .before .before .before in
+    let told = c .before .before .subset .ensures in
+    let low = c .before .before .before .before .lowest .ensures in
     let out = c .above-lowest .ensures _ low in
     let d = at .before .before .fits .done .fits in (
       λ j p. at .loop .inv .0 j (was out j p),
       λ n x g. ⊎-elim
-          (λ w. rw (w .2, w .3) (parted-free x d (at .loop .inv .1 n x g) low out (w .0 .taken) (w .1 .ensures)))
-          (λ w. rw (w .4, w .5) (parted-held x d (at .loop .inv .1 n x g) low out (w .1 .ensures) (w .3 .ensures)))
+          (λ w. rw (w .2, w .3) (parted-free d (at .loop .inv .1 n x g) low out (told .0 (w .0 .taken)) (w .1 .ensures)))
+          (λ w. rw (w .4, w .5) (parted-held d (at .loop .inv .1 n x g) low out (w .1 .ensures) (w .3 .ensures)))
           (c .before .if1 .came),
     )
 
@@ -83,8 +91,9 @@ release-spec =
     μ-loop
     loop-holds
     lowest-requires
-    mul-rest
-    shared-slice-read-rest
+    mul-mask
+    shared-slice-read-mask
+    subset-requires
     with-requires
     highest-requires
     mul-with

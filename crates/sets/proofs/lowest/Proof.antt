@@ -1,5 +1,5 @@
 use native.Mathlib.Omega.{arith}
-use Rattle.sets.proofs.Bits.{trailing-lowest}
+use Rattle.sets.proofs.Ends.{trailing-lowest}
 use Rattle.sets.proofs.lowest.Statement.{statement}
 use Rattle.sets.proofs.lowest.Tie as tie
 

@@ -1,0 +1,70 @@
+use mathlib.Core.Path.{_≡_, refl}
+use mathlib.Core.List.{[]}
+use Prim.Native.Nat.{_-_, _≤_}
+use native.Mathlib.Omega.{arith}
+use borrow.Author.Needs.{needs}
+use lib.ListN.{length, length-set}
+use Rattle.rules.specs.Image.{due}
+use Rattle.urgency.specs.Lent.{lent}
+use Rattle.sets.proofs.Lists.{Filled, filled-more}
+use Rattle.urgency.proofs.dues.Statement.{statement}
+use Rattle.urgency.proofs.dues.Tie as tie
+
+abbrev Inv-loop : tie.InvT-loop
+Inv-loop deadlines cycle n u₀ a₀ u a = (a ≤ n) × (length u ≡ 64) × Filled (due (lent n cycle [] deadlines [] 0)) a u
+
+abbrev μ-loop : tie.MeasureT-loop
+μ-loop deadlines cycle n u₀ a₀ u a = n - a
+
+loop-holds : tie.Need-loop-holds Inv-loop μ-loop
+loop-holds c = (search needs, refl, λ j l. absurd (omega arith))
+
+mul-due : tie.Need-mul-due Inv-loop μ-loop
+mul-due c = record { fits = omega arith }
+
+shared-slice-read-due : tie.Need-shared-slice-read-due Inv-loop μ-loop
+shared-slice-read-due c = omega arith
+
+due-requires : tie.Need-due-requires Inv-loop μ-loop
+due-requires c κs = search needs
+
+mul-u : tie.Need-mul-u Inv-loop μ-loop
+mul-u c = record { fits = omega arith }
+
+array-write-u : tie.Need-array-write-u Inv-loop μ-loop
+array-write-u c = omega arith
+
+add-a : tie.Need-add-a Inv-loop μ-loop
+add-a c = search needs
+
+loop-less : tie.Need-loop-less Inv-loop μ-loop
+loop-less c = omega arith
+
+loop-again : tie.Need-loop-again Inv-loop μ-loop
+unfolding due
+loop-again c =
+    let at = c .before .before .before in (
+      omega arith,
+      simp length-set (at .loop .inv .1),
+      filled-more _ (at .loop .a) (c .due .result) (at .loop .u) (omega (arith, at .loop .inv .1)) (at .loop .inv .2) (c .due .ensures),
+    )
+
+returns : tie.Need-returns Inv-loop μ-loop
+returns c = (c .before .loop .inv .1, λ a l. c .before .loop .inv .2 a (omega arith))
+
+pub dues-spec : {M : Type 1} → statement M
+dues-spec =
+    tie.close
+    (tie.spec
+    Inv-loop
+    μ-loop
+    loop-holds
+    mul-due
+    shared-slice-read-due
+    due-requires
+    mul-u
+    array-write-u
+    add-a
+    loop-less
+    loop-again
+    returns)
