@@ -5,11 +5,11 @@ use mathlib.Core.Logic.{_≢_}
 use Prim.Native.Nat.{ℕ}
 use Rattle.rules.specs.Refusals.{Ground, First, image-checks}
 use Rattle.rules.proofs.Refusals.{Numbered, first-one, first-goes-on, accepted-sound}
+use Rattle.records.specs.Reading.{HasRecords}
+use Rattle.records.proofs.Reading.{has-records}
 use Rattle.image.specs.declared.Checked.{Checked}
 use Rattle.image.specs.declared.Refusal.{Refusal}
 use Rattle.image.specs.Checks.{Blank, Found, Answers, Judged}
-use Rattle.image.specs.Reading.{HasRecords}
-use Rattle.image.proofs.Checks.{has-records}
 
 -- a refused image
 pub refused-answers : {row : List Ground} {s : List ℕ} {r : Checked} (f : Refusal) → First row (f .number) → f .number ≢ 0

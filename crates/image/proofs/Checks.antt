@@ -2,19 +2,18 @@
 use mathlib.Core.Path.{_≡_, sym, subst, _∙_}
 use mathlib.Core.List.{List}
 use mathlib.Core.Logic.{inl, inr, _↔_}
-use Prim.Native.Nat.{ℕ, _≤_, _<_}
-use native.Mathlib.Decide.{ℕ-discrete}
-use native.Mathlib.Omega.{arith}
+use Prim.Native.Nat.{ℕ, _<_}
 use lib.Dec.{lit<}
 use lib.ListN.{getD}
 use Rattle.rules.specs.Image.{actions, levels, cycle, record-at, image-bytes, mask-of, deadline-of, average-of, worst-of, profile}
-use Rattle.rules.specs.Refusals.{First, Count, Length, Spare, Range, Table}
+use Rattle.rules.specs.Refusals.{First, Count, Spare, Range, Table}
 use Rattle.rules.proofs.Refusals.{Numbered, first-none}
-use Rattle.image.specs.declared.Header.{Header}
-use Rattle.image.specs.Reading.{HeaderOf, HasRecords, Opened, Column}
-use Rattle.image.specs.Faults.{LowestFault, CountOut, SpareSet, OutOfRange, RowBreaks}
+use Rattle.records.specs.declared.Header.{Header}
+use Rattle.records.specs.Reading.{HeaderOf, Opened, Column}
+use Rattle.records.specs.Faults.{LowestFault, CountOut, SpareSet, OutOfRange, RowBreaks}
+use Rattle.records.proofs.Reading.{has-records}
+use Rattle.records.proofs.Faults.{some-fault}
 use Rattle.image.specs.Checks.{head-checks, record-checks}
-use Rattle.image.proofs.Faults.{some-fault}
 
 -- ---- the numbers of the parts
 
@@ -23,41 +22,6 @@ head-numbered s = (lit< tt, (lit< tt, (lit< tt, tt)))
 
 pub record-numbered : (s : List ℕ) → Numbered (record-checks s)
 record-numbered s = (lit< tt, (lit< tt, (lit< tt, tt)))
-
--- ---- 3
-
-pub record InRange (n L : ℕ) : Type 0 where
-  pub few-actions : n ≤ 64
-  pub some-level : 1 ≤ L
-  pub few-levels : L ≤ 8
-
-pub in-range : {n L cycle : ℕ} → (CountOut n L cycle → ⊥) → InRange n L
-in-range h = record {
-  few-actions = not-out (λ l. h (inl (inr (inl l))));
-  some-level = not-out (λ l. h (inl (inr (inr (inl l)))));
-  few-levels = not-out (λ l. h (inl (inr (inr (inr l)))));
-}
-  where
-    not-out : {x y : ℕ} → (y < x → ⊥) → x ≤ y
-    not-out n = omega arith
-
--- ---- 3 and 4: without them the records are there
-
-pub has-records : (s : List ℕ) {n L : ℕ} → n ≡ profile s .n → L ≡ profile s .levels → (Count (profile s) → ⊥) → (Length s → ⊥)
-    → HasRecords s L n
-unfolding profile
-has-records s e f not-count not-length =
-    let ranges : InRange (profile s .n) (profile s .levels) = in-range not-count in
-    record {
-      said = f;
-      some-level = omega (arith, ranges .some-level);
-      few-levels = omega (arith, ranges .few-levels);
-      few-actions = omega (arith, ranges .few-actions);
-      long = rw (e, f) (equal not-length);
-    }
-  where
-    equal : {a b : ℕ} → ((a ≡ b → ⊥) → ⊥) → a ≡ b
-    equal {a} {b} k = elim (ℕ-discrete a b) [ yes e ↦ e | no n ↦ absurd (k n) ]
 
 -- ---- by the header that was read
 

@@ -15,9 +15,9 @@ use Rattle.fields.proofs.Bytes.{Bytes, be-lt}
 use Rattle.order.specs.Lent.{lent, Masked, Timed}
 use Rattle.order.specs.Judged.{Verdict}
 use Rattle.order.proofs.Judging.{verdict-alike}
-use Rattle.image.specs.declared.Header.{Header}
+use Rattle.records.specs.declared.Header.{Header}
+use Rattle.records.specs.Reading.{HeaderOf, Opened, Columns}
 use Rattle.image.specs.declared.Checked.{Checked}
-use Rattle.image.specs.Reading.{HeaderOf, Opened, Columns}
 use Rattle.image.specs.Checks.{record-checks, Found}
 use Rattle.image.proofs.Checks.{record-numbered}
 

@@ -1,19 +1,7 @@
-// The profile image: its fields and its check, refusals 1 to 9.
-pub mod column;
-pub mod read;
-pub mod scan;
+// The check of a profile image, refusals 1 to 9.
 pub mod whole;
 
 ghost use Rattle.rules.specs.Refusals.{First, image-checks};
-
-// The fields of the header.
-pub struct Header {
-    pub version: u32,
-    pub n: usize,
-    pub levels: usize,
-    pub cycle: u32,
-    pub spare: u32,
-}
 
 // A number of refusal, 0 for none.
 #[repr(C)]

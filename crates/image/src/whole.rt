@@ -1,14 +1,14 @@
 // The check of a whole image.
 use crate::Checked;
-use crate::Header;
 use crate::Refusal;
-use crate::column;
-use crate::read;
-use crate::scan;
+use records::Header;
+use records::column;
+use records::read;
+use records::scan;
 ghost use mathlib.Core.Path.{_≡_};
 ghost use Rattle.rules.specs.Image.{mask-of, deadline-of};
 ghost use Rattle.rules.specs.Refusals.{First};
-ghost use Rattle.image.specs.Reading.{HeaderOf, Opened, Column, Columns};
+ghost use Rattle.records.specs.Reading.{HeaderOf, Opened, Column, Columns};
 ghost use Rattle.image.specs.Checks.{head-checks, record-checks, rest-checks, Blank, Answers, Judged};
 
 // What a refused image answers.

@@ -9,7 +9,7 @@ use Rattle.rules.specs.Image.{Profile, has}
 use Rattle.rules.specs.Refusals.{Range, TimeOut}
 use Rattle.sets.specs.Sets.{Below}
 use Rattle.sets.proofs.Laws.{below-or-not, below-exact}
-use Rattle.image.specs.Faults.{LowestFault}
+use Rattle.records.specs.Faults.{LowestFault}
 use Rattle.pack.specs.Faults.{LongTime, RangeFault}
 
 module _ {n : ℕ} {Fault : ℕ → Type 0} where

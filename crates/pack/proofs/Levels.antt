@@ -5,7 +5,7 @@ use native.Mathlib.Nat.{not-suc-le-zero}
 use native.Mathlib.Omega.{arith}
 use Rattle.rules.specs.Refusals.{Falls}
 use Rattle.rules.proofs.Accepted.{rises}
-use Rattle.image.specs.Faults.{RowBreaks}
+use Rattle.records.specs.Faults.{RowBreaks}
 use Rattle.pack.specs.Faults.{LongTime}
 
 -- the time at the level before q; 0 where there is none

@@ -8,7 +8,7 @@ ghost use lib.ListN.{length};
 ghost use Rattle.rules.specs.Image.{of-tables};
 ghost use Rattle.rules.specs.Refusals.{Tight};
 ghost use Rattle.pack.specs.Faults.{times, LongTime, RangeFault};
-ghost use Rattle.image.specs.Faults.{LowestFault, RowBreaks};
+ghost use Rattle.records.specs.Faults.{LowestFault, RowBreaks};
 ghost use Rattle.pack.specs.Writing.{rooms, Roomy};
 use crate::packing;
 

@@ -20,7 +20,7 @@ pub fn refusal(
     ensures { λ r. ⌜ First
         (writing n levels cycle (now (masks .entry)) (now (deadlines .entry)) (now (averages .entry)) (now (worst .entry)) room) r ⌝ }
 {
-    if image::scan::count_out(n, levels, cycle) {
+    if records::scan::count_out(n, levels, cycle) {
         return 3;
     }
     if checks::tight(n, levels, masks, deadlines, averages, worst, room) {

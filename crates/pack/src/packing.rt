@@ -1,5 +1,5 @@
 // The bytes of an image: the header, then the records, action 0 first.
-use image::read::record_at;
+use records::read::record_at;
 ghost use mathlib.Core.Path.{_≡_};
 ghost use mathlib.Core.List.{[], _++_};
 ghost use Prim.Native.Nat.{ℕ, _+_, _*_, _^_, _≤_, _<_};

@@ -18,9 +18,8 @@ use Rattle.fields.proofs.Bytes.{Bytes}
 use Rattle.fields.proofs.Strides.{stride-more}
 use Rattle.fields.proofs.Cats.{cat-from, from-none, from-more, from-done}
 use Rattle.fields.proofs.Tabs.{tab-ext, length-tab}
-use Rattle.image.specs.Reading.{HasRecord, HasRecords}
-use Rattle.image.proofs.Reading.{has-record}
-use Rattle.image.proofs.Checks.{has-records}
+use Rattle.records.specs.Reading.{HasRecord, HasRecords}
+use Rattle.records.proofs.Reading.{has-records, has-record}
 use Rattle.rows.specs.Rows.{after-last}
 use Rattle.rows.specs.Bounds.{bounds-from}
 use Rattle.rows.proofs.Limits.{Lawful, Position, Worked, limit-is, worked-none, worked-more, worked-done}

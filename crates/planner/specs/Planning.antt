@@ -10,7 +10,7 @@ use Rattle.rules.specs.Order.{Order, TheOrder}
 use Rattle.rules.specs.Limits.{Tables, tables, limit, coast-bound}
 use Rattle.rules.specs.Refusals.{First, Accepted, kept, image-call}
 use Rattle.fields.specs.Fields.{splice}
-use Rattle.image.specs.Reading.{HasRecord}
+use Rattle.records.specs.Reading.{HasRecord}
 use Rattle.rows.specs.Rows.{limits-of, row-of, SmallRow}
 use Rattle.rows.specs.Bounds.{bounds-by, bound-in, Spares}
 use Rattle.planner.specs.declared.Planned.{Planned}

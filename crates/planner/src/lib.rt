@@ -1,7 +1,7 @@
 // Planning: the order, the limits, the worst times by position and the coast bounds of an image, written to lent tables.
 use image::Refusal;
-use image::read;
 use image::whole;
+use records::read;
 ghost use mathlib.Core.Path.{_≡_};
 ghost use mathlib.Core.List.{[], _∷_};
 ghost use Prim.Native.Nat.{_*_, _≤_};
@@ -9,7 +9,7 @@ ghost use lib.ListN.{length};
 ghost use Rattle.rules.specs.Image.{due, profile};
 ghost use Rattle.rules.specs.Order.{Order};
 ghost use Rattle.rules.specs.Refusals.{_when_, First, Tight};
-ghost use Rattle.image.specs.Reading.{HasRecord};
+ghost use Rattle.records.specs.Reading.{HasRecord};
 ghost use Rattle.planner.specs.Planning.{rooms, Plans, Given, SomeGiven, CanWork, Works, Filled, Written};
 
 // The answer of planning: with a refusal all else is 0; without one what the header says.

@@ -13,9 +13,8 @@ use Rattle.rules.proofs.Refusals.{Sound, accepted-sound}
 use Rattle.fields.specs.Fields.{part}
 use Rattle.fields.proofs.Strides.{stride-more}
 use Rattle.fields.proofs.Parts.{be-part}
-use Rattle.image.specs.Reading.{HasRecord}
-use Rattle.image.proofs.Checks.{has-records}
-use Rattle.image.proofs.Reading.{has-record}
+use Rattle.records.specs.Reading.{HasRecord}
+use Rattle.records.proofs.Reading.{has-records, has-record}
 use Rattle.profile.specs.Calls.{Places, record-of}
 use Rattle.profile.specs.declared.Place.{Place}
 use Rattle.profile.proofs.Answers.{none-given}

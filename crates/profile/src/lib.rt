@@ -134,10 +134,10 @@ pub fn lookup_place(image: &[u8], action: usize) -> Place
             length: 0,
         };
     }
-    let levels = image::read::header(image).levels;
+    let levels = records::read::header(image).levels;
     let next = action + 1;
-    let start = image::read::record_at(levels, action);
-    let end = image::read::record_at(levels, next);
+    let start = records::read::record_at(levels, action);
+    let end = records::read::record_at(levels, next);
     Place {
         refusal: looked,
         start,

@@ -16,8 +16,8 @@ use Rattle.fields.proofs.Holds.{Holds, right}
 use Rattle.fields.proofs.Splice.{of-splice}
 use Rattle.fields.proofs.Tabs.{tab-is}
 use Rattle.fields.proofs.Cats.{length-cat, nth, cat-more}
-use Rattle.image.specs.Reading.{HasRecords}
-use Rattle.image.proofs.Checks.{has-records}
+use Rattle.records.specs.Reading.{HasRecords}
+use Rattle.records.proofs.Reading.{has-records}
 use Rattle.pack.proofs.Sizes.{length-level, length-record, length-image}
 use Rattle.trips.proofs.Again.{read-written}
 use Rattle.trips.proofs.Accepts.{accepted-formed}

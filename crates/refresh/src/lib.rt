@@ -1,6 +1,6 @@
 // Refreshing averages: the new image of an image and a trace, which differs in averages only.
 use image::Refusal;
-use image::read;
+use records::read;
 ghost use mathlib.Core.Path.{_≡_};
 ghost use Prim.Native.Nat.{_+_, _*_, _≤_};
 ghost use lib.ListN.{length};
@@ -8,7 +8,7 @@ ghost use Rattle.rules.specs.Words.{tab};
 ghost use Rattle.rules.specs.Image.{record-bytes, record-at, worst-of, profile};
 ghost use Rattle.rules.specs.Refusals.{Accepted};
 ghost use Rattle.fields.specs.Fields.{splice};
-ghost use Rattle.image.specs.Reading.{HasRecord, HasRecords};
+ghost use Rattle.records.specs.Reading.{HasRecord, HasRecords};
 ghost use Rattle.measure.specs.Measure.{Tallied};
 ghost use Rattle.refresh.specs.Refresh.{Refreshes, Weighed, Ceiled, Renews, AllRenewed};
 

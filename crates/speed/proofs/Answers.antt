@@ -15,7 +15,7 @@ use Rattle.rules.proofs.Refusals.{Sound, first-one, first-none, first-stops, fi
 use Rattle.rules.proofs.Order.OfProfile.{order-settled}
 use Rattle.image.specs.declared.Checked.{Checked}
 use Rattle.image.specs.Checks.{Judged}
-use Rattle.image.proofs.Reading.{has-record}
+use Rattle.records.proofs.Reading.{has-record}
 use Rattle.image.proofs.Answers.{accepted-records}
 use Rattle.ratio.specs.declared.Reading.{Reading}
 use Rattle.ratio.specs.declared.Reading.the-variants.{Refused}

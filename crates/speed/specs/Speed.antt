@@ -14,7 +14,7 @@ use Rattle.rules.specs.Refusals.{Ground, _when_, First}
 use Rattle.rules.specs.Speed.{room, reading, speed-call}
 use Rattle.ratio.specs.declared.Reading.{Reading}
 use Rattle.ratio.specs.Ratio.{gives, refuses, reading-of}
-use Rattle.image.specs.Reading.{HasRecord}
+use Rattle.records.specs.Reading.{HasRecord}
 
 -- r answers the speed reading of positions first to last at the level and time t: the first number of refusal that is given, or the reading
 -- by the profile's order.

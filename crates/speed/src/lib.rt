@@ -1,14 +1,14 @@
 // The speed reading of an image: how fast positions in a row must run at a level to end in time.
-use image::read;
 use image::whole;
 use ratio::Reading;
 use ratio::Stretch;
+use records::read;
 ghost use mathlib.Core.Path.{_≡_};
 ghost use mathlib.Core.Bool.{true};
 ghost use mathlib.Core.Logic.{_↔_};
 ghost use Rattle.rules.specs.Image.{due, profile};
 ghost use Rattle.rules.specs.Refusals.{First};
-ghost use Rattle.image.specs.Reading.{HasRecord};
+ghost use Rattle.records.specs.Reading.{HasRecord};
 ghost use Rattle.ratio.specs.Stretch.{Of, Small};
 ghost use Rattle.speed.specs.Speed.{Reads, Tells, Absent, own-checks, listed, Readable};
 

@@ -1,5 +1,5 @@
 // Reading: the tables of an image, unpacked into lent slices.
-use image::read;
+use records::read;
 ghost use mathlib.Core.Path.{_≡_};
 ghost use mathlib.Core.List.{[], _∷_};
 ghost use Prim.Native.Nat.{_+_, _*_, _≤_, _<_};
@@ -7,7 +7,7 @@ ghost use lib.ListN.{length};
 ghost use Rattle.rules.specs.Words.{tab, rows};
 ghost use Rattle.rules.specs.Image.{mask-of, deadline-of, average-of, worst-of};
 ghost use Rattle.fields.specs.Fields.{splice};
-ghost use Rattle.image.specs.Reading.{HasRecord, HasRecords};
+ghost use Rattle.records.specs.Reading.{HasRecord, HasRecords};
 
 // The times of action a, into row a of both tables.
 pub fn unpack_row(image: &[u8], levels: usize, a: usize, averages: &mut [u32], worst: &mut [u32])

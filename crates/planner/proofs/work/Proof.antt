@@ -10,7 +10,7 @@ use Rattle.rules.specs.Order.{Order}
 use Rattle.rules.specs.Limits.{tables}
 use Rattle.fields.proofs.Bytes.{Bytes}
 use Rattle.fields.proofs.Strides.{stride-fits}
-use Rattle.image.specs.Reading.{HasRecord}
+use Rattle.records.specs.Reading.{HasRecord}
 use Rattle.rows.proofs.Limits.{row-small}
 use Rattle.rows.proofs.Sixteens.{sixteen-spares}
 use Rattle.planner.specs.Planning.{Given}

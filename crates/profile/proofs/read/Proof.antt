@@ -8,7 +8,7 @@ use borrow.Author.Needs.{needs}
 use Rattle.rules.specs.Image.{profile}
 use Rattle.rules.specs.Refusals.{Ground, _when_, First, Tight, Accepted, image-call}
 use Rattle.image.specs.Checks.{Found}
-use Rattle.image.specs.Reading.{HasRecords}
+use Rattle.records.specs.Reading.{HasRecords}
 use Rattle.image.proofs.Answers.{accepted-records}
 use Rattle.pack.proofs.Answers.{refuted}
 use Rattle.profile.specs.Calls.{rooms}

@@ -10,7 +10,7 @@ use borrow.Author.Tests.{ne-eqb}
 use Rattle.rules.specs.Image.{profile}
 use Rattle.rules.specs.Refusals.{Ground, First}
 use Rattle.fields.proofs.Bytes.{Bytes}
-use Rattle.image.specs.Reading.{HasRecords}
+use Rattle.records.specs.Reading.{HasRecords}
 use Rattle.measure.proofs.Tallies.{none-tallied}
 use Rattle.refresh.specs.Refresh.{own}
 use Rattle.refresh.proofs.Grounds.{gives-none, enough, after-image}

@@ -10,7 +10,7 @@ use Rattle.rules.specs.Image.{header-bytes, levels, record-at, profile, record-
 use Rattle.rules.specs.Refresh.{refreshed}
 use Rattle.fields.specs.Fields.{splice}
 use Rattle.fields.proofs.Cats.{cat-none, cat-done}
-use Rattle.image.proofs.Reading.{has-record}
+use Rattle.records.proofs.Reading.{has-record}
 use Rattle.measure.specs.Measure.{Weighs}
 use Rattle.refresh.specs.Refresh.{Copied}
 use Rattle.refresh.proofs.Records.{record-more}

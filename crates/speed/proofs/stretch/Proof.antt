@@ -6,7 +6,7 @@ use native.Mathlib.Omega.{arith}
 use borrow.Author.Needs.{needs}
 use lib.ListN.{getD}
 use Rattle.rules.specs.Image.{profile}
-use Rattle.image.specs.Reading.{HasRecord}
+use Rattle.records.specs.Reading.{HasRecord}
 use Rattle.ratio.specs.Stretch.{Of, Small}
 use Rattle.ratio.proofs.Stretches.{Times, small}
 use Rattle.speed.specs.Speed.{listed}

@@ -10,7 +10,7 @@ use Rattle.fields.specs.Fields.{splice}
 use Rattle.fields.proofs.Strides.{stride-fits}
 use Rattle.fields.proofs.Cats.{cat-none, cat-more, cat-done}
 use Rattle.fields.proofs.Tabs.{length-tab}
-use Rattle.image.proofs.Reading.{has-record}
+use Rattle.records.proofs.Reading.{has-record}
 use Rattle.unpack.proofs.unpack.Statement.{statement}
 use Rattle.unpack.proofs.unpack.Tie as tie
 

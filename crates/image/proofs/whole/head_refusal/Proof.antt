@@ -5,8 +5,9 @@ use borrow.Author.Needs.{needs}
 use native.Mathlib.Omega.{arith}
 use Rattle.rules.specs.Image.{profile}
 use Rattle.rules.specs.Refusals.{Version, Count}
-use Rattle.image.proofs.Faults.{denied}
-use Rattle.image.proofs.Checks.{in-range, count-is, length-is}
+use Rattle.records.proofs.Faults.{denied}
+use Rattle.records.proofs.Reading.{in-range}
+use Rattle.image.proofs.Checks.{count-is, length-is}
 use Rattle.image.proofs.whole.head_refusal.Statement.{statement}
 use Rattle.image.proofs.whole.head_refusal.Tie as tie
 

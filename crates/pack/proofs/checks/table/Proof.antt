@@ -4,7 +4,7 @@ use native.Mathlib.Omega.{arith}
 use borrow.Author.Needs.{needs}
 use borrow.Author.Count.{below-none, below-more}
 use Rattle.fields.proofs.Strides.{stride-fits}
-use Rattle.image.specs.Faults.{RowBreaks}
+use Rattle.records.specs.Faults.{RowBreaks}
 use Rattle.pack.specs.Faults.{times}
 use Rattle.pack.proofs.Answers.{refuted}
 use Rattle.pack.proofs.Faults.{found, none-found}

@@ -1,0 +1,102 @@
+-- The records of an image, and their fields read from where a record starts.
+use mathlib.Core.Path.{_≡_, ap, subst, _∙_}
+use mathlib.Core.List.{List}
+use mathlib.Core.Logic.{inl, inr}
+use Prim.Native.Nat.{ℕ, _+_, _*_, _/_, _%_, _≤_, _<_, zero-le}
+use native.Mathlib.Decide.{ℕ-discrete}
+use native.Mathlib.Omega.{arith}
+use lib.ListN.{length, getD, set, length-set}
+use lib.Seq.{getD-set-same, getD-set-other}
+use borrow.Author.Count.{below-none, below-more}
+use Rattle.rules.specs.Image.{be, levels, record-bytes, record-at, image-bytes, mask-of, deadline-of, spare-of, average-of, worst-of, profile}
+use Rattle.rules.specs.Refusals.{Count, Length}
+use Rattle.fields.proofs.Strides.{stride-fits}
+use Rattle.records.specs.Reading.{HasRecord, HasRecords, Column}
+use Rattle.records.specs.Faults.{CountOut}
+
+-- ---- 3
+
+pub record InRange (n L : ℕ) : Type 0 where
+  pub few-actions : n ≤ 64
+  pub some-level : 1 ≤ L
+  pub few-levels : L ≤ 8
+
+pub in-range : {n L cycle : ℕ} → (CountOut n L cycle → ⊥) → InRange n L
+in-range h = record {
+  few-actions = not-out (λ l. h (inl (inr (inl l))));
+  some-level = not-out (λ l. h (inl (inr (inr (inl l)))));
+  few-levels = not-out (λ l. h (inl (inr (inr (inr l)))));
+}
+  where
+    not-out : {x y : ℕ} → (y < x → ⊥) → x ≤ y
+    not-out n = omega arith
+
+-- ---- 3 and 4: without them the records are there
+
+pub has-records : (s : List ℕ) {n L : ℕ} → n ≡ profile s .n → L ≡ profile s .levels → (Count (profile s) → ⊥) → (Length s → ⊥)
+    → HasRecords s L n
+unfolding profile
+has-records s e f not-count not-length =
+    let ranges : InRange (profile s .n) (profile s .levels) = in-range not-count in
+    record {
+      said = f;
+      some-level = omega (arith, ranges .some-level);
+      few-levels = omega (arith, ranges .few-levels);
+      few-actions = omega (arith, ranges .few-actions);
+      long = rw (e, f) (equal not-length);
+    }
+  where
+    equal : {a b : ℕ} → ((a ≡ b → ⊥) → ⊥) → a ≡ b
+    equal {a} {b} k = elim (ℕ-discrete a b) [ yes e ↦ e | no n ↦ absurd (k n) ]
+
+-- an image with its records has each of them
+pub has-record : {s : List ℕ} {L n : ℕ} (a : ℕ) → HasRecords s L n → a < n → HasRecord s L a
+unfolding record-at image-bytes
+has-record {s} {L} {n} a h l = record {
+  said = h .said;
+  few-levels = h .few-levels;
+  few-actions = omega (arith, h .few-actions);
+  within = omega (arith, stride-fits a n (record-bytes L) l, h .long);
+}
+
+-- the fields of action a, whose record starts at i
+module _ (s : List ℕ) (a : ℕ) {L i : ℕ} (said : L ≡ levels s) (starts : i ≡ record-at L a) where
+  start : i ≡ record-at (levels s) a
+  start = starts ∙ ap (λ (l : ℕ). record-at l a) said
+
+  pub mask-read : {v : ℕ} → v ≡ be s i 8 → v ≡ mask-of s a
+  unfolding mask-of
+  mask-read e = e ∙ ap (λ (k : ℕ). be s k 8) start
+
+  pub deadline-read : {v : ℕ} → v ≡ be s (i + 8) 4 → v / 4 ≡ deadline-of s a
+  unfolding deadline-of
+  deadline-read e = ap (λ (v : ℕ). v / 4) e ∙ ap (λ (k : ℕ). be s (k + 8) 4 / 4) start
+
+  pub spare-read : {v : ℕ} → v ≡ be s (i + 8) 4 → v % 4 ≡ spare-of s a
+  unfolding spare-of
+  spare-read e = ap (λ (v : ℕ). v % 4) e ∙ ap (λ (k : ℕ). be s (k + 8) 4 % 4) start
+
+  pub average-read : {v : ℕ} (q : ℕ) → v ≡ be s (i + 12 + 6 * q) 3 → v ≡ average-of s a q
+  unfolding average-of
+  average-read q e = e ∙ ap (λ (k : ℕ). be s (k + 12 + 6 * q) 3) start
+
+  pub worst-read : {v : ℕ} (q : ℕ) → v ≡ be s (i + 15 + 6 * q) 3 → v ≡ worst-of s a q
+  unfolding worst-of
+  worst-read q e = e ∙ ap (λ (k : ℕ). be s (k + 15 + 6 * q) 3) start
+
+-- ---- a loop that fills a column: before it, a turn of it, after it
+
+pub column-none : (f : ℕ → ℕ) (column : List ℕ) → Column f 0 column
+column-none f column = record { room = zero-le; each = below-none (λ a. getD column a 0 ≡ f a) }
+
+pub column-more : (f : ℕ → ℕ) (column : List ℕ) (a : ℕ) {v : ℕ} → a < length column → v ≡ f a → Column f a column
+    → Column f (a + 1) (set column a v)
+column-more f column a {v} l e was = record {
+  room = simp length-set (omega arith);
+  each = below-more (λ k. getD (set column a v) k 0 ≡ f k) a
+      (λ k b. getD-set-other column a k v 0 (λ s. omega arith) ∙ was .each k b)
+      (getD-set-same column a v 0 l ∙ e);
+}
+
+pub column-done : {f : ℕ → ℕ} {column : List ℕ} {a n : ℕ} → a ≡ n → Column f a column → Column f n column
+column-done {f} {column} e was = subst (λ (k : ℕ). Column f k column) e was

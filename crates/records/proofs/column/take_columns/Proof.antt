@@ -1,0 +1,117 @@
+use mathlib.Core.Path.{_≡_, refl}
+use Prim.Native.Nat.{_≤_, _-_}
+use native.Mathlib.Omega.{arith}
+use lib.ListN.{length, length-set}
+use denote.Ref.{now}
+use borrow.Author.Needs.{needs}
+use Rattle.records.specs.Reading.{HasRecord, Columns}
+use Rattle.records.proofs.Reading.{has-record, column-none, column-more, column-done}
+use Rattle.records.proofs.column.take_columns.Statement.{statement}
+use Rattle.records.proofs.column.take_columns.Tie as tie
+
+abbrev Inv-loop : tie.InvT-loop
+Inv-loop image levels n masks₀ deadlines₀ worst₀ a₀ masks deadlines worst a =
+    (a ≤ n)
+    × (length masks ≡ length masks₀)
+    × (length deadlines ≡ length deadlines₀)
+    × (length worst ≡ length worst₀)
+    × Columns image a masks deadlines worst
+
+abbrev μ-loop : tie.MeasureT-loop
+μ-loop image levels n masks₀ deadlines₀ worst₀ a₀ masks deadlines worst a = n - a
+
+loop-holds : tie.Need-loop-holds Inv-loop μ-loop
+loop-holds c = (search needs, refl, refl, refl, record { masks = column-none _ _; deadlines = column-none _ _; worst = column-none _ _ })
+
+-- the record of the turn's action is there
+present : (c : tie.In-loop Inv-loop μ-loop)
+    → let x = c .before .before .before .before .before .before .args in
+    HasRecord (now (x .image)) (x .levels) (c .before .loop .a)
+present c = has-record _ (c .before .before .before .before .before .before .pre .0) (omega arith)
+
+mask-at-requires : tie.Need-mask-at-requires Inv-loop μ-loop
+mask-at-requires c κs = present c
+
+mul-masks : tie.Need-mul-masks Inv-loop μ-loop
+mul-masks c = search needs
+
+slice-write-masks : tie.Need-slice-write-masks Inv-loop μ-loop
+slice-write-masks c = search needs
+
+deadline-at-requires : tie.Need-deadline-at-requires Inv-loop μ-loop
+deadline-at-requires c κs = present (c .before)
+
+mul-deadlines : tie.Need-mul-deadlines Inv-loop μ-loop
+mul-deadlines c = search needs
+
+slice-write-deadlines : tie.Need-slice-write-deadlines Inv-loop μ-loop
+slice-write-deadlines c = search needs
+
+worst-at-requires : tie.Need-worst-at-requires Inv-loop μ-loop
+worst-at-requires c κs = (present (c .before .before), omega arith)
+
+mul-worst : tie.Need-mul-worst Inv-loop μ-loop
+mul-worst c = search needs
+
+slice-write-worst : tie.Need-slice-write-worst Inv-loop μ-loop
+slice-write-worst c = search needs
+
+add-a : tie.Need-add-a Inv-loop μ-loop
+add-a c = search needs
+
+loop-less : tie.Need-loop-less Inv-loop μ-loop
+loop-less c = search needs
+
+loop-again : tie.Need-loop-again Inv-loop μ-loop
+loop-again c =
+    let p = c .before .before .before .before in
+    let was = p .loop .inv .4 in (
+      search needs,
+      simp length-set (omega arith),
+      simp length-set (omega arith),
+      simp length-set (omega arith),
+      record {
+        masks = column-more _ (p .loop .masks) _ (omega arith) (c .before .before .mask-at .ensures) (was .masks);
+        deadlines = column-more _ (p .loop .deadlines) _ (omega arith) (c .before .deadline-at .ensures) (was .deadlines);
+        worst = column-more _ (p .loop .worst) _ (omega arith) (c .worst-at .ensures) (was .worst);
+      },
+    )
+
+same-length : tie.Need-same-length Inv-loop μ-loop
+same-length c = search needs
+
+same-length-2 : tie.Need-same-length-2 Inv-loop μ-loop
+same-length-2 c = search needs
+
+same-length-3 : tie.Need-same-length-3 Inv-loop μ-loop
+same-length-3 c = search needs
+
+returns : tie.Need-returns Inv-loop μ-loop
+returns c =
+    let was = c .before .loop .inv .4 in
+    let e : c .before .loop .a ≡ c .before .before .before .before .before .before .args .n = omega arith in
+    record { masks = column-done e (was .masks); deadlines = column-done e (was .deadlines); worst = column-done e (was .worst) }
+
+pub take-columns-spec : {M : Type 1} → statement M
+take-columns-spec =
+    tie.close
+    (tie.spec
+    Inv-loop
+    μ-loop
+    loop-holds
+    mask-at-requires
+    mul-masks
+    slice-write-masks
+    deadline-at-requires
+    mul-deadlines
+    slice-write-deadlines
+    worst-at-requires
+    mul-worst
+    slice-write-worst
+    add-a
+    loop-less
+    loop-again
+    same-length
+    same-length-2
+    same-length-3
+    returns)

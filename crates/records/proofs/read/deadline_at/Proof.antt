@@ -1,0 +1,21 @@
+use borrow.Author.Needs.{needs}
+use Rattle.rules.specs.Image.{record-bytes}
+use Rattle.records.proofs.Reading.{deadline-read}
+use Rattle.records.proofs.read.deadline_at.Statement.{statement}
+use Rattle.records.proofs.read.deadline_at.Tie as tie
+
+record-at-requires : tie.Need-record-at-requires
+record-at-requires c κs = search needs
+
+add-be32 : tie.Need-add-be32
+add-be32 c = search needs
+
+be32-requires : tie.Need-be32-requires
+unfolding record-bytes
+be32-requires c κs = search needs
+
+returns : tie.Need-returns
+returns c = deadline-read _ _ (c .before .before .before .pre .said) (c .before .record-at .ensures) (c .be32 .ensures .0)
+
+pub deadline-at-spec : {M : Type 1} → statement M
+deadline-at-spec = tie.close (tie.spec record-at-requires add-be32 be32-requires returns)

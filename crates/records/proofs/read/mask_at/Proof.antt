@@ -1,0 +1,18 @@
+use borrow.Author.Needs.{needs}
+use Rattle.rules.specs.Image.{record-bytes}
+use Rattle.records.proofs.Reading.{mask-read}
+use Rattle.records.proofs.read.mask_at.Statement.{statement}
+use Rattle.records.proofs.read.mask_at.Tie as tie
+
+record-at-requires : tie.Need-record-at-requires
+record-at-requires c κs = search needs
+
+be64-requires : tie.Need-be64-requires
+unfolding record-bytes
+be64-requires c κs = search needs
+
+returns : tie.Need-returns
+returns c = mask-read _ _ (c .before .before .before .pre .said) (c .before .record-at .ensures) (c .be64 .ensures .0)
+
+pub mask-at-spec : {M : Type 1} → statement M
+mask-at-spec = tie.close (tie.spec record-at-requires be64-requires returns)

@@ -1,0 +1,27 @@
+use borrow.Author.Needs.{needs}
+use Rattle.rules.specs.Image.{record-bytes}
+use Rattle.records.proofs.Reading.{worst-read}
+use Rattle.records.proofs.read.worst_at.Statement.{statement}
+use Rattle.records.proofs.read.worst_at.Tie as tie
+
+record-at-requires : tie.Need-record-at-requires
+record-at-requires c κs = search needs
+
+add-be24 : tie.Need-add-be24
+add-be24 c = search needs
+
+mul-be24 : tie.Need-mul-be24
+mul-be24 c = search needs
+
+add-be24-2 : tie.Need-add-be24-2
+add-be24-2 c = search needs
+
+be24-requires : tie.Need-be24-requires
+unfolding record-bytes
+be24-requires c κs = search needs
+
+returns : tie.Need-returns
+returns c = worst-read _ _ (c .before .before .before .pre .0 .said) (c .before .record-at .ensures) _ (c .be24 .ensures .0)
+
+pub worst-at-spec : {M : Type 1} → statement M
+worst-at-spec = tie.close (tie.spec record-at-requires add-be24 mul-be24 add-be24-2 be24-requires returns)

@@ -1,0 +1,36 @@
+use native.Mathlib.Omega.{arith}
+use mathlib.Core.Logic.{inl, inr}
+use Rattle.records.proofs.Faults.{said-yes, said-no}
+use Rattle.records.proofs.scan.count_out.Statement.{statement}
+use Rattle.records.proofs.scan.count_out.Tie as tie
+
+returns : tie.Need-returns
+returns c = said-yes (inl (inl (c .if1 .taken)))
+
+returns-2 : tie.Need-returns-2
+returns-2 c = said-yes (inl (inr (inl (c .if2 .taken))))
+
+returns-3 : tie.Need-returns-3
+returns-3 c = said-yes (inl (inr (inr (inl (c .if3 .taken)))))
+
+returns-4 : tie.Need-returns-4
+returns-4 c = said-yes (inl (inr (inr (inr (c .if4 .taken)))))
+
+returns-5 : tie.Need-returns-5
+returns-5 c = said-yes (inr (inl (c .if5 .taken)))
+
+returns-6 : tie.Need-returns-6
+returns-6 c = said-yes (inr (inr (c .if6 .taken)))
+
+returns-7 : tie.Need-returns-7
+returns-7 c = said-no (elim [
+  | inl (inl h) ↦ omega arith
+  | inl (inr (inl h)) ↦ omega arith
+  | inl (inr (inr (inl h))) ↦ omega arith
+  | inl (inr (inr (inr h))) ↦ omega arith
+  | inr (inl h) ↦ omega arith
+  | inr (inr h) ↦ omega arith
+])
+
+pub count-out-spec : {M : Type 1} → statement M
+count-out-spec = tie.close (tie.spec returns returns-2 returns-3 returns-4 returns-5 returns-6 returns-7)

@@ -1,0 +1,66 @@
+// The fields of an image: of the header, and of an action's record.
+use crate::Header;
+ghost use mathlib.Core.Path.{_≡_};
+ghost use Prim.Native.Nat.{_≤_, _<_};
+ghost use lib.ListN.{length};
+ghost use Rattle.rules.specs.Image.{record-at, mask-of, deadline-of, spare-of, average-of, worst-of};
+ghost use Rattle.records.specs.Reading.{HeaderOf, HasRecord};
+
+pub fn header(image: &[u8]) -> Header
+    requires { ⌜ 6 ≤ length (now image) ⌝ }
+    ensures { λ r. ⌜ HeaderOf (now (image .entry)) r ⌝ }
+{
+    let bits = fields::be48(image, 0);
+    Header {
+        version: (bits / 17_592_186_044_416) as u32,
+        n: (bits / 137_438_953_472 % 128) as usize,
+        levels: (bits / 8_589_934_592 % 16) as usize,
+        cycle: (bits / 8 % 1_073_741_824) as u32,
+        spare: (bits % 8) as u32,
+    }
+}
+
+// Where the record of an action starts; that of action n would start where the image ends.
+pub fn record_at(levels: usize, a: usize) -> usize
+    requires { ⌜ (levels ≤ 8) × (a ≤ 64) ⌝ }
+    ensures { λ r. ⌜ r ≡ record-at levels a ⌝ }
+{
+    6 + a * (12 + 6 * levels)
+}
+
+// The fields of the record of action a, by the image's levels.
+
+pub fn mask_at(image: &[u8], levels: usize, a: usize) -> u64
+    requires { ⌜ HasRecord (now image) levels a ⌝ }
+    ensures { λ r. ⌜ r ≡ mask-of (now (image .entry)) a ⌝ }
+{
+    fields::be64(image, record_at(levels, a))
+}
+
+pub fn deadline_at(image: &[u8], levels: usize, a: usize) -> u32
+    requires { ⌜ HasRecord (now image) levels a ⌝ }
+    ensures { λ r. ⌜ r ≡ deadline-of (now (image .entry)) a ⌝ }
+{
+    fields::be32(image, record_at(levels, a) + 8) / 4
+}
+
+pub fn spare_at(image: &[u8], levels: usize, a: usize) -> u32
+    requires { ⌜ HasRecord (now image) levels a ⌝ }
+    ensures { λ r. ⌜ r ≡ spare-of (now (image .entry)) a ⌝ }
+{
+    fields::be32(image, record_at(levels, a) + 8) % 4
+}
+
+pub fn average_at(image: &[u8], levels: usize, a: usize, q: usize) -> u32
+    requires { ⌜ HasRecord (now image) levels a × (q < levels) ⌝ }
+    ensures { λ r. ⌜ r ≡ average-of (now (image .entry)) a q ⌝ }
+{
+    fields::be24(image, record_at(levels, a) + 12 + 6 * q)
+}
+
+pub fn worst_at(image: &[u8], levels: usize, a: usize, q: usize) -> u32
+    requires { ⌜ HasRecord (now image) levels a × (q < levels) ⌝ }
+    ensures { λ r. ⌜ r ≡ worst-of (now (image .entry)) a q ⌝ }
+{
+    fields::be24(image, record_at(levels, a) + 15 + 6 * q)
+}
