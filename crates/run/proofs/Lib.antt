@@ -1,6 +1,3 @@
-pub mod Rows
-pub mod Cells
-pub mod Granting
 pub mod Ranges
 pub mod Refusing
 pub mod Turns

@@ -8,7 +8,7 @@ use Rattle.rules.specs.Refusals.{first}
 use Rattle.rules.specs.Run.{Run, in-range, start-refusal}
 use Rattle.rules.proofs.Tests.{failed}
 use Rattle.rules.proofs.Calls.{InRange, in-range-facts}
-use Rattle.run.proofs.Rows.{neither, clear}
+use Rattle.decision.proofs.Rows.{neither, clear}
 
 -- ---- n and L
 

@@ -4,7 +4,7 @@ use mathlib.Core.Path.{_≡_, refl, sym, ap}
 use mathlib.Core.Bool.{Bool, true, false, not, _||_}
 use mathlib.Core.List.{List}
 use mathlib.Core.Logic.{_≢_}
-use native.Mathlib.Nat.{mul-le-mul}
+use native.Mathlib.Nat.{mul-le-mul, mul-le-mul-right}
 use native.Mathlib.Omega.{arith}
 use lib.Dec.{ltb, eqb, lit<}
 use lib.IntN.{ℤ}
@@ -14,9 +14,8 @@ use Rattle.rules.specs.Words.{one-if}
 use Rattle.rules.specs.Refusals.{first}
 use Rattle.rules.specs.Run.{Run, in-range, ask-refusal, report-refusal}
 use Rattle.rules.proofs.Calls.{InRange, in-range-facts}
+use Rattle.decision.proofs.Rows.{into, past, clear, neither}
 use Rattle.run.specs.Calls.{Open}
-use Rattle.run.proofs.Rows.{into, past, clear, neither}
-use Rattle.run.proofs.Cells.{row-fits}
 
 -- the products of a record in range fit
 pub few-cells : (r : Run) → in-range r ≡ true → r .n * r .levels ≤ 512
@@ -159,6 +158,6 @@ module _ (worst : List ℕ) (t : ℕ) (r : Run) where
         onward = ltb-false _ _ (d .0);
         in-time = ltb-false _ _ (g .0);
         more = more;
-        row = row-fits (r .position) (r .n) (r .levels) more;
+        row = omega (arith, mul-le-mul-right (r .levels) more);
         few = mul-le-mul (f .few) (f .few-levels);
       }

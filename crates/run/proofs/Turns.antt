@@ -4,7 +4,7 @@ use mathlib.Core.Path.{_≡_, sym, ap, _∙_}
 use mathlib.Core.Bool.{Bool, true, false, not, _||_}
 use mathlib.Core.List.{List}
 use mathlib.Core.Logic.{_≢_}
-use native.Mathlib.Nat.{mul-le-mul}
+use native.Mathlib.Nat.{mul-le-mul, mul-le-mul-right}
 use native.Mathlib.Numerals.{add-one}
 use native.Mathlib.Omega.{arith}
 use lib.IntN.{ℤ, pos}
@@ -18,9 +18,8 @@ use Rattle.rules.specs.Run.{ask-refusal, ask, report-refusal, report}
 use Rattle.rules.specs.Run.Answer.{refused, gives}
 use Rattle.rules.proofs.Tests.{failed, last-is}
 use Rattle.rules.proofs.Calls.{InRange, in-range-facts}
+use Rattle.decision.proofs.Rows.{into, past}
 use Rattle.run.specs.Calls.{Open}
-use Rattle.run.proofs.Rows.{into, past}
-use Rattle.run.proofs.Cells.{row-fits}
 
 -- ---- a decision
 
@@ -36,7 +35,7 @@ module _ {limits bounds : List ℤ} {r : Run} (o : Open limits bounds r) where
       let ranges = in-range-facts r (o .ranged) in
       record {
         ranges = ranges;
-        row = row-fits (r .position) (r .n) (r .levels) (o .more);
+        row = omega (arith, mul-le-mul-right (r .levels) (o .more));
         few = mul-le-mul (ranges .few) (ranges .few-levels);
         counted = omega (arith, ranges .decisions, ap one-if (o .waits));
       }

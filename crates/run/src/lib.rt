@@ -7,8 +7,6 @@ ghost use Rattle.rules.specs.Words.{one-if};
 ghost use Rattle.rules.specs.Run.{in-range, begun, coast, decide, ended, fits, lent, start-refusal, start, ask-refusal, ask, report-refusal, report};
 ghost use Rattle.run.specs.Calls.{run-of, answer-of, next-of, start-of, Open};
 
-pub mod decision;
-
 // The fields and their ranges are `in-range` of the rules. The three marks stand last, so that there is no gap between fields.
 #[repr(C)]
 pub struct Run {

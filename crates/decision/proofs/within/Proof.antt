@@ -6,8 +6,8 @@ use lib.ListN.{getD}
 use mir.Syntax.{w32, w64}
 use mir.Val.{SFits}
 use mir.Facts.{toZ-ofZ, toZ-pos, sfits-widen}
-use Rattle.run.proofs.decision.within.Statement.{statement}
-use Rattle.run.proofs.decision.within.Tie as tie
+use Rattle.decision.proofs.within.Statement.{statement}
+use Rattle.decision.proofs.within.Tie as tie
 
 in32 : (c : tie.After-result) → SFits w32 (getD (c .before .args .table .now) (c .before .args .at) (pos 0))
 in32 c = record { sfits = c .result .given }

@@ -9,9 +9,9 @@ use lib.ListN.{getD}
 use lib.Signed.{leZ}
 use borrow.Author.Needs.{needs}
 use Rattle.rules.specs.Words.{last-passing}
-use Rattle.run.proofs.Granting.{last-here, last-past}
-use Rattle.run.proofs.decision.last_within.Statement.{statement}
-use Rattle.run.proofs.decision.last_within.Tie as tie
+use Rattle.decision.proofs.Granting.{last-here, last-past}
+use Rattle.decision.proofs.last_within.Statement.{statement}
+use Rattle.decision.proofs.last_within.Tie as tie
 
 abbrev passes : List ℤ → ℕ → ℕ → ℕ → Bool
 passes table from t k = leZ (pos t) (getD table (from + k) (pos 0))

@@ -1,18 +1,19 @@
 -- At the top level from the last bound down; else from below: the coasts of up to x actions are tried. Assumes nothing.
-use Prim.Native.Nat.{_+_, _-_, _*_, _≤_, min}
+use Prim.Native.Nat.{_+_, _-_, _*_, _≤_, _<_, min}
 use mathlib.Core.Path.{_≡_, sym, _∙_}
 use mathlib.Core.Logic.{⊎-elim}
+use native.Mathlib.Nat.{mul-le-mul-right}
 use native.Mathlib.Numerals.{add-one}
 use native.Mathlib.Omega.{arith}
 use lib.IntN.{pos}
 use lib.ListN.{getD}
 use lib.Signed.{leZ}
 use borrow.Author.Needs.{needs}
-use Rattle.run.proofs.Rows.{into, past}
-use Rattle.run.proofs.Cells.{row-fits, placed}
-use Rattle.run.proofs.Granting.{last-low, top-granted, Going, going-one, going-more, going-stops, going-done}
-use Rattle.run.proofs.decision.left_granted.Statement.{statement}
-use Rattle.run.proofs.decision.left_granted.Tie as tie
+use Rattle.decision.proofs.Rows.{into, past}
+use Rattle.decision.proofs.Cells.{placed}
+use Rattle.decision.proofs.Granting.{last-low, top-granted, Going, going-one, going-more, going-stops, going-done}
+use Rattle.decision.proofs.left_granted.Statement.{statement}
+use Rattle.decision.proofs.left_granted.Tie as tie
 
 abbrev Inv-loop : tie.InvT-loop
 Inv-loop limits bounds n levels position level t end from above left₀ x₀ left x = (x ≤ end) × Going n levels limits bounds t position level x left
@@ -60,23 +61,22 @@ loop-holds c =
 add-within : tie.Need-add-within Inv-loop μ-loop
 add-within c = search needs
 
+-- the row x positions on ends within the table
+row-on : (c : tie.In-loop Inv-loop μ-loop) → let a = c .before .before .before .before .args in
+    (a .position + c .before .loop .x) * a .levels + a .levels ≤ a .n * a .levels
+row-on c =
+    let a = c .before .before .before .before .args in
+    let more : a .position + c .before .loop .x < a .n = omega arith in
+    omega (arith, mul-le-mul-right (a .levels) more)
+
 mul-within : tie.Need-mul-within Inv-loop μ-loop
-mul-within c =
-    let start = c .before .before .before .before in
-    let a = start .args in
-    omega (arith, placed (start .pre .0), start .pre .0, row-fits (a .position + c .before .loop .x) (a .n) (a .levels) (omega arith))
+mul-within c = omega (arith, row-on c, placed (c .before .before .before .before .pre .0))
 
 add-within-2 : tie.Need-add-within-2 Inv-loop μ-loop
-add-within-2 c =
-    let start = c .before .before .before .before in
-    let a = start .args in
-    omega (arith, placed (start .pre .0), start .pre .0, row-fits (a .position + c .before .loop .x) (a .n) (a .levels) (omega arith))
+add-within-2 c = let pre = c .before .before .before .before .pre .0 in omega (arith, row-on c, placed pre, pre)
 
 within-requires : tie.Need-within-requires Inv-loop μ-loop
-within-requires c κs =
-    let start = c .before .before .before .before in
-    let a = start .args in
-    omega (arith, placed (start .pre .0), start .pre .0, row-fits (a .position + c .before .loop .x) (a .n) (a .levels) (omega arith))
+within-requires c κs = let pre = c .before .before .before .before .pre .0 in omega (arith, row-on c, placed pre, pre)
 
 returns-2 : tie.Need-returns-2 Inv-loop μ-loop
 returns-2 c =
@@ -88,10 +88,10 @@ returns-2 c =
     (rw (add-one (a .level)) at (sym (c .before .within .ensures) ∙ c .if2 .taken)) (omega arith))
 
 add-within-3 : tie.Need-add-within-3 Inv-loop μ-loop
-add-within-3 c = omega (arith, placed (c .before .before .before .before .before .before .pre .0), c .before .before .before .before .before .before .pre .0)
+add-within-3 c = let pre = c .before .before .before .before .before .before .pre .0 in omega (arith, placed pre, pre)
 
 within-requires-2 : tie.Need-within-requires-2 Inv-loop μ-loop
-within-requires-2 c κs = omega (arith, placed (c .before .before .before .before .before .before .pre .0), c .before .before .before .before .before .before .pre .0)
+within-requires-2 c κs = let pre = c .before .before .before .before .before .before .pre .0 in omega (arith, placed pre, pre)
 
 cast-left : tie.Need-cast-left Inv-loop μ-loop
 cast-left c = search needs

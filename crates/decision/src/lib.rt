@@ -7,7 +7,7 @@ ghost use lib.ListN.{length, getD};
 ghost use lib.Signed.{leZ};
 ghost use Rattle.rules.specs.Words.{last-passing};
 ghost use Rattle.rules.specs.Run.{lent, left-granted};
-ghost use Rattle.run.specs.Decision.{Cell};
+ghost use Rattle.decision.specs.Decision.{Cell};
 
 // Whether t is at most the entry, a limit or a coast bound.
 pub fn within(table: &[i32], at: usize, t: u32) -> bool
