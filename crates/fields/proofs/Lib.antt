@@ -3,6 +3,7 @@ pub mod Bytes
 pub mod Holds
 pub mod Parts
 pub mod Splice
+pub mod Copies
 pub mod Cats
 pub mod Tabs
 pub mod Rows

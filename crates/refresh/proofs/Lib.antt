@@ -1,5 +1,4 @@
 pub mod Grounds
-pub mod Copies
 pub mod Records
 pub mod Ceilings
 pub mod Answers

@@ -14,6 +14,7 @@ use Rattle.fields.specs.Fields.{splice}
 use Rattle.fields.proofs.Bytes.{Bytes}
 use Rattle.fields.proofs.Holds.{Holds, right}
 use Rattle.fields.proofs.Splice.{of-splice}
+use Rattle.fields.proofs.Copies.{same-again, rest-stays, front-stays, written-over, behind}
 use Rattle.fields.proofs.Tabs.{tab-is}
 use Rattle.fields.proofs.Cats.{length-cat, nth, cat-more}
 use Rattle.records.specs.Reading.{HasRecords}
@@ -22,7 +23,6 @@ use Rattle.pack.proofs.Sizes.{length-level, length-record, length-image}
 use Rattle.trips.proofs.Again.{read-written}
 use Rattle.trips.proofs.Accepts.{accepted-formed}
 use Rattle.refresh.specs.Refresh.{Copied}
-use Rattle.refresh.proofs.Copies.{same-again, rest-stays, front-stays, written-over, behind}
 
 -- An accepted image has its records.
 pub accepted-records : (s : List ℕ) (n L : ℕ) → Accepted s → n ≡ profile s .n → L ≡ profile s .levels → HasRecords s L n
