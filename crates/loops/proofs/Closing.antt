@@ -4,8 +4,10 @@ use mathlib.Core.Bool.{true, false}
 use mathlib.Core.Logic.{_⊎_, inl, inr, ⊎-map}
 use mathlib.Core.List.{List}
 use Prim.Native.Nat.{ℕ, suc, _+_, _≤_, _<_}
+use native.Mathlib.Nat.{le-refl}
 use native.Mathlib.Numerals.{add-one}
 use native.Mathlib.Omega.{arith}
+use borrow.Author.Count.{below-more}
 use lib.Bits.{bitOr}
 use lib.ListN.{length, getD, set, length-set}
 use lib.Seq.{getD-set-same, getD-set-other}
@@ -71,38 +73,32 @@ module _ (masks : List ℕ) where
   -- the rows below b go through k too, the others through actions below k
   pub record Mixed (n k b : ℕ) (all : List ℕ) : Type 0 where
     pub long : length all ≡ 64
-    pub new : (i : ℕ) → i < n → i < b → Row masks (suc k) i (getD all i 0)
-    pub old : (i : ℕ) → i < n → b ≤ i → Row masks k i (getD all i 0)
+    pub new : (i : ℕ) → i < b → i < n → Row masks (suc k) i (getD all i 0)
+    pub old : (i : ℕ) → b ≤ i → i < n → Row masks k i (getD all i 0)
 
   pub mixed-start : {n k : ℕ} {all : List ℕ} → Rows masks n k all → Mixed n k 0 all
-  mixed-start rows = record { long = rows .long; new = λ i l h. absurd (omega arith); old = λ i l h. rows .row i l }
+  mixed-start rows = record { long = rows .long; new = λ i h l. absurd (omega arith); old = λ i h l. rows .row i l }
 
   pub mixed-end : {n k b : ℕ} {all : List ℕ} → n ≤ b → Mixed n k b all → Rows masks n (k + 1) all
-  mixed-end {n} {k} m g = record { long = g .long; row = λ i l. rw (add-one k) (g .new i l (omega arith)) }
+  mixed-end {n} {k} m g = record { long = g .long; row = λ i l. rw (add-one k) (g .new i (omega arith) l) }
 
   module _ {n k b : ℕ} {all : List ℕ} (l : b < n) (g : Mixed n k b all) where
     pub mixed-out : has (getD all b 0) k ≡ false → Mixed n k (b + 1) all
-    mixed-out h = record { long = g .long; new = λ i m j. go i m j (eq-or-ne b i); old = λ i m j. g .old i m (omega arith) }
-      where
-        go : (i : ℕ) → i < n → i < b + 1 → (b ≡ i) ⊎ (b ≡ i → ⊥) → Row masks (suc k) i (getD all i 0)
-        go i m j (inl e) = subst (λ (x : ℕ). Row masks (suc k) x (getD all x 0)) e (row-out (g .old b l (omega arith)) h)
-        go i m j (inr e) = g .new i m (omega arith)
+    mixed-out h = record {
+      long = g .long;
+      new = below-more (λ (i : ℕ). i < n → Row masks (suc k) i (getD all i 0)) b (g .new) (λ m. row-out (g .old b (le-refl b) l) h);
+      old = λ i j m. g .old i (omega arith) m;
+    }
 
     pub mixed-in : {far : ℕ} → b < 64 → Row masks k k far → has (getD all b 0) k ≡ true
         → Mixed n k (b + 1) (set all b (bitOr (getD all b 0) far))
     mixed-in {far} few v h = record {
       long = length-set all b (bitOr (getD all b 0) far) ∙ g .long;
-      new = λ i m j. go i m j (eq-or-ne b i);
-      old = λ i m j. rw (getD-set-other all b i (bitOr (getD all b 0) far) 0 (omega arith)) (g .old i m (omega arith));
+      new = below-more (λ (i : ℕ). i < n → Row masks (suc k) i (getD (set all b (bitOr (getD all b 0) far)) i 0)) b
+          (λ i j m. rw (getD-set-other all b i (bitOr (getD all b 0) far) 0 (omega arith)) (g .new i j m))
+          (λ m. rw (getD-set-same all b (bitOr (getD all b 0) far) 0 (omega (arith, g .long))) (row-in (g .old b (le-refl b) l) v h));
+      old = λ i j m. rw (getD-set-other all b i (bitOr (getD all b 0) far) 0 (omega arith)) (g .old i (omega arith) m);
     }
-      where
-        now : List ℕ
-        now = set all b (bitOr (getD all b 0) far)
-
-        go : (i : ℕ) → i < n → i < b + 1 → (b ≡ i) ⊎ (b ≡ i → ⊥) → Row masks (suc k) i (getD now i 0)
-        go i m j (inl e) = subst (λ (x : ℕ). Row masks (suc k) x (getD now x 0)) e
-            (subst (Row masks (suc k) b) (sym (getD-set-same all b _ 0 (omega (arith, g .long)))) (row-in (g .old b l (omega arith)) v h))
-        go i m j (inr e) = subst (Row masks (suc k) i) (sym (getD-set-other all b i _ 0 (λ q. e (sym q)))) (g .new i m (omega arith))
 
   -- ---- all rows
 

@@ -13,7 +13,7 @@ pub data Leads (masks : List ℕ) (k : ℕ) : ℕ → ℕ → Type 0 where
   next : {a b : ℕ} → before masks a b → Leads masks k a b
   via : {a b : ℕ} (c : ℕ) → c < k → Leads masks k a c → Leads masks k c b → Leads masks k a b
 
--- The members of the set are the actions that b must follow.
+-- The members of the set are the actions that b must follow, directly or through actions below k.
 pub record Row (masks : List ℕ) (k b set : ℕ) : Type 0 where
   pub only : (a : ℕ) → has set a ≡ true → Leads masks k a b
   pub each : (a : ℕ) → Leads masks k a b → has set a ≡ true

@@ -11,6 +11,7 @@ use lib.Seq.{getD-set-same, getD-set-other}
 use Rattle.rules.specs.Image.{has}
 use Rattle.rules.specs.Order.{Order, Loop, ByUrgency}
 use Rattle.rules.proofs.Tests.{is-true?, failed, not-both}
+use Rattle.rules.proofs.Sums.{below-suc}
 use Rattle.rules.proofs.Order.Best.{by-urgency-permitted}
 use Rattle.rules.proofs.Order.Loops.{no-loop}
 use Rattle.rules.proofs.Order.Stepwise
@@ -99,11 +100,6 @@ module _ (n : ℕ) (masks u : List ℕ) where
           moved : (j b : ℕ) → j ≤ k → NextAfter l j b → NextAfter (set l k a) j b
           moved j b h = next-same n (before masks) (λ c. getD u c 0) (earlier-set l k a j h)
 
-          nexts : (j : ℕ) → j < suc k → (j ≡ k) ⊎ (j ≡ k → ⊥) → NextAfter (set l k a) j (getD (set l k a) j 0)
-          nexts j h (inl q) = subst (λ (i : ℕ). NextAfter (set l k a) i (getD (set l k a) i 0)) (sym q)
-              (subst (NextAfter (set l k a) k) (sym here) (moved k a (le-refl k) goes))
-          nexts j h (inr q) = subst (NextAfter (set l k a) j) (sym (past j q)) (moved j _ (omega arith) (g .nexts j (omega arith)))
-
           to : (b : ℕ) → (has done b ≡ true) ⊎ (a ≡ b) → Earlier (λ i. getD (set l k a) i 0) (suc k) b
           to b (inl h) = let s = earlier-set l k a k (le-refl k) b .0 (g .exact b .0 h) in (s .0, omega (arith, s .1), s .2)
           to b (inr q) = (k, le-refl _, here ∙ q)
@@ -119,7 +115,9 @@ module _ (n : ℕ) (masks u : List ℕ) where
             counts = counted;
             exact = λ b. (λ h. to b (either in′ b h), λ s. from b s (eq-or-ne (s .0) k));
             parted = parted;
-            nexts = λ j h. nexts j h (eq-or-ne j k);
+            nexts = below-suc k (λ (j : ℕ). NextAfter (set l k a) j (getD (set l k a) j 0))
+                (λ j h. rw (past j (omega arith)) (moved j _ (omega arith) (g .nexts j h)))
+                (rw here (moved k a (le-refl k) goes));
           }
 
     -- ---- nothing is ready

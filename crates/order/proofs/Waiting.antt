@@ -12,30 +12,26 @@ use borrow.Author.Tests.{ltb-true, lt-ltb, not-true, not-false}
 use Rattle.rules.specs.Image.{has}
 use Rattle.rules.proofs.Tests.{true-or-false, not-both, and-true}
 use Rattle.sets.specs.Sets.{Subset, AllBelow, Lowest, Highest, With, Without}
-use Rattle.sets.proofs.Bits.{has-and, has-not, has-empty}
-use Rattle.sets.proofs.Laws.{lt-below, added, stays, others, either, was, kept, apart, or-gone}
+use Rattle.sets.proofs.Bits.{has-empty}
+use Rattle.sets.proofs.Laws.{has-minus, added, stays, others, either, was, kept, apart, or-gone}
 use Rattle.sets.proofs.Cases.{lt-or-le, eq-or-ne}
 use Rattle.order.specs.Arranged.{Ready, WaitsWith, Parted}
 
 -- ---- the predecessors that are not done, `mask & !done`
 
-module _ (mask : ℕ) {done : ℕ} (d : done < 2 ^ 64) where
-  rest-is : (j : ℕ) → j < 64 → has (bitAnd mask ((2 ^ 64 - 1) - done)) j ≡ (has mask j && not (has done j))
-  rest-is j l = has-and mask ((2 ^ 64 - 1) - done) j ∙ ap (λ (x : Bool). has mask j && x) (has-not 64 done j d l)
-
-  -- there are none, and all predecessors are done; or there is one
-  pub some-left : mask < 2 ^ 64 → (Subset mask done → ⊥) → 0 < bitAnd mask ((2 ^ 64 - 1) - done)
-  some-left m held = elim (lt-or-le 0 (bitAnd mask ((2 ^ 64 - 1) - done))) [ inl l ↦ l | inr l ↦ absurd (held (all-done (omega arith))) ]
+module _ {mask done : ℕ} (m : mask < 2 ^ 64) (d : done < 2 ^ 64) where
+  -- there is one, unless all predecessors are done
+  pub some-left : (Subset mask done → ⊥) → 0 < bitAnd mask ((2 ^ 64 - 1) - done)
+  some-left held = elim (lt-or-le 0 (bitAnd mask ((2 ^ 64 - 1) - done))) [ inl l ↦ l | inr l ↦ absurd (held (all-done (omega arith))) ]
     where
       all-done : bitAnd mask ((2 ^ 64 - 1) - done) ≡ 0 → Subset mask done
       all-done e j p =
           let none : has (bitAnd mask ((2 ^ 64 - 1) - done)) j ≡ false = ap (λ (s : ℕ). has s j) e ∙ has-empty j in
-          not-false (has done j) (sym (ap (λ (x : Bool). x && not (has done j)) p) ∙ sym (rest-is j (lt-below 64 mask m j p)) ∙ none)
+          not-false (has done j) (sym (ap (λ (x : Bool). x && not (has done j)) p) ∙ sym (has-minus mask done j m d) ∙ none)
 
-  one-left : {b : ℕ} → Highest (bitAnd mask ((2 ^ 64 - 1) - done)) b → (has mask b ≡ true) × (has done b ≡ false)
-  one-left {b} m =
-      let both = and-true _ _ .0 (sym (rest-is b (m .small)) ∙ m .member) in
-      (both .0, not-true (has done b) (both .1))
+  -- the highest of them
+  pub one-left : {b : ℕ} → Highest (bitAnd mask ((2 ^ 64 - 1) - done)) b → (has mask b ≡ true) × (has done b ≡ false)
+  one-left {b} h = let both = and-true _ _ .0 (sym (has-minus mask done b m d) ∙ h .member) in (both .0, not-true (has done b) (both .1))
 
 -- ---- at first all are to be looked at
 
@@ -55,11 +51,8 @@ parted-start n masks {all} every = record {
 
 -- ---- one is looked at
 
-module _ {n : ℕ} {masks : List ℕ} {done free t a t′ : ℕ} {w : List ℕ} (d : done < 2 ^ 64) (g : Parted n masks done free t w)
+module _ {n : ℕ} {masks : List ℕ} {done free t a t′ : ℕ} {w : List ℕ} (g : Parted n masks done free t w)
     (low : Lowest t a) (out : Without t a t′) where
-  abbrev rest : ℕ
-  rest = bitAnd (getD masks a 0) ((2 ^ 64 - 1) - done)
-
   -- an action in none of the sets but t′ is a, or was in none before
   looked : (c : ℕ) → has t′ c ≡ false → (a ≡ c) ⊎ (has t c ≡ false)
   looked c e = elim (true-or-false (has t c)) [
@@ -82,20 +75,21 @@ module _ {n : ℕ} {masks : List ℕ} {done free t a t′ : ℕ} {w : List ℕ} 
       here : Ready n masks done a
       here = let l = g .left a (low .member) in record { present = l .0; waits = l .1; free = e }
 
-  pub parted-held : {b v : ℕ} → Highest rest b → With (getD w b 0) a v → Parted n masks done free t′ (set w b v)
-  parted-held {b} {v} m in′ = record {
+  pub parted-held : {b v : ℕ} → b < 64 → (has (getD masks a 0) b ≡ true) × (has done b ≡ false) → With (getD w b 0) a v
+      → Parted n masks done free t′ (set w b v)
+  parted-held {b} {v} small o in′ = record {
     long = length-set w b v ∙ g .long;
     left = λ c p. g .left c (was out c p);
     ready = g .ready;
     waiting = λ b′ c u p. waits b′ c u p (eq-or-ne b′ b);
     each = λ c l u q. elim (looked c q) [
-      | inl i ↦ inr (b, one-left (getD masks a 0) d m .1, ap (λ (s : ℕ). has s c) here ∙ subst (λ (j : ℕ). has v j ≡ true) i (added in′))
+      | inl i ↦ inr (b, o .1, ap (λ (s : ℕ). has s c) here ∙ subst (λ (j : ℕ). has v j ≡ true) i (added in′))
       | inr i ↦ elim (g .each c l u i) [ inl y ↦ inl y | inr y ↦ inr (y .0, y .1, still (y .0) c (y .2) (eq-or-ne (y .0) b)) ]
     ];
   }
     where
       here : getD (set w b v) b 0 ≡ v
-      here = getD-set-same w b v 0 (omega (arith, m .small, g .long))
+      here = getD-set-same w b v 0 (omega (arith, g .long))
 
       past : (j : ℕ) → (j ≡ b → ⊥) → getD (set w b v) j 0 ≡ getD w j 0
       past j ne = getD-set-other w b j v 0 ne
@@ -106,8 +100,7 @@ module _ {n : ℕ} {masks : List ℕ} {done free t a t′ : ℕ} {w : List ℕ} 
       still j c p (inr e) = ap (λ (s : ℕ). has s c) (past j e) ∙ p
 
       with-b : WaitsWith n masks done b a
-      with-b = let l = g .left a (low .member) in let o = one-left (getD masks a 0) d m in
-          record { present = l .0; waits = l .1; held = o .1; before = o .0 }
+      with-b = let l = g .left a (low .member) in record { present = l .0; waits = l .1; held = o .1; before = o .0 }
 
       waits : (j c : ℕ) → has done j ≡ false → has (getD (set w b v) j 0) c ≡ true → (j ≡ b) ⊎ (j ≡ b → ⊥) → WaitsWith n masks done j c
       waits j c u p (inl e) = elim (either in′ c (ap (λ (s : ℕ). has s c) (sym here) ∙ ap (λ (i : ℕ). has (getD (set w b v) i 0) c) (sym e) ∙ p)) [

@@ -43,7 +43,7 @@ pub record Next (u : List ℕ) (s a : ℕ) : Type 0 where
 abbrev pub Lists : {n : ℕ} → List ℕ → Order n → Type 0
 Lists {n} l o = (k : ℕ) → k < n → getD l k 0 ≡ o .at k
 
--- The list has k actions in order, by the urgencies u: all of them, and fewer exactly when the masks contain a loop.
+-- k actions were placed, fewer than n exactly when the masks contain a loop; else the list has all of them in order, by the urgencies u.
 pub record Placed (n : ℕ) (masks u : List ℕ) (k : ℕ) (l : List ℕ) : Type 0 where
   pub most : k ≤ n
   pub looped : (k < n) ↔ Loop n (before masks)

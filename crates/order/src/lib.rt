@@ -63,7 +63,7 @@ fn next(urgency: &[u32; 64], ready: u64) -> usize
     best
 }
 
-// Actions in order, and how many.
+// How many actions were placed, and their order where all were.
 pub struct Arranged {
     pub placed: usize,
     pub order: [u8; 64],
@@ -166,7 +166,7 @@ pub fn fit(
     true
 }
 
-// A refusal, 0 for none, and the actions in order.
+// Refusal 8 or 9, 0 for neither, and but for 8 the actions in order.
 pub struct Judged {
     pub refusal: u32,
     pub order: [u8; 64],

@@ -26,13 +26,13 @@ lt-below n s h j p = elim (lt-or-le j n) [ inl l ↦ l | inr l ↦ absurd (not-b
 
 module _ (a b : ℕ) where
   -- `a & b == a`
-  pub subset-yes : bitAnd a b ≡ a → Subset a b
-  subset-yes h j p =
+  pub and-subset : bitAnd a b ≡ a → Subset a b
+  and-subset h j p =
       let e : has a j ≡ (has a j && has b j) = ap (λ (n : ℕ). has n j) (sym h) ∙ has-and a b j in
       sym (sym p ∙ e ∙ ap (λ (x : Bool). x && has b j) p)
 
-  pub subset-no : a < 2 ^ 64 → Subset a b → bitAnd a b ≡ a
-  subset-no f h = ext 64 (bitAnd a b) a (lt-of-le-of-lt (and-le-l a b) f) f (λ j. has-and a b j ∙ absorb (has a j) (has b j) (h j))
+  pub subset-and : a < 2 ^ 64 → Subset a b → bitAnd a b ≡ a
+  subset-and f h = ext 64 (bitAnd a b) a (lt-of-le-of-lt (and-le-l a b) f) f (λ j. has-and a b j ∙ absorb (has a j) (has b j) (h j))
     where
       absorb : (x y : Bool) → (x ≡ true → y ≡ true) → (x && y) ≡ x
       absorb true y g = g refl
@@ -40,7 +40,7 @@ module _ (a b : ℕ) where
 
   -- a part is not above the whole, as a number
   pub subset-le : a < 2 ^ 64 → Subset a b → a ≤ b
-  subset-le f h = omega (arith, and-le-r a b, subset-no f h)
+  subset-le f h = omega (arith, and-le-r a b, subset-and f h)
 
 -- ---- sets below n
 
@@ -68,14 +68,21 @@ below-exact s n = (
 pub lowest-le : {s b : ℕ} → Lowest s b → (j : ℕ) → has s j ≡ true → b ≤ j
 lowest-le {s} {b} low j p = elim (lt-or-le j b) [ inl l ↦ absurd (not-both p (low .least j l)) | inr l ↦ l ]
 
+-- ---- `s & !t`, the members of s that t lacks
+
+pub has-minus : (s t j : ℕ) → s < 2 ^ 64 → t < 2 ^ 64 → has (bitAnd s ((2 ^ 64 - 1) - t)) j ≡ (has s j && not (has t j))
+has-minus s t j f h = has-and s ((2 ^ 64 - 1) - t) j ∙ elim (lt-or-le j 64) [
+  | inl l ↦ ap (λ (x : Bool). has s j && x) (has-not 64 t j h l)
+  | inr l ↦ rw (has-above 64 s j f l)
+]
+
 -- ---- `s & !one(b)`
 
 pub minus-without : (s b : ℕ) → s < 2 ^ 64 → b < 64 → Without s b (bitAnd s ((2 ^ 64 - 1) - 2 ^ b))
-minus-without s b f h = record { less = and-le-l s _; each = λ j. has-and s ((2 ^ 64 - 1) - 2 ^ b) j ∙ go j (lt-or-le j 64) }
-  where
-    go : (j : ℕ) → (j < 64) ⊎ (64 ≤ j) → (has s j && has ((2 ^ 64 - 1) - 2 ^ b) j) ≡ (has s j && not (eqb b j))
-    go j (inl l) = ap (λ (x : Bool). has s j && x) (has-not 64 (2 ^ b) j (pow-lt h) l ∙ ap not (has-pow b j))
-    go j (inr l) = rw (has-above 64 s j f l)
+minus-without s b f h = record {
+  less = and-le-l s _;
+  each = λ j. has-minus s (2 ^ b) j f (pow-lt h) ∙ ap (λ (x : Bool). has s j && not x) (has-pow b j);
+}
 
 -- r is s without b
 module _ {s b r : ℕ} (w : Without s b r) where

@@ -8,6 +8,7 @@ use native.Mathlib.Omega.{arith}
 use lib.Count.{ones, ones-step}
 use Rattle.rules.specs.Words.{sum, one-if}
 use Rattle.rules.specs.Image.{has}
+use Rattle.rules.proofs.Sums.{sum-none, sum-same}
 use Rattle.sets.specs.Sets.{members, With}
 use Rattle.sets.proofs.Cases.{eq-or-ne}
 use Rattle.sets.proofs.Bits.{has-suc, has-empty, low-digit}
@@ -51,8 +52,8 @@ ones-members (suc k) s h =
 -- ---- bounds
 
 pub members-none : (k : ℕ) → members k 0 ≡ 0
-members-none zero = members-zero 0
-members-none (suc k) = members-out k 0 (has-empty k) ∙ members-none k
+unfolding members
+members-none k = sum-none k (λ j. one-if (has 0 j)) (λ j l. ap one-if (has-empty j))
 
 pub members-le : (k s : ℕ) → members k s ≤ k
 members-le zero s = omega (arith, members-zero s)
@@ -62,9 +63,8 @@ members-le (suc k) s = omega (arith, members-suc k s, members-le k s, one-if-le 
 
 module _ {s b r : ℕ} (w : With s b r) where
   members-same : (k : ℕ) → k ≤ b → members k r ≡ members k s
-  members-same zero h = members-zero r ∙ sym (members-zero s)
-  members-same (suc k) h =
-      omega (arith, members-suc k r, members-suc k s, members-same k (omega arith), ap one-if (others w k (omega arith)))
+  unfolding members
+  members-same k h = sum-same k (λ j. one-if (has r j)) (λ j. one-if (has s j)) (λ j l. ap one-if (others w j (omega arith)))
 
   pub members-with : (k : ℕ) → has s b ≡ false → b < k → members k r ≡ suc (members k s)
   members-with zero p h = absurd (omega arith)

@@ -1,5 +1,5 @@
-// The urgency of each action, from lent masks and deadlines by action: each action hands its urgency on to its predecessors, pass after
-// pass, until no pass changes one. A deadline of 0 stands for the cycle.
+// The urgency of each action, from lent masks and deadlines by action. Actions hand their urgencies on to their predecessors, pass after
+// pass, until nothing is left to hand on. A deadline of 0 stands for the cycle.
 
 use sets::above_lowest;
 use sets::lowest;

@@ -8,7 +8,7 @@ use Rattle.sets.specs.Sets.{Below}
 use Rattle.sets.proofs.Laws.{falls, was}
 use Rattle.order.specs.Lent.{Masked}
 use Rattle.order.specs.Arranged.{Parted}
-use Rattle.order.proofs.Waiting.{some-left, parted-free, parted-held}
+use Rattle.order.proofs.Waiting.{some-left, one-left, parted-free, parted-held}
 use Rattle.order.proofs.release.Statement.{statement}
 use Rattle.order.proofs.release.Tie as tie
 
@@ -40,7 +40,7 @@ with-requires c κs = c .before .before .before .lowest .ensures .small
 highest-requires : tie.Need-highest-requires Inv-loop μ-loop
 highest-requires c κs =
     let read = c .before .before in
-    some-left _ (read .before .before .before .before .before .fits .done .fits) (read .shared-slice-known2 .given _ .fits)
+    some-left (read .shared-slice-known2 .given _ .fits) (read .before .before .before .before .before .fits .done .fits)
     (λ h. not-both (c .before .subset .ensures .1 h) (c .if1 .left))
 
 mul-with : tie.Need-mul-with Inv-loop μ-loop
@@ -72,11 +72,12 @@ loop-again c =
     let told = c .before .before .subset .ensures in
     let low = c .before .before .before .before .lowest .ensures in
     let out = c .above-lowest .ensures _ low in
+    let read = c .before .before .before .shared-slice-known2 .given (c .before .before .before .before .lowest .result) in
     let d = at .before .before .fits .done .fits in (
       λ j p. at .loop .inv .0 j (was out j p),
       λ n x g. ⊎-elim
-          (λ w. rw (w .2, w .3) (parted-free d (at .loop .inv .1 n x g) low out (told .0 (w .0 .taken)) (w .1 .ensures)))
-          (λ w. rw (w .4, w .5) (parted-held d (at .loop .inv .1 n x g) low out (w .1 .ensures) (w .3 .ensures)))
+          (λ w. rw (w .2, w .3) (parted-free (at .loop .inv .1 n x g) low out (told .0 (w .0 .taken)) (w .1 .ensures)))
+          (λ w. rw (w .4, w .5) (parted-held (at .loop .inv .1 n x g) low out (w .1 .ensures .small) (one-left (read .fits) d (w .1 .ensures)) (w .3 .ensures)))
           (c .before .if1 .came),
     )
 
