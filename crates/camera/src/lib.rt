@@ -9,7 +9,7 @@ use profile::Unpacked;
 use profile::Written;
 use refresh::Refreshed;
 ghost use Rattle.rules.specs.Refusals.{First, image-checks, lookup-call};
-ghost use Rattle.pack.specs.Writing.{Writes};
+ghost use Rattle.writing.specs.Writing.{Writes};
 ghost use Rattle.profile.specs.Calls.{Reads, Places};
 ghost use Rattle.planner.specs.Planning.{Plans};
 ghost use Rattle.encoder.specs.Times.{masks, deadlines, averages, worsts};

@@ -13,7 +13,7 @@ use Rattle.rules.specs.Refusals.{First}
 use Rattle.rules.proofs.Tests.{pass, and-true}
 use Rattle.fields.proofs.Bytes.{Bytes}
 use Rattle.fields.proofs.Holds.{whole}
-use Rattle.pack.specs.Writing.{writing}
+use Rattle.writing.specs.Writing.{writing}
 use Rattle.trips.proofs.RoundTrip.{ReadFrom}
 use Rattle.trips.proofs.Accepts.{Writable, write-sound, tables-accepted}
 use Rattle.encoder.specs.Times.{masks, deadlines, averages, worsts, encoder}

@@ -16,9 +16,9 @@ use Rattle.fields.proofs.Holds.{part-holds}
 use Rattle.fields.proofs.Splice.{of-splice, length-splice}
 use Rattle.fields.proofs.Tabs.{length-tab}
 use Rattle.fields.proofs.Rows.{length-rows}
-use Rattle.pack.specs.Writing.{rooms as write-rooms, writing, Writes}
-use Rattle.pack.proofs.Sizes.{length-image}
-use Rattle.pack.proofs.Accepting.{packable}
+use Rattle.writing.specs.Writing.{rooms as write-rooms, writing, Writes}
+use Rattle.writing.proofs.Accepting.{packable}
+use Rattle.trips.proofs.Sizes.{length-image}
 use Rattle.trips.proofs.RoundTrip.{ReadFrom, read-lent}
 use Rattle.trips.proofs.Accepts.{written-accepted, accepted-formed, tables-accepted, accepted-again, written-back}
 use Rattle.profile.specs.declared.Unpacked.{Unpacked}

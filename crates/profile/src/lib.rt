@@ -5,7 +5,7 @@ ghost use mathlib.Core.Bool.{true};
 ghost use mathlib.Core.Logic.{_↔_};
 ghost use Prim.Native.Nat.{_≤_};
 ghost use Rattle.rules.specs.Refusals.{First, Tight, image-checks, lookup-call};
-ghost use Rattle.pack.specs.Writing.{Writes};
+ghost use Rattle.writing.specs.Writing.{Writes};
 ghost use Rattle.profile.specs.Calls.{rooms, Blank, Reads, Places, LooksUp};
 
 // The answer of reading: the refusal, and without one the counts and the cycle of the profile, else 0.
@@ -169,7 +169,7 @@ pub fn write(
     ensures { λ r. ⌜ Writes n levels cycle (now (masks .entry)) (now (deadlines .entry)) (now (averages .entry)) (now (worst .entry))
         (now (image .entry)) (now (image .exit)) (r .refusal .number) (r .bytes) ⌝ }
 {
-    let packed = pack::write(n, levels, cycle, masks, deadlines, averages, worst, image);
+    let packed = writing::write(n, levels, cycle, masks, deadlines, averages, worst, image);
     Written {
         refusal: Refusal {
             number: packed.refusal,

@@ -19,7 +19,7 @@ use Rattle.fields.proofs.Tabs.{tab-is}
 use Rattle.fields.proofs.Cats.{length-cat, nth, cat-more}
 use Rattle.records.specs.Reading.{HasRecords}
 use Rattle.records.proofs.Reading.{has-records}
-use Rattle.pack.proofs.Sizes.{length-level, length-record, length-image}
+use Rattle.trips.proofs.Sizes.{length-level, length-record, length-image}
 use Rattle.trips.proofs.Again.{read-written}
 use Rattle.trips.proofs.Accepts.{accepted-formed}
 use Rattle.refresh.specs.Refresh.{Copied}

@@ -11,8 +11,9 @@ use Rattle.rules.specs.Image.{Profile, be, actions, levels, cycle, image-bytes,
 use Rattle.rules.specs.Refusals.{First, Count, Range, TimeOut, Table, Looped, Unfit, Accepted, Tight, write-call}
 use Rattle.rules.proofs.Refusals.{None, first-none, accepted-sound}
 use Rattle.fields.proofs.Bytes.{Bytes, be-lt}
+use Rattle.trips.proofs.Sizes.{length-image}
 use Rattle.trips.proofs.Same.{Same, same-back, count-same, range-same, time-out-same, table-same, looped-same, unfit-same}
-use Rattle.trips.proofs.Written.{InRange, in-range, length-image, version-back, header-spare-back, spare-back, written-read}
+use Rattle.trips.proofs.Written.{InRange, in-range, version-back, header-spare-back, spare-back, written-read}
 use Rattle.trips.proofs.Again.{Formed}
 use Rattle.trips.proofs.RoundTrip.{ReadFrom, tables-same, tables-again, Gives, tables-back}
 

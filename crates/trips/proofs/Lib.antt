@@ -1,3 +1,4 @@
+pub mod Sizes
 pub mod Same
 pub mod Written
 pub mod Again

@@ -9,13 +9,13 @@ use native.Mathlib.Omega.{arith}
 use lib.Dec.{lit<}
 use lib.Pow.{pow-mono, pow-pos, shr-shr}
 use borrow.Author.Tests.{eq-eqb}
-use lib.ListN.{length, length-append}
 use Rattle.rules.specs.Words.{cat}
-use Rattle.rules.specs.Image.{Profile, has, bytes, be, header, version, actions, levels, cycle, header-spare, record-bytes, record-at, image-bytes}
+use Rattle.rules.specs.Image.{Profile, has, bytes, be, header, version, actions, levels, cycle, header-spare, record-bytes, record-at}
 use Rattle.rules.specs.Image.{mask-of, deadline-of, spare-of, average-of, worst-of, profile, header-of, level-image, record-image, image}
 use Rattle.rules.specs.Refusals.{Count, Range, TimeOut}
 use Rattle.fields.proofs.Holds.{Holds, whole, left, right, reads-lt}
-use Rattle.fields.proofs.Cats.{length-cat, nth}
+use Rattle.fields.proofs.Cats.{nth}
+use Rattle.trips.proofs.Sizes.{length-level, length-record}
 use Rattle.trips.proofs.Same.{Same}
 
 -- ---- what an image has bits for
@@ -66,22 +66,6 @@ in-range {F} count range time-out = record {
 
     cycle-in : F .cycle < 2 ^ 30
     cycle-in = below (not-above (λ h. count (inr (inr h)))) (lit< tt)
-
--- ---- how long a record and an image are
-
-module _ (F : Profile) where
-  length-level : (a q : ℕ) → length (level-image F a q) ≡ 6
-  unfolding level-image
-  length-level a q = refl
-
-  length-record : (a : ℕ) → length (record-image F a) ≡ record-bytes (F .levels)
-  unfolding record-image record-bytes
-  length-record a =
-      simp length-append (omega (arith, length-cat (level-image F a) 6 (length-level a) (F .levels)))
-
-  pub length-image : length (image F) ≡ image-bytes (F .n) (F .levels)
-  unfolding image image-bytes
-  length-image = simp length-append (omega (arith, length-cat (record-image F) (record-bytes (F .levels)) length-record (F .n)))
 
 -- ---- what stands where
 

@@ -1,1 +1,1 @@
-// Reading and writing undo each other: laws alone, in proofs/.
+// The image as a list of bytes: how long it is, and that reading and writing undo each other. Laws alone, in proofs/.

@@ -10,7 +10,7 @@ use Rattle.rules.specs.Refusals.{Ground, _when_, First, Tight, Accepted, image-
 use Rattle.image.specs.Checks.{Found}
 use Rattle.records.specs.Reading.{HasRecords}
 use Rattle.image.proofs.Answers.{accepted-records}
-use Rattle.pack.proofs.Answers.{refuted}
+use Rattle.writing.proofs.Answers.{refuted}
 use Rattle.profile.specs.Calls.{rooms}
 use Rattle.profile.proofs.Answers.{image-refusal, own-refusal, no-refusal, judged-accepted, found-rooms, roomy, refused-reads, accepted-reads}
 use Rattle.profile.proofs.read.Statement.{statement}

@@ -1,13 +1,13 @@
 -- Assumes nothing.
 use mathlib.Core.Logic.{inl, inr}
+use native.Mathlib.Nat.{mul-le-mul}
 use native.Mathlib.Omega.{arith}
-use Rattle.pack.proofs.Answers.{said-yes, less-says, or-else, or-nothing}
-use Rattle.pack.proofs.Sizes.{few-entries}
+use Rattle.writing.proofs.Answers.{said-yes, less-says, or-else, or-nothing}
 use Rattle.profile.proofs.tight.Statement.{statement}
 use Rattle.profile.proofs.tight.Tie as tie
 
 mul-entries : tie.Need-mul-entries
-mul-entries c = omega (arith, few-entries (c .args .n) (c .args .levels) (c .pre .0) (c .pre .1))
+mul-entries c = omega (arith, mul-le-mul (c .pre .0) (c .pre .1))
 
 returns : tie.Need-returns
 returns c = said-yes (inl (c .if1 .taken))

@@ -1,0 +1,6 @@
+pub mod Answers
+pub mod Levels
+pub mod Faults
+pub mod Accepting
+pub mod Judging
+pub mod Settled

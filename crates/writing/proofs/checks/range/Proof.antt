@@ -1,0 +1,113 @@
+-- The loop has found no action below a at fault. Assumes nothing.
+use Prim.Native.Nat.{ℕ, _-_, _≤_, _<_}
+use mathlib.Core.Logic.{inl, inr}
+use native.Mathlib.Omega.{arith}
+use borrow.Author.Needs.{needs}
+use borrow.Author.Count.{below-none, below-more}
+use borrow.Author.Tests.{not-true, not-false}
+use Rattle.rules.specs.Image.{of-tables}
+use Rattle.fields.proofs.Strides.{stride-fits}
+use Rattle.writing.specs.Faults.{RangeFault}
+use Rattle.writing.proofs.Answers.{refuted}
+use Rattle.writing.proofs.Faults.{found, none-found, names-absent, in-range}
+use Rattle.writing.proofs.checks.range.Statement.{statement}
+use Rattle.writing.proofs.checks.range.Tie as tie
+
+abbrev Inv-loop : tie.InvT-loop
+Inv-loop n levels cycle masks deadlines averages worst ordered a₀ a =
+    (a ≤ n) × ((k : ℕ) → k < a → RangeFault (of-tables n levels cycle masks deadlines averages worst) k → ⊥)
+
+abbrev μ-loop : tie.MeasureT-loop
+μ-loop n levels cycle masks deadlines averages worst ordered a₀ a = n - a
+
+loop-holds : tie.Need-loop-holds Inv-loop μ-loop
+loop-holds c = (search needs, below-none _)
+
+mul-if1 : tie.Need-mul-if1 Inv-loop μ-loop
+mul-if1 c = search needs
+
+shared-slice-read-if1 : tie.Need-shared-slice-read-if1 Inv-loop μ-loop
+shared-slice-read-if1 c = search needs
+
+returns : tie.Need-returns Inv-loop μ-loop
+unfolding of-tables
+returns c =
+    let p = c .before .before in
+    found (p .loop-test .taken) (inl (c .if1 .taken)) (p .before .loop .inv .1)
+
+mul-below : tie.Need-mul-below Inv-loop μ-loop
+mul-below c = search needs
+
+shared-slice-read-below : tie.Need-shared-slice-read-below Inv-loop μ-loop
+shared-slice-read-below c = search needs
+
+below-requires : tie.Need-below-requires Inv-loop μ-loop
+below-requires c κs = search needs
+
+returns-2 : tie.Need-returns-2 Inv-loop μ-loop
+unfolding of-tables
+returns-2 c =
+    let p = c .before .before .before .before .before in
+    let fits = c .before .before .shared-slice-known6 .given (p .before .loop .a) .fits in
+    let absent = names-absent _ _ fits (refuted (c .before .below .ensures) (not-true _ (c .if2 .taken))) in
+    found (p .loop-test .taken) (inr (inl absent)) (p .before .loop .inv .1)
+
+long-time-requires : tie.Need-long-time-requires Inv-loop μ-loop
+long-time-requires c κs =
+    let p = c .before .before .before .before .before in
+    let start = p .before .before .before .before .before .before in
+    let x = start .args in
+    let fits = stride-fits (p .before .loop .a) (x .n) (x .levels) (p .loop-test .taken) in
+    ((omega (arith, fits, start .pre), omega (arith, fits, start .pre)), (start .pre .0 .1, λ e. start .pre .1 e (p .before .loop .a) (p .loop-test .taken)))
+
+returns-3 : tie.Need-returns-3 Inv-loop μ-loop
+unfolding of-tables
+returns-3 c =
+    let p = c .before .before .before .before .before .before .before in
+    found (p .loop-test .taken) (inr (inr (c .before .long-time .ensures .0 (c .if3 .taken)))) (p .before .loop .inv .1)
+
+add-a : tie.Need-add-a Inv-loop μ-loop
+add-a c = search needs
+
+loop-less : tie.Need-loop-less Inv-loop μ-loop
+loop-less c = search needs
+
+loop-again : tie.Need-loop-again Inv-loop μ-loop
+unfolding of-tables
+loop-again c =
+    let p = c .before .before .before in
+    let t = p .before .before .before .before .before in
+    let x = t .before .before .before .before .before .args in (
+      search needs,
+      below-more _ _ (t .loop .inv .1)
+          (in-range
+          (of-tables (x .n) (x .levels) (x .cycle) (x .masks .now) (x .deadlines .now) (x .averages .now) (x .worst .now))
+          (t .loop .a)
+          (p .before .before .if1 .left)
+          (p .below .ensures .0 (not-false _ (c .before .before .if2 .left)))
+          (refuted (c .before .long-time .ensures) (c .if3 .left))),
+    )
+
+returns-4 : tie.Need-returns-4 Inv-loop μ-loop
+returns-4 c = none-found (λ k h. c .before .loop .inv .1 k (omega arith))
+
+pub range-spec : {M : Type 1} → statement M
+range-spec =
+    tie.close
+    (tie.spec
+    Inv-loop
+    μ-loop
+    loop-holds
+    mul-if1
+    shared-slice-read-if1
+    returns
+    mul-below
+    shared-slice-read-below
+    below-requires
+    returns-2
+    long-time-requires
+    returns-3
+    add-a
+    loop-less
+    loop-again
+    returns-4)

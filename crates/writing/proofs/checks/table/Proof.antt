@@ -1,0 +1,61 @@
+-- The loop has found no action below a at fault. Assumes nothing.
+use Prim.Native.Nat.{ℕ, _-_, _≤_, _<_}
+use native.Mathlib.Omega.{arith}
+use borrow.Author.Needs.{needs}
+use borrow.Author.Count.{below-none, below-more}
+use Rattle.fields.proofs.Strides.{stride-fits}
+use Rattle.records.specs.Faults.{RowBreaks}
+use Rattle.writing.specs.Faults.{times}
+use Rattle.writing.proofs.Answers.{refuted}
+use Rattle.writing.proofs.Faults.{found, none-found}
+use Rattle.writing.proofs.checks.table.Statement.{statement}
+use Rattle.writing.proofs.checks.table.Tie as tie
+
+abbrev Inv-loop : tie.InvT-loop
+Inv-loop n levels averages worst a₀ a =
+    (a ≤ n) × ((k : ℕ) → k < a → RowBreaks levels (times levels averages k) (times levels worst k) → ⊥)
+
+abbrev μ-loop : tie.MeasureT-loop
+μ-loop n levels averages worst a₀ a = n - a
+
+loop-holds : tie.Need-loop-holds Inv-loop μ-loop
+loop-holds c = (search needs, below-none _)
+
+disordered-requires : tie.Need-disordered-requires Inv-loop μ-loop
+disordered-requires c κs =
+    let x = c .before .before .before .before .args in
+    omega (arith, stride-fits (c .before .loop .a) (x .n) (x .levels) (c .loop-test .taken))
+
+returns : tie.Need-returns Inv-loop μ-loop
+returns c =
+    let p = c .before .before in
+    found (p .loop-test .taken) (c .before .disordered .ensures .0 (c .if1 .taken)) (p .before .loop .inv .1)
+
+add-a : tie.Need-add-a Inv-loop μ-loop
+add-a c = search needs
+
+loop-less : tie.Need-loop-less Inv-loop μ-loop
+loop-less c = search needs
+
+loop-again : tie.Need-loop-again Inv-loop μ-loop
+loop-again c = (
+  search needs,
+  below-more _ _ (c .before .before .before .loop .inv .1) (refuted (c .before .disordered .ensures) (c .if1 .left)),
+)
+
+returns-2 : tie.Need-returns-2 Inv-loop μ-loop
+returns-2 c = none-found (λ k h. c .before .loop .inv .1 k (omega arith))
+
+pub table-spec : {M : Type 1} → statement M
+table-spec =
+    tie.close
+    (tie.spec
+    Inv-loop
+    μ-loop
+    loop-holds
+    disordered-requires
+    returns
+    add-a
+    loop-less
+    loop-again
+    returns-2)

@@ -1,0 +1,90 @@
+// Writing: n, L, cycle and lent slices of masks, deadlines, averages and worst times, packed into a lent image.
+
+ghost use Rattle.rules.specs.Refusals.{First};
+ghost use Rattle.writing.specs.Writing.{writing, Writes};
+
+pub mod checks;
+
+// The refusal of writing, 0 for none; `room` is the length of the image.
+pub fn refusal(
+    n: usize,
+    levels: usize,
+    cycle: u32,
+    masks: &[u64],
+    deadlines: &[u32],
+    averages: &[u32],
+    worst: &[u32],
+    room: usize,
+) -> u32
+    ensures { λ r. ⌜ First
+        (writing n levels cycle (now (masks .entry)) (now (deadlines .entry)) (now (averages .entry)) (now (worst .entry)) room) r ⌝ }
+{
+    if records::scan::count_out(n, levels, cycle) {
+        return 3;
+    }
+    if checks::tight(n, levels, masks, deadlines, averages, worst, room) {
+        return 17;
+    }
+    // The lowest action at fault for 7 and for 6, n for none. 6 is given first, but where no row breaks the rule of 7 it is the sooner told.
+    let fallen = checks::table(n, levels, averages, worst);
+    let out = checks::range(
+        n,
+        levels,
+        cycle,
+        masks,
+        deadlines,
+        averages,
+        worst,
+        n <= fallen,
+    );
+    if out < n {
+        return 6;
+    }
+    if fallen < n {
+        return 7;
+    }
+    order::judge(masks, deadlines, cycle, worst, levels, n).refusal
+}
+
+// The answer of writing: the refusal, 0 for none, and the number of bytes written.
+pub struct Written {
+    pub refusal: u32,
+    pub bytes: usize,
+}
+
+// Packs the tables into the image. A refusal leaves it untouched, and what it has beyond the bytes written stays.
+pub fn write(
+    n: usize,
+    levels: usize,
+    cycle: u32,
+    masks: &[u64],
+    deadlines: &[u32],
+    averages: &[u32],
+    worst: &[u32],
+    image: &mut [u8],
+) -> Written
+    ensures { λ r. ⌜ Writes n levels cycle (now (masks .entry)) (now (deadlines .entry)) (now (averages .entry)) (now (worst .entry))
+        (now (image .entry)) (now (image .exit)) (r .refusal) (r .bytes) ⌝ }
+{
+    let refused = refusal(
+        n,
+        levels,
+        cycle,
+        masks,
+        deadlines,
+        averages,
+        worst,
+        image.len(),
+    );
+    if refused != 0 {
+        return Written {
+            refusal: refused,
+            bytes: 0,
+        };
+    }
+    pack::put_image(image, n, levels, cycle, masks, deadlines, averages, worst);
+    Written {
+        refusal: 0,
+        bytes: pack::image_bytes(n, levels),
+    }
+}
