@@ -21,6 +21,10 @@ pub true-or-false : (b : Bool) → (b ≡ true) ⊎ (b ≡ false)
 true-or-false true = inl refl
 true-or-false false = inr refl
 
+pub is-true? : (b : Bool) → Dec (b ≡ true)
+is-true? true = yes refl
+is-true? false = no false≢true
+
 pub failed : (b : Bool) → (b ≡ true → ⊥) → b ≡ false
 failed true h = absurd (h refl)
 failed false h = refl
