@@ -9,7 +9,7 @@ use native.Mathlib.Omega.{arith}
 use lib.ListN.{length, getD}
 use Rattle.rules.specs.Words.{sum}
 use Rattle.rules.specs.Image.{Profile, due}
-use Rattle.rules.specs.Order.{Order, Meets}
+use Rattle.rules.specs.Order.{Order, ends, Meets}
 use Rattle.rules.proofs.Sums.{below-suc, sum-same}
 use Rattle.rules.proofs.Tests.{not-both}
 use Rattle.rules.proofs.Order.OfProfile.{fit-exact}
@@ -27,6 +27,10 @@ module _ (D time : ℕ → ℕ) (l : List ℕ) where
     pub is : e ≡ sum k (λ j. time (getD l j 0))
     pub early : e ≤ k * 16777215
     pub met : (j : ℕ) → j < k → sum (suc j) (λ i. time (getD l i 0)) ≤ D (getD l j 0)
+
+  -- where the list has an order's actions, they end as the order says
+  ends-listed : {n : ℕ} (o : Order n) → Lists l o → (k : ℕ) → k < n → sum (suc k) (λ j. time (getD l j 0)) ≡ ends o time k
+  ends-listed o lists k h = sum-same (suc k) (λ j. time (getD l j 0)) (λ j. time (o .at j)) (λ j i. ap time (lists j (omega arith)))
 
   pub ending-start : Ending 0 0
   unfolding sum
@@ -46,21 +50,10 @@ module _ (D time : ℕ → ℕ) (l : List ℕ) where
     })
 
     ending-late : {n : ℕ} (o : Order n) → Lists l o → k < n → D (getD l k 0) < e + time (getD l k 0) → Meets 0 o time D → ⊥
-    ending-late o lists h m meets = omega (
-      arith,
-      meets k h,
-      ends-at,
-      ap D (lists k h),
-      sum-same (suc k) (λ j. time (getD l j 0)) (λ j. time (o .at j)) (λ j i. ap time (lists j (omega arith))),
-    )
+    ending-late o lists h m meets = omega (arith, meets k h, ends-at, ap D (lists k h), ends-listed o lists k h)
 
   ending-end : {n e : ℕ} (o : Order n) → Lists l o → Ending n e → Meets 0 o time D
-  ending-end o lists g k h = omega (
-    arith,
-    g .met k h,
-    ap D (lists k h),
-    sum-same (suc k) (λ j. time (getD l j 0)) (λ j. time (o .at j)) (λ j i. ap time (lists j (omega arith))),
-  )
+  ending-end o lists g k h = omega (arith, g .met k h, ap D (lists k h), ends-listed o lists k h)
 
 -- ---- fit or not
 

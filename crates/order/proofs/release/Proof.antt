@@ -2,9 +2,9 @@ use mathlib.Core.Logic.{⊎-elim}
 use Prim.Native.Nat.{ℕ}
 use native.Mathlib.Omega.{arith}
 use borrow.Author.Needs.{needs}
-use lib.ListN.{length}
+use lib.ListN.{length, getD}
 use Rattle.rules.proofs.Tests.{not-both}
-use Rattle.sets.specs.Sets.{Below}
+use Rattle.sets.specs.Sets.{Subset, Below}
 use Rattle.sets.proofs.Laws.{falls, was}
 use Rattle.order.specs.Lent.{Masked}
 use Rattle.order.specs.Arranged.{Parted}
@@ -18,6 +18,13 @@ Inv-loop masks from done free waiting₀ r₀ t₀ waiting r t = Below t (length
 
 abbrev μ-loop : tie.MeasureT-loop
 μ-loop masks from done free waiting₀ r₀ t₀ waiting r t = t
+
+-- an action that is released has all its predecessors done
+all-done : (c : tie.Then1 Inv-loop μ-loop)
+    → let found = c .before .before .before in
+    let start = found .before .before .before .before in
+    Subset (getD (start .args .masks .now) (found .lowest .result) 0) (start .args .done)
+all-done c = c .before .subset .ensures .0 (c .if1 .taken)
 
 loop-holds : tie.Need-loop-holds Inv-loop μ-loop
 loop-holds c = (c .before .pre, λ n x g. g)
@@ -69,14 +76,13 @@ loop-less c =
 loop-again : tie.Need-loop-again Inv-loop μ-loop
 loop-again c =
     let at = c .before .before .before .before .before .before in
-    let told = c .before .before .subset .ensures in
     let low = c .before .before .before .before .lowest .ensures in
     let out = c .above-lowest .ensures _ low in
     let read = c .before .before .before .shared-slice-known2 .given (c .before .before .before .before .lowest .result) in
     let d = at .before .before .fits .done .fits in (
       λ j p. at .loop .inv .0 j (was out j p),
       λ n x g. ⊎-elim
-          (λ w. rw (w .2, w .3) (parted-free (at .loop .inv .1 n x g) low out (told .0 (w .0 .taken)) (w .1 .ensures)))
+          (λ w. rw (w .2, w .3) (parted-free (at .loop .inv .1 n x g) low out (all-done (record { before = c .before .before; if1 = w .0 })) (w .1 .ensures)))
           (λ w. rw (w .4, w .5) (parted-held (at .loop .inv .1 n x g) low out (w .1 .ensures .small) (one-left (read .fits) d (w .1 .ensures)) (w .3 .ensures)))
           (c .before .if1 .came),
     )

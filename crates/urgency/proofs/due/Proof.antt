@@ -3,10 +3,10 @@ use Rattle.urgency.proofs.due.Statement.{statement}
 use Rattle.urgency.proofs.due.Tie as tie
 
 returns : tie.Need-returns
-returns c = simp (eq-eqb _ _ (c .if1 .taken))
+returns c = rw (eq-eqb (c .before .args .deadline) 0 (c .if1 .taken))
 
 returns-2 : tie.Need-returns-2
-returns-2 c = simp (ne-eqb _ _ (c .if1 .left))
+returns-2 c = rw (ne-eqb (c .before .args .deadline) 0 (c .if1 .left))
 
 pub due-spec : {M : Type 1} → statement M
 due-spec = tie.close (tie.spec returns returns-2)
