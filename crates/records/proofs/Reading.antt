@@ -9,7 +9,8 @@ use lib.ListN.{length, getD, set, length-set}
 use lib.Seq.{getD-set-same, getD-set-other}
 use borrow.Author.Count.{below-none, below-more}
 use Rattle.rules.specs.Image.{be, levels, record-bytes, record-at, image-bytes, mask-of, deadline-of, spare-of, average-of, worst-of, profile}
-use Rattle.rules.specs.Refusals.{Count, Length}
+use Rattle.rules.specs.Refusals.{Count, Length, Accepted}
+use Rattle.rules.proofs.Refusals.{accepted-sound}
 use Rattle.fields.proofs.Strides.{stride-fits}
 use Rattle.records.specs.Reading.{HasRecord, HasRecords, Column}
 use Rattle.records.specs.Faults.{CountOut}
@@ -48,6 +49,12 @@ has-records s e f not-count not-length =
   where
     equal : {a b : ℕ} → ((a ≡ b → ⊥) → ⊥) → a ≡ b
     equal {a} {b} k = elim (ℕ-discrete a b) [ yes e ↦ e | no n ↦ absurd (k n) ]
+
+-- so those of an accepted image are
+pub has-accepted : (s : List ℕ) {n L : ℕ} → Accepted s → n ≡ profile s .n → L ≡ profile s .levels → HasRecords s L n
+has-accepted s a e f =
+    let sound = accepted-sound s .0 a in
+    has-records s e f (sound .not-count) (sound .not-length)
 
 -- an image with its records has each of them
 pub has-record : {s : List ℕ} {L n : ℕ} (a : ℕ) → HasRecords s L n → a < n → HasRecord s L a
