@@ -54,9 +54,6 @@ be-bytes (suc w) v =
     let digit : v % (256 * 256 ^ w) ≡ b * 256 ^ w + v % 256 ^ w = mod-mul v (lit< tt) (one-le-pow w 256 (lit≤ tt)) in
     rw (bytes-suc w v, pow-succ' 256 w) (omega (arith, be-front (b ∷ bytes w v) 0 w, tail, be-bytes w v, digit))
 
-pub be-bytes-lt : (w v : ℕ) → v < 256 ^ w → be (bytes w v) 0 w ≡ v
-be-bytes-lt w v h = be-bytes w v ∙ mod-eq-of-lt h
-
 -- ---- what is written of what was read
 
 -- the list is of bytes

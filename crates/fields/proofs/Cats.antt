@@ -8,9 +8,8 @@ use native.Mathlib.Numerals.{add-one}
 use native.Mathlib.Omega.{arith}
 use lib.ListN.{length, getD, length-append}
 use Rattle.rules.specs.Words.{cat}
-use Rattle.rules.specs.Image.{be}
 use Rattle.fields.specs.Fields.{splice}
-use Rattle.fields.proofs.Holds.{Holds, whole, left, right, getD-holds, be-holds}
+use Rattle.fields.proofs.Holds.{Holds, whole, left, right, getD-holds}
 use Rattle.fields.proofs.Splice.{splice-nil, splice-splice, splice-front}
 
 -- each of the lists has m elements
@@ -109,7 +108,3 @@ module _ {A : Type 0} (f : ℕ → List A) (m : ℕ) (each : Each f m) where
 
   pub getD-cat : (n k j : ℕ) (d : A) → k < n → j < m → getD (cat f n) (k * m + j) d ≡ getD (f k) j d
   getD-cat n k j d b l = getD-holds (piece n k b) (k * m + j) j d refl (omega (arith, each k))
-
--- a number read in the k-th of them
-pub be-cat : (f : ℕ → List ℕ) (m : ℕ) → Each f m → (n k i w : ℕ) → k < n → i + w ≤ m → be (cat f n) (k * m + i) w ≡ be (f k) i w
-be-cat f m each n k i w b l = be-holds (piece f m each n k b) (k * m + i) i w refl (omega (arith, each k))

@@ -1,5 +1,5 @@
 -- Parts of a list: what is read in one, and parts side by side. Assumes nothing.
-use mathlib.Core.Path.{_≡_, refl, sym, ap, _∙_}
+use mathlib.Core.Path.{_≡_, sym, ap, _∙_}
 use mathlib.Core.List.{List, _++_}
 use Prim.Native.Nat.{ℕ, zero, suc, _+_, _*_, _≤_, _<_}
 use native.Mathlib.Nat.{add-assoc, suc-mul, zero-mul}
@@ -32,9 +32,6 @@ module _ {A : Type 0} (l : List A) (at : ℕ) where
     cat-part f zero h = sym (ap (part l at) (zero-mul size))
     cat-part f (suc n) h =
         part-join (start n) (n * size) size (suc n * size) (starts n) (suc-mul n size) (cat-part f n (λ k b. h k (omega arith))) (h n (omega arith))
-
-    pub chunks : (n : ℕ) → cat (λ k. part l (start k) size) n ≡ part l at (n * size)
-    chunks n = cat-part (λ k. part l (start k) size) n (λ k b. refl)
 
 -- a number read in a part is the number of the whole list
 pub be-part : (l : List ℕ) (at size i w : ℕ) → i + w ≤ size → be (part l at size) i w ≡ be l (at + i) w

@@ -1,16 +1,15 @@
 -- What is written to a list is read back, what is not written stays, and writes side by side are one write. Assumes nothing.
 use mathlib.Core.Path.{_≡_, refl, sym, ap, _∙_}
 use mathlib.Core.List.{List, [], _∷_, _++_, append-assoc}
-use Prim.Native.Nat.{ℕ, suc, _+_, _-_, _%_, _^_, _≤_, _<_}
-use native.Mathlib.Nat.{add-zero, add-suc, add-assoc}
+use Prim.Native.Nat.{ℕ, _+_, _-_, _≤_, _<_}
+use native.Mathlib.Nat.{add-zero, add-assoc}
 use native.Mathlib.Numerals.{add-one}
 use native.Mathlib.Omega.{arith}
 use lib.ListN.{length, getD, take, drop, set, length-append, length-drop, take-append-drop, List·getD-append}
 use lib.Seq.{length-take-le, take-at, drop-at, take-append-le, take-take, drop-append-add, drop-drop}
-use lib.Seq.{getD-take, getD-drop, getD-append-add, set-split, sets, sets-eq}
-use Rattle.rules.specs.Image.{be, bytes}
+use lib.Seq.{getD-take, getD-drop, getD-append-add, set-split}
 use Rattle.fields.specs.Fields.{splice}
-use Rattle.fields.proofs.Holds.{Holds, getD-holds, reads}
+use Rattle.fields.proofs.Holds.{Holds, getD-holds}
 
 module _ {A : Type 0} where
   pub splice-nil : (l : List A) (at : ℕ) → splice l at [] ≡ l
@@ -94,28 +93,3 @@ module _ {A : Type 0} where
   pub splice-join : (l : List A) {l₁ l₂ : List A} (at : ℕ) (x y : List A) (i : ℕ) → at + length x ≤ length l → i ≡ at + length x
       → l₁ ≡ splice l at x → l₂ ≡ splice l₁ i y → l₂ ≡ splice l at (x ++ y)
   splice-join l at x y i h e was is = is ∙ rw (was, e) (splice-splice l at x h y)
-
-  -- ---- the stores of straight-line code
-
-  -- at at + k, at + (k + 1), ..: on a list that is written out this computes to the code's own stores
-  abbrev pub stores : List A → ℕ → ℕ → List A → List A
-  stores l at k [] = l
-  stores l at k (v ∷ vs) = stores (set l (at + k) v) at (suc k) vs
-
-  stores-sets : (vs l : List A) (at k : ℕ) → stores l at k vs ≡ sets l (at + k) vs
-  stores-sets [] l at k = refl
-  stores-sets (v ∷ vs) l at k = stores-sets vs (set l (at + k) v) at (suc k) ∙ ap (λ (n : ℕ). sets (set l (at + k) v) n vs) (add-suc at k)
-
-  -- a store at at, and then the stores at at + 1, at + 2, ..
-  pub stores-splice : (l : List A) (at : ℕ) (v : A) (vs : List A) → at + suc (length vs) ≤ length l
-      → stores (set l at v) at 1 vs ≡ splice l at (v ∷ vs)
-  unfolding splice
-  stores-splice l at v vs h =
-      stores-sets vs (set l at v) at 1
-      ∙ ap (λ (n : ℕ). sets (set l at v) n vs) (add-one at)
-      ∙ sets-eq (v ∷ vs) l at h
-      ∙ append-assoc (take at l) (v ∷ vs) (drop (at + length (v ∷ vs)) l)
-
--- a number that was written is read
-pub be-splice : (l : List ℕ) (at w v : ℕ) → at ≤ length l → be (splice l at (bytes w v)) at w ≡ v % 256 ^ w
-be-splice l at w v h = reads w v (of-splice l at (bytes w v) h)

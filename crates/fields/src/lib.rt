@@ -13,7 +13,7 @@ pub fn wide32(x: u8) -> u32
     x as u32
 }
 
-pub fn wide64(x: u8) -> u64
+fn wide64(x: u8) -> u64
     ensures { λ r. ⌜ (r ≡ x) × (r < 256) ⌝ }
 {
     x as u64
@@ -34,7 +34,8 @@ pub fn be32(s: &[u8], at: usize) -> u32
     be24(s, at) * 256 + wide32(s[at + 3])
 }
 
-pub fn be40(s: &[u8], at: usize) -> u64
+// All of a header but its last byte.
+fn be40(s: &[u8], at: usize) -> u64
     requires { ⌜ at + 5 ≤ length (now s) ⌝ }
     ensures { λ r. ⌜ (r ≡ be (now (s .entry)) at 5) × (r < 2 ^ 40) ⌝ }
 {

@@ -1,12 +1,12 @@
 -- What the whole check answers, part by part.
-use mathlib.Core.Path.{_≡_, ap}
+use mathlib.Core.Path.{_≡_}
 use mathlib.Core.List.{List, _++_}
 use mathlib.Core.Logic.{_≢_}
 use Prim.Native.Nat.{ℕ}
-use Rattle.rules.specs.Refusals.{Ground, First, image-checks}
-use Rattle.rules.proofs.Refusals.{Numbered, first-one, first-goes-on, accepted-sound}
+use Rattle.rules.specs.Refusals.{Ground, First}
+use Rattle.rules.proofs.Refusals.{Numbered, first-goes-on}
 use Rattle.records.specs.Reading.{HasRecords}
-use Rattle.records.proofs.Reading.{has-records}
+use Rattle.records.proofs.Reading.{has-accepted}
 use Rattle.image.specs.declared.Checked.{Checked}
 use Rattle.image.specs.declared.Refusal.{Refusal}
 use Rattle.image.specs.Checks.{Blank, Found, Answers, Judged}
@@ -39,9 +39,5 @@ answers-on row rest m none a = record {
 -- the records of an accepted image are there, to be read by what the check answers
 pub accepted-records : {s : List ℕ} {r : Checked} → Judged s r → r .refusal .number ≡ 0 → HasRecords s (r .levels) (r .n)
 accepted-records {s} a none =
-    let sound = accepted-sound s .0 (rw none at (a .number)) in
-    has-records s (a .accepted none .n) (a .accepted none .levels) (sound .not-count) (sound .not-length)
-
--- The contract of the check settles its answer.
-pub check-settled : (s : List ℕ) (r t : Refusal) → First (image-checks s) (r .number) → First (image-checks s) (t .number) → r ≡ t
-check-settled s r t p q = ap (λ (k : ℕ). record { number = k }) (first-one (image-checks s) (r .number) (t .number) p q)
+    let found = a .accepted none in
+    has-accepted s (rw none at (a .number)) (found .n) (found .levels)

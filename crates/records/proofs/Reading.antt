@@ -1,15 +1,16 @@
--- The records of an image, and their fields read from where a record starts.
-use mathlib.Core.Path.{_≡_, ap, subst, _∙_}
+-- The records of an image: which are there, and how a loop reads a column of them.
+use mathlib.Core.Path.{_≡_, subst, _∙_}
 use mathlib.Core.List.{List}
 use mathlib.Core.Logic.{inl, inr}
-use Prim.Native.Nat.{ℕ, _+_, _*_, _/_, _%_, _≤_, _<_, zero-le}
+use Prim.Native.Nat.{ℕ, _+_, _≤_, _<_, zero-le}
 use native.Mathlib.Decide.{ℕ-discrete}
 use native.Mathlib.Omega.{arith}
 use lib.ListN.{length, getD, set, length-set}
 use lib.Seq.{getD-set-same, getD-set-other}
 use borrow.Author.Count.{below-none, below-more}
-use Rattle.rules.specs.Image.{be, levels, record-bytes, record-at, image-bytes, mask-of, deadline-of, spare-of, average-of, worst-of, profile}
-use Rattle.rules.specs.Refusals.{Count, Length}
+use Rattle.rules.specs.Image.{levels, record-bytes, record-at, image-bytes, profile}
+use Rattle.rules.specs.Refusals.{Count, Length, Accepted}
+use Rattle.rules.proofs.Refusals.{accepted-sound}
 use Rattle.fields.proofs.Strides.{stride-fits}
 use Rattle.records.specs.Reading.{HasRecord, HasRecords, Column}
 use Rattle.records.specs.Faults.{CountOut}
@@ -49,6 +50,12 @@ has-records s e f not-count not-length =
     equal : {a b : ℕ} → ((a ≡ b → ⊥) → ⊥) → a ≡ b
     equal {a} {b} k = elim (ℕ-discrete a b) [ yes e ↦ e | no n ↦ absurd (k n) ]
 
+-- so those of an accepted image are
+pub has-accepted : (s : List ℕ) {n L : ℕ} → Accepted s → n ≡ profile s .n → L ≡ profile s .levels → HasRecords s L n
+has-accepted s a e f =
+    let sound = accepted-sound s .0 a in
+    has-records s e f (sound .not-count) (sound .not-length)
+
 -- an image with its records has each of them
 pub has-record : {s : List ℕ} {L n : ℕ} (a : ℕ) → HasRecords s L n → a < n → HasRecord s L a
 unfolding record-at image-bytes
@@ -58,31 +65,6 @@ has-record {s} {L} {n} a h l = record {
   few-actions = omega (arith, h .few-actions);
   within = omega (arith, stride-fits a n (record-bytes L) l, h .long);
 }
-
--- the fields of action a, whose record starts at i
-module _ (s : List ℕ) (a : ℕ) {L i : ℕ} (said : L ≡ levels s) (starts : i ≡ record-at L a) where
-  start : i ≡ record-at (levels s) a
-  start = starts ∙ ap (λ (l : ℕ). record-at l a) said
-
-  pub mask-read : {v : ℕ} → v ≡ be s i 8 → v ≡ mask-of s a
-  unfolding mask-of
-  mask-read e = e ∙ ap (λ (k : ℕ). be s k 8) start
-
-  pub deadline-read : {v : ℕ} → v ≡ be s (i + 8) 4 → v / 4 ≡ deadline-of s a
-  unfolding deadline-of
-  deadline-read e = ap (λ (v : ℕ). v / 4) e ∙ ap (λ (k : ℕ). be s (k + 8) 4 / 4) start
-
-  pub spare-read : {v : ℕ} → v ≡ be s (i + 8) 4 → v % 4 ≡ spare-of s a
-  unfolding spare-of
-  spare-read e = ap (λ (v : ℕ). v % 4) e ∙ ap (λ (k : ℕ). be s (k + 8) 4 % 4) start
-
-  pub average-read : {v : ℕ} (q : ℕ) → v ≡ be s (i + 12 + 6 * q) 3 → v ≡ average-of s a q
-  unfolding average-of
-  average-read q e = e ∙ ap (λ (k : ℕ). be s (k + 12 + 6 * q) 3) start
-
-  pub worst-read : {v : ℕ} (q : ℕ) → v ≡ be s (i + 15 + 6 * q) 3 → v ≡ worst-of s a q
-  unfolding worst-of
-  worst-read q e = e ∙ ap (λ (k : ℕ). be s (k + 15 + 6 * q) 3) start
 
 -- ---- a loop that fills a column: before it, a turn of it, after it
 

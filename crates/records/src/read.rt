@@ -11,6 +11,7 @@ pub fn header(image: &[u8]) -> Header
     ensures { λ r. ⌜ HeaderOf (now (image .entry)) r ⌝ }
 {
     let bits = fields::be48(image, 0);
+    // The last bits of the version, n, the levels and the cycle are worth 2^44, 2^37, 2^33 and 2^3.
     Header {
         version: (bits / 17_592_186_044_416) as u32,
         n: (bits / 137_438_953_472 % 128) as usize,

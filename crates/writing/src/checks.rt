@@ -11,6 +11,7 @@ ghost use Rattle.writing.specs.Faults.{times, LongTime, RangeFault};
 ghost use Rattle.records.specs.Faults.{LowestFault, RowBreaks};
 ghost use Rattle.pack.specs.Packing.{Roomy};
 ghost use Rattle.writing.specs.Writing.{rooms};
+use records::scan;
 
 // Refusal 17: whether a lent slice is shorter than needed; `room` is the length of the image.
 pub fn tight(
@@ -72,23 +73,17 @@ fn disordered(averages: &[u32], worst: &[u32], levels: usize, a: usize) -> bool
 {
     let row = a * levels;
     // The times at the level before. Level 0 has none, and no time is below 0.
-    let mut least_average = 0;
-    let mut least_worst = 0;
+    let mut average_before = 0;
+    let mut worst_before = 0;
     let mut q = 0;
     while q < levels {
         let average = averages[row + q];
         let longest = worst[row + q];
-        if longest < average {
+        if scan::level_breaks(average, longest, average_before, worst_before) {
             return true;
         }
-        if average < least_average {
-            return true;
-        }
-        if longest < least_worst {
-            return true;
-        }
-        least_average = average;
-        least_worst = longest;
+        average_before = average;
+        worst_before = longest;
         q += 1;
     }
     false

@@ -1,6 +1,5 @@
 use borrow.Author.Needs.{needs}
-use Rattle.rules.specs.Image.{record-bytes}
-use Rattle.records.proofs.Reading.{deadline-read}
+use Rattle.rules.specs.Image.{record-bytes, deadline-of}
 use Rattle.records.proofs.read.deadline_at.Statement.{statement}
 use Rattle.records.proofs.read.deadline_at.Tie as tie
 
@@ -15,7 +14,8 @@ unfolding record-bytes
 be32-requires c κs = search needs
 
 returns : tie.Need-returns
-returns c = deadline-read _ _ (c .before .before .before .pre .said) (c .before .record-at .ensures) (c .be32 .ensures .0)
+unfolding deadline-of
+returns c = rw (c .be32 .ensures .0, c .before .record-at .ensures, c .before .before .before .pre .said)
 
 pub deadline-at-spec : {M : Type 1} → statement M
 deadline-at-spec = tie.close (tie.spec record-at-requires add-be32 be32-requires returns)

@@ -1,6 +1,5 @@
 use borrow.Author.Needs.{needs}
-use Rattle.rules.specs.Image.{record-bytes}
-use Rattle.records.proofs.Reading.{mask-read}
+use Rattle.rules.specs.Image.{record-bytes, mask-of}
 use Rattle.records.proofs.read.mask_at.Statement.{statement}
 use Rattle.records.proofs.read.mask_at.Tie as tie
 
@@ -12,7 +11,8 @@ unfolding record-bytes
 be64-requires c κs = search needs
 
 returns : tie.Need-returns
-returns c = mask-read _ _ (c .before .before .before .pre .said) (c .before .record-at .ensures) (c .be64 .ensures .0)
+unfolding mask-of
+returns c = rw (c .be64 .ensures .0, c .before .record-at .ensures, c .before .before .before .pre .said)
 
 pub mask-at-spec : {M : Type 1} → statement M
 mask-at-spec = tie.close (tie.spec record-at-requires be64-requires returns)

@@ -1,6 +1,5 @@
 use borrow.Author.Needs.{needs}
-use Rattle.rules.specs.Image.{record-bytes}
-use Rattle.records.proofs.Reading.{spare-read}
+use Rattle.rules.specs.Image.{record-bytes, spare-of}
 use Rattle.records.proofs.read.spare_at.Statement.{statement}
 use Rattle.records.proofs.read.spare_at.Tie as tie
 
@@ -15,7 +14,8 @@ unfolding record-bytes
 be32-requires c κs = search needs
 
 returns : tie.Need-returns
-returns c = spare-read _ _ (c .before .before .before .pre .said) (c .before .record-at .ensures) (c .be32 .ensures .0)
+unfolding spare-of
+returns c = rw (c .be32 .ensures .0, c .before .record-at .ensures, c .before .before .before .pre .said)
 
 pub spare-at-spec : {M : Type 1} → statement M
 spare-at-spec = tie.close (tie.spec record-at-requires add-be32 be32-requires returns)

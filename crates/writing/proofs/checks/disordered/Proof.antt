@@ -1,26 +1,26 @@
 -- The loop has the times of the level before q, and has found no level below q that breaks the rule. Assumes nothing.
-use Prim.Native.Nat.{ℕ, _-_, _≤_, _<_}
 use mathlib.Core.Path.{_≡_, refl}
-use mathlib.Core.Logic.{inl, inr, ⊎-elim}
-use native.Mathlib.Numerals.{add-one}
+use mathlib.Core.Bool.{true}
+use mathlib.Core.Logic.{_↔_}
+use denote.Ref.{now}
+use Prim.Native.Nat.{_-_, _≤_}
 use native.Mathlib.Omega.{arith}
 use borrow.Author.Needs.{needs}
 use borrow.Author.Count.{below-none, below-more}
+use Rattle.records.proofs.Faults.{said-yes, said-no, denied, Faultless, before, before-next, Breaks, level-row, row-level, level-says}
 use Rattle.writing.specs.Faults.{times}
-use Rattle.writing.proofs.Answers.{said-yes, said-no}
-use Rattle.writing.proofs.Levels.{prior, DisorderedAt, disordered-at, ordered}
 use Rattle.writing.proofs.checks.disordered.Statement.{statement}
 use Rattle.writing.proofs.checks.disordered.Tie as tie
 
 abbrev Inv-loop : tie.InvT-loop
-Inv-loop averages worst levels a row least-average₀ least-worst₀ q₀ least-average least-worst q =
+Inv-loop averages worst levels a row average-before₀ worst-before₀ q₀ average-before worst-before q =
     (q ≤ levels)
-    × (least-average ≡ prior (times levels averages a) q)
-    × (least-worst ≡ prior (times levels worst a) q)
-    × ((k : ℕ) → k < q → DisorderedAt (times levels averages a) (times levels worst a) k → ⊥)
+    × (average-before ≡ before (times levels averages a) q)
+    × (worst-before ≡ before (times levels worst a) q)
+    × Faultless (Breaks (times levels averages a) (times levels worst a)) q
 
 abbrev μ-loop : tie.MeasureT-loop
-μ-loop averages worst levels a row least-average₀ least-worst₀ q₀ least-average least-worst q = levels - q
+μ-loop averages worst levels a row average-before₀ worst-before₀ q₀ average-before worst-before q = levels - q
 
 mul-row : tie.Need-mul-row Inv-loop μ-loop
 mul-row c = search needs
@@ -46,20 +46,19 @@ mul-longest c = search needs
 shared-slice-read-longest : tie.Need-shared-slice-read-longest Inv-loop μ-loop
 shared-slice-read-longest c = search needs
 
+level-breaks-requires : tie.Need-level-breaks-requires Inv-loop μ-loop
+level-breaks-requires c κs = search needs
+
+-- the test of a level, by what the tables say
+says : (c : tie.After-level-breaks Inv-loop μ-loop)
+    → let t = c .before .before .before .before in
+    let x = t .before .before .before .args in
+    (c .level-breaks .result ≡ true)
+    ↔ Breaks (times (x .levels) (now (x .averages)) (x .a)) (times (x .levels) (now (x .worst)) (x .a)) (t .loop .q)
+says c = let t = c .before .before .before .before .loop in level-says _ _ (t .q) refl refl (t .inv .1) (t .inv .2) (c .level-breaks .ensures)
+
 returns : tie.Need-returns Inv-loop μ-loop
-returns c =
-    let p = c .before .before .before in
-    said-yes (disordered-at _ _ _ (p .before .loop .q) (p .loop-test .taken) (inl (c .if1 .taken)))
-
-returns-2 : tie.Need-returns-2 Inv-loop μ-loop
-returns-2 c =
-    let p = c .before .before .before .before in
-    said-yes (disordered-at _ _ _ (p .before .loop .q) (p .loop-test .taken) (inr (inl (rw (p .before .loop .inv .1) at (c .if2 .taken)))))
-
-returns-3 : tie.Need-returns-3 Inv-loop μ-loop
-returns-3 c =
-    let p = c .before .before .before .before .before in
-    said-yes (disordered-at _ _ _ (p .before .loop .q) (p .loop-test .taken) (inr (inr (rw (p .before .loop .inv .2) at (c .if3 .taken)))))
+returns c = said-yes (level-row _ _ _ _ (omega arith) (says (c .before) .0 (c .if1 .taken)))
 
 add-q : tie.Need-add-q Inv-loop μ-loop
 add-q c = search needs
@@ -69,15 +68,16 @@ loop-less c = search needs
 
 loop-again : tie.Need-loop-again Inv-loop μ-loop
 loop-again c =
-    let t = c .before .before .before .before .before .before .loop in (
+    let t = c .before .before .before .before .before in
+    let x = t .before .before .before .args in (
       search needs,
-      rw add-one,
-      rw add-one,
-      below-more _ _ (t .inv .3) (⊎-elim (λ h. omega arith) (⊎-elim (λ h. omega (arith, t .inv .1)) (λ h. omega (arith, t .inv .2)))),
+      before-next (times (x .levels) (now (x .averages)) (x .a)) (t .loop .q) refl,
+      before-next (times (x .levels) (now (x .worst)) (x .a)) (t .loop .q) refl,
+      below-more _ _ (t .loop .inv .3) (denied (says (c .before)) (c .if1 .left)),
     )
 
-returns-4 : tie.Need-returns-4 Inv-loop μ-loop
-returns-4 c = said-no (ordered _ _ _ (λ q h. c .before .loop .inv .3 q (omega arith)))
+returns-2 : tie.Need-returns-2 Inv-loop μ-loop
+returns-2 c = said-no (row-level _ _ _ (λ q l. c .before .loop .inv .3 q (omega arith)))
 
 pub disordered-spec : {M : Type 1} → statement M
 disordered-spec =
@@ -93,10 +93,9 @@ disordered-spec =
     add-longest
     mul-longest
     shared-slice-read-longest
+    level-breaks-requires
     returns
-    returns-2
-    returns-3
     add-q
     loop-less
     loop-again
-    returns-4)
+    returns-2)
