@@ -1,12 +1,9 @@
 // The public calls on a profile image: check, read, look an action up, write.
 use image::Refusal;
 ghost use mathlib.Core.Path.{_≡_};
-ghost use mathlib.Core.Bool.{true};
-ghost use mathlib.Core.Logic.{_↔_};
-ghost use Prim.Native.Nat.{_≤_};
-ghost use Rattle.rules.specs.Refusals.{First, Tight, image-checks, lookup-call};
+ghost use Rattle.rules.specs.Refusals.{First, image-checks, lookup-call};
 ghost use Rattle.writing.specs.Writing.{Writes};
-ghost use Rattle.profile.specs.Calls.{rooms, Blank, Reads, Places, LooksUp};
+ghost use Rattle.profile.specs.Calls.{Blank, Reads, Places, LooksUp};
 
 // The answer of reading: the refusal, and without one the counts and the cycle of the profile, else 0.
 #[repr(C)]
@@ -37,31 +34,6 @@ pub fn check(image: &[u8]) -> Refusal
     ensures { λ r. ⌜ First (image-checks (now (image .entry))) (r .number) ⌝ }
 {
     image::check(image)
-}
-
-// 17, of reading: a lent slice is shorter than the tables of n actions at so many levels.
-fn tight(
-    n: usize,
-    levels: usize,
-    masks: &[u64],
-    deadlines: &[u32],
-    averages: &[u32],
-    worst: &[u32],
-) -> bool
-    requires { ⌜ (n ≤ 64) × (levels ≤ 8) ⌝ }
-    ensures { λ r. ⌜ (r ≡ true) ↔ Tight (rooms n levels (now (masks .entry)) (now (deadlines .entry)) (now (averages .entry)) (now (worst .entry))) ⌝ }
-{
-    let entries = n * levels;
-    if masks.len() < n {
-        return true;
-    }
-    if deadlines.len() < n {
-        return true;
-    }
-    if averages.len() < entries {
-        return true;
-    }
-    worst.len() < entries
 }
 
 // What a refused reading answers.
@@ -95,7 +67,7 @@ pub fn read(
     if refusal.number != 0 {
         return refused(refusal);
     }
-    if tight(n, levels, masks, deadlines, averages, worst) {
+    if writing::checks::tight(n, levels, masks, deadlines, averages, worst) {
         return refused(Refusal { number: 17 });
     }
     unpack::unpack(image, n, levels, masks, deadlines, averages, worst);

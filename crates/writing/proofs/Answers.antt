@@ -1,10 +1,12 @@
 -- What a yes or a no says. Assumes nothing.
 use mathlib.Core.Path.{_≡_, refl}
 use mathlib.Core.Bool.{Bool, true, false, false≢true}
-use mathlib.Core.Logic.{_⊎_, inl, inr, _↔_}
+use mathlib.Core.List.{List, [], _∷_, _++_}
+use mathlib.Core.Logic.{_⊎_, inl, inr, ⊎-elim, ⊎-map, _↔_}
 use Prim.Native.Nat.{ℕ, _<_}
 use lib.Dec.{ltb}
 use borrow.Author.Tests.{ltb-true, lt-ltb}
+use Rattle.rules.specs.Refusals.{Tight}
 use Rattle.rules.proofs.Tests.{not-both}
 
 pub said-yes : {P : Type 0} → P → (true ≡ true) ↔ P
@@ -33,3 +35,10 @@ or-nothing {P} {b} says = ((λ e. inl (says .0 e)), back)
     back : P ⊎ ⊥ → b ≡ true
     back (inl p) = says .1 p
     back (inr q) = absurd q
+
+-- one slice more
+pub tight-and : (rooms : List (ℕ × ℕ)) (last : ℕ × ℕ) → (Tight rooms ⊎ (last .0 < last .1)) ↔ Tight (rooms ++ (last ∷ []))
+tight-and [] last = (⊎-elim absurd inl, ⊎-elim inr absurd)
+tight-and (room ∷ rest) last =
+    let more = tight-and rest last in
+    (⊎-elim (⊎-elim inl (λ t. inr (more .0 (inl t)))) (λ l. inr (more .0 (inr l))), ⊎-elim (λ l. inl (inl l)) (λ t. ⊎-map inr (λ l. l) (more .1 t)))

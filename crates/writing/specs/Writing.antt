@@ -7,6 +7,11 @@ use Rattle.rules.specs.Image.{image-bytes, of-tables, image}
 use Rattle.rules.specs.Refusals.{Ground, First, kept, write-call}
 use Rattle.fields.specs.Fields.{splice}
 
+-- The lengths of the lent tables, each with what n actions at L levels need of it.
+abbrev pub table-rooms : ℕ → ℕ → List ℕ → List ℕ → List ℕ → List ℕ → List (ℕ × ℕ)
+table-rooms n L masks deadlines averages worst =
+    (length masks, n) ∷ (length deadlines, n) ∷ (length averages, n * L) ∷ (length worst, n * L) ∷ []
+
 -- The lengths of the lent slices, each with what is needed of it; `room` is the length of the image.
 abbrev pub rooms : ℕ → ℕ → List ℕ → List ℕ → List ℕ → List ℕ → ℕ → List (ℕ × ℕ)
 rooms n L masks deadlines averages worst room =

@@ -10,10 +10,10 @@ ghost use Rattle.rules.specs.Refusals.{Tight};
 ghost use Rattle.writing.specs.Faults.{times, LongTime, RangeFault};
 ghost use Rattle.records.specs.Faults.{LowestFault, RowBreaks};
 ghost use Rattle.pack.specs.Packing.{Roomy};
-ghost use Rattle.writing.specs.Writing.{rooms};
+ghost use Rattle.writing.specs.Writing.{table-rooms};
 use records::scan;
 
-// Refusal 17: whether a lent slice is shorter than needed; `room` is the length of the image.
+// Refusal 17, of the tables: whether one is shorter than n actions at so many levels need.
 pub fn tight(
     n: usize,
     levels: usize,
@@ -21,25 +21,22 @@ pub fn tight(
     deadlines: &[u32],
     averages: &[u32],
     worst: &[u32],
-    room: usize,
 ) -> bool
     requires { ⌜ (n ≤ 64) × (levels ≤ 8) ⌝ }
     ensures { λ r. ⌜ (r ≡ true)
-        ↔ Tight (rooms n levels (now (masks .entry)) (now (deadlines .entry)) (now (averages .entry)) (now (worst .entry)) room) ⌝ }
+        ↔ Tight (table-rooms n levels (now (masks .entry)) (now (deadlines .entry)) (now (averages .entry)) (now (worst .entry))) ⌝ }
 {
+    let entries = n * levels;
     if masks.len() < n {
         return true;
     }
     if deadlines.len() < n {
         return true;
     }
-    if averages.len() < n * levels {
+    if averages.len() < entries {
         return true;
     }
-    if worst.len() < n * levels {
-        return true;
-    }
-    room < pack::image_bytes(n, levels)
+    worst.len() < entries
 }
 
 // Whether a time of action a is above the longest. Where its times are in order (7 is not given for it), the longest is the worst one at the

@@ -22,7 +22,10 @@ pub fn refusal(
     if records::scan::count_out(n, levels, cycle) {
         return 3;
     }
-    if checks::tight(n, levels, masks, deadlines, averages, worst, room) {
+    if checks::tight(n, levels, masks, deadlines, averages, worst) {
+        return 17;
+    }
+    if room < pack::image_bytes(n, levels) {
         return 17;
     }
     // The lowest action at fault for 7 and for 6, n for none. 6 is given first, but where no row breaks the rule of 7 it is the sooner told.
