@@ -108,10 +108,6 @@ module _ (S : Tables) (i k q : ℕ) (few : k < 64) (times : Times S k q) where
 -- ---- the reading
 
 module _ (S : Tables) (i k q : ℕ) (s : Stretch) (of : Of S i k q s) (some : i ≤ k) where
-  pub mixed-is : s .average + s .margin ≡ Limits.mixed S i k q
-  unfolding Limits.mixed
-  mixed-is = ap₂ (λ (a m : ℕ). a + m) (of .average) (of .margin some)
-
   pub reading-is : (t : ℕ) → reading-by (s .average) (pos (S .deadline k) -ℤ pos (s .margin) -ℤ pos t) ≡ reading S i k q t
   unfolding reading room
   reading-is t = ap₂ (λ (a m : ℕ). reading-by a (pos (S .deadline k) -ℤ pos m -ℤ pos t)) (of .average) (of .margin some)
