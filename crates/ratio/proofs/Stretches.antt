@@ -1,4 +1,4 @@
--- A stretch worked from its last position back: one position more in front, how large it is, and what the reading makes of it. Assumes
+-- A stretch worked from its last position back: from none, one position more in front, how large it is, and what the reading makes of it. Assumes
 -- nothing.
 use Prim.Native.Nat.{ℕ, zero, suc, _+_, _-_, _*_, _≤_, _<_, max}
 use mathlib.Core.Path.{_≡_, ap, ap₂, sym, _∙_}
@@ -11,10 +11,14 @@ use Rattle.rules.specs.Limits as Limits
 use Rattle.rules.specs.Limits.{Tables, safe}
 use Rattle.rules.specs.Speed.{room, reading-by, reading}
 use Rattle.rules.proofs.Sums.{sum-longer}
-use Rattle.ratio.specs.Stretch.{Of, Small}
+use Rattle.ratio.specs.Stretch.{Of, Nothing, Small}
 use Rattle.ratio.specs.declared.Stretch.{Stretch}
 
--- ---- one position more, in front
+-- ---- no position, and one more in front
+
+-- none, in front of whichever
+pub from-nothing : {S : Tables} {j k q : ℕ} {s : Stretch} → Nothing s → j ≡ suc k → Of S j k q s
+from-nothing none e = rw e (none _ _ _)
 
 greatest-front : (f : ℕ → ℕ) (i m : ℕ) → greatest-of f i (suc m) ≡ max (f i) (greatest-of f (suc i) m)
 unfolding greatest-of
