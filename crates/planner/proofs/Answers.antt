@@ -1,7 +1,7 @@
 -- What planning answers: refused, and not. Assumes nothing.
 use Prim.Native.Nat.{ℕ, _*_, _≤_, _<_}
 use mathlib.Core.Path.{_≡_, refl}
-use mathlib.Core.List.{List, [], _∷_, _++_}
+use mathlib.Core.List.{List, [], _∷_}
 use mathlib.Core.Logic.{inl, inr, _≢_}
 use native.Mathlib.Omega.{arith}
 use borrow.Author.Tests.{ne-eqb}
@@ -9,13 +9,13 @@ use lib.IntN.{ℤ}
 use lib.ListN.{length}
 use Rattle.rules.specs.Image.{profile}
 use Rattle.rules.specs.Order.{Order}
-use Rattle.rules.specs.Refusals.{Ground, _when_, First, Tight, kept, image-checks}
-use Rattle.rules.proofs.Refusals.{first-stops, first-goes-on, image-numbered}
-use Rattle.image.specs.declared.Refusal.{Refusal}
+use Rattle.rules.specs.Refusals.{Ground, _when_, First, Tight, Accepted, kept, image-checks}
+use Rattle.rules.proofs.Refusals.{first-stops, first-goes-on, first-parts, image-numbered}
 use Rattle.image.specs.declared.Checked.{Checked}
 use Rattle.image.specs.Checks.{Judged}
 use Rattle.planner.specs.declared.Planned.{Planned}
-use Rattle.planner.specs.Planning.{rooms, Plans, Given, SomeGiven, Written}
+use Rattle.tables.specs.Filling.{Given, SomeGiven, Written}
+use Rattle.planner.specs.Planning.{rooms, Plans, Admits}
 
 -- ---- what is kept
 
@@ -30,6 +30,10 @@ pub by-number : (n : ℕ) → Order n
 by-number n = record { at = λ k. k; pos = λ a. a; at-lt = λ k l. l; pos-lt = λ a l. l; pos-at = λ k l. refl; at-pos = λ a l. refl }
 
 -- ---- room
+
+-- 17, after 1 to 9
+abbrev room-check : List ℕ → List ℕ → List ℤ → List ℕ → List ℤ → List Ground
+room-check s order limits worst bounds = 17 when Tight (rooms (profile s .n) (profile s .levels) order limits worst bounds) ∷ []
 
 module _ (n L : ℕ) (order : List ℕ) (limits : List ℤ) (worst : List ℕ) (bounds : List ℤ) where
   pub record Roomy : Type 0 where
@@ -50,73 +54,72 @@ module _ (n L : ℕ) (order : List ℕ) (limits : List ℤ) (worst : List ℕ) (
       not-out : {x y : ℕ} → (y < x → ⊥) → x ≤ y
       not-out n = omega arith
 
--- ---- by what the check answers
+-- ---- by what the check of the image answers: refused with 1 to 9, or judged for 17
 
-module _ {s : List ℕ} {r : Checked} (a : Judged s r) where
-  -- without a refusal it gives an order
-  given : (none : r .refusal .number ≡ 0) → Given s (r .n) (r .levels) (r .cycle) (r .order) (a .accepted none .order .0)
-  given none =
+module _ {s : List ℕ} {r : Checked} (a : Judged s r) (order : List ℕ) (limits : List ℤ) (worst : List ℕ) (bounds : List ℤ) where
+  pub image-refused : r .refusal .number ≢ 0 → Admits s order limits worst bounds r
+  image-refused some = record {
+    number = first-stops (image-checks s) (room-check s order limits worst bounds) (r .refusal .number) (a .number) some;
+    found = λ none. absurd (some none);
+  }
+
+  pub room-judged : {k : ℕ} → r .refusal .number ≡ 0 → First (17 when Tight (rooms (r .n) (r .levels) order limits worst bounds) ∷ []) k
+      → Admits s order limits worst bounds (record { refusal = record { number = k }; n = r .n; levels = r .levels; cycle = r .cycle; order = r .order })
+  room-judged {k} none p =
       let found = a .accepted none in
       record {
-        accepted = rw none at (a .number);
-        n-is = found .n;
-        levels-are = found .levels;
-        cycle-is = found .cycle;
-        lists = found .order .2;
+        number = first-goes-on (image-checks s) (room-check s order limits worst bounds) k (image-numbered s) (rw none at (a .number))
+            (rw (found .n, found .levels) at p);
+        found = λ _. record { n = found .n; levels = found .levels; cycle = found .cycle; order = found .order };
       }
 
-  pub some-given : r .refusal .number ≡ 0 → SomeGiven s (r .n) (r .levels) (r .cycle) (r .order)
-  some-given none = (a .accepted none .order .0, given none)
+-- ---- by what both checks answer
 
-  module _ (order : List ℕ) (limits : List ℤ) (worst : List ℕ) (bounds : List ℤ) where
-    -- 17, by the check's numbers and by the profile's
-    abbrev room-check : List Ground
-    room-check = 17 when Tight (rooms (r .n) (r .levels) order limits worst bounds) ∷ []
+module _ {s order : List ℕ} {limits : List ℤ} {worst : List ℕ} {bounds : List ℤ} {r : Checked} (a : Admits s order limits worst bounds r) where
+  pub refused-plans : {p : Planned} → r .refusal .number ≢ 0 → p ≡ record { refusal = r .refusal; n = 0; levels = 0; cycle = 0 }
+      → Plans s order limits worst bounds order limits worst bounds p
+  refused-plans some e = rw e (record {
+    number = a .number;
+    n = kept-old _ _ _ some;
+    levels = kept-old _ _ _ some;
+    cycle = kept-old _ _ _ some;
+    o = by-number (profile s .n);
+    the-order = λ none. absurd (some none);
+    order-is = kept-old _ _ _ some;
+    limits-are = kept-old _ _ _ some;
+    worst-is = kept-old _ _ _ some;
+    bounds-are = kept-old _ _ _ some;
+  })
 
-    abbrev room-check′ : List Ground
-    room-check′ = 17 when Tight (rooms (profile s .n) (profile s .levels) order limits worst bounds) ∷ []
+  module _ (none : r .refusal .number ≡ 0) where
+    -- the image is accepted, and 17 is not given
+    parts : Accepted s × First (room-check s order limits worst bounds) 0
+    parts = elim (first-parts (image-checks s) (room-check s order limits worst bounds) 0 (image-numbered s) (rw none at (a .number))) [
+      | inl x ↦ absurd (x .1 refl)
+      | inr x ↦ x
+    ]
 
-    -- after 1 to 9
-    then-room : r .refusal .number ≡ 0 → {k : ℕ} → First room-check k → First (image-checks s ++ room-check′) k
-    then-room none {k} p =
-        let found = a .accepted none in
-        first-goes-on (image-checks s) room-check′ k (image-numbered s) (rw none at (a .number)) (rw (found .n, found .levels) at p)
+    given : Given s (r .n) (r .levels) (r .cycle) (r .order) (a .found none .order .0)
+    given =
+        let found = a .found none in
+        record { accepted = parts .0; n-is = found .n; levels-are = found .levels; cycle-is = found .cycle; lists = found .order .2 }
 
-    refused-plans : {p : Planned} (f : Refusal) → First (image-checks s ++ room-check′) (f .number) → f .number ≢ 0
-        → p ≡ record { refusal = f; n = 0; levels = 0; cycle = 0 } → Plans s order limits worst bounds order limits worst bounds p
-    refused-plans f given some e = rw e (record {
-      number = given;
-      n = kept-old _ _ _ some;
-      levels = kept-old _ _ _ some;
-      cycle = kept-old _ _ _ some;
-      o = by-number (profile s .n);
-      the-order = λ none. absurd (some none);
-      order-is = kept-old _ _ _ some;
-      limits-are = kept-old _ _ _ some;
-      worst-is = kept-old _ _ _ some;
-      bounds-are = kept-old _ _ _ some;
-    })
+    pub some-given : SomeGiven s (r .n) (r .levels) (r .cycle) (r .order)
+    some-given = (a .found none .order .0, given)
 
-    -- ---- the answers: refused with 1 to 9, refused with 17, and planned
+    pub has-room : Roomy (r .n) (r .levels) order limits worst bounds
+    has-room = let found = a .found none in rw (found .n, found .levels) (roomy _ _ order limits worst bounds (parts .1))
 
-    pub image-refused : {p : Planned} → r .refusal .number ≢ 0 → p ≡ record { refusal = r .refusal; n = 0; levels = 0; cycle = 0 }
-        → Plans s order limits worst bounds order limits worst bounds p
-    image-refused some e = refused-plans (r .refusal) (first-stops (image-checks s) room-check′ (r .refusal .number) (a .number) some) some e
-
-    pub room-refused : {p : Planned} {k : ℕ} → r .refusal .number ≡ 0 → First room-check k → k ≢ 0
-        → p ≡ record { refusal = record { number = k }; n = 0; levels = 0; cycle = 0 } → Plans s order limits worst bounds order limits worst bounds p
-    room-refused {k = k} none given some e = refused-plans (record { number = k }) (then-room none given) some e
-
-    pub all-written : {order′ : List ℕ} {limits′ : List ℤ} {worst′ : List ℕ} {bounds′ : List ℤ} → r .refusal .number ≡ 0 → First room-check 0
+    pub all-written : {order′ : List ℕ} {limits′ : List ℤ} {worst′ : List ℕ} {bounds′ : List ℤ}
         → ((o : Order (profile s .n)) → Given s (r .n) (r .levels) (r .cycle) (r .order) o
         → Written s order limits worst bounds order′ limits′ worst′ bounds′ o)
         → Plans s order limits worst bounds order′ limits′ worst′ bounds′
         (record { refusal = r .refusal; n = r .n; levels = r .levels; cycle = r .cycle })
-    all-written none room written =
-        let found = a .accepted none in
-        let w = written (found .order .0) (given none) in
+    all-written written =
+        let found = a .found none in
+        let w = written (found .order .0) given in
         record {
-          number = rw none (then-room none room);
+          number = a .number;
           n = kept-new _ _ _ none (found .n);
           levels = kept-new _ _ _ none (found .levels);
           cycle = kept-new _ _ _ none (found .cycle);

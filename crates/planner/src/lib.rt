@@ -1,16 +1,12 @@
 // Planning: the order, the limits, the worst times by position and the coast bounds of an image, written to lent tables.
+use image::Checked;
 use image::Refusal;
 use image::whole;
-use records::read;
 ghost use mathlib.Core.Path.{_≡_};
 ghost use mathlib.Core.List.{[], _∷_};
-ghost use Prim.Native.Nat.{_*_, _≤_};
-ghost use lib.ListN.{length};
-ghost use Rattle.rules.specs.Image.{due, profile};
-ghost use Rattle.rules.specs.Order.{Order};
+ghost use Prim.Native.Nat.{_≤_};
 ghost use Rattle.rules.specs.Refusals.{_when_, First, Tight};
-ghost use Rattle.records.specs.Reading.{HasRecord};
-ghost use Rattle.planner.specs.Planning.{rooms, Plans, Given, SomeGiven, CanWork, Works, Filled, Written};
+ghost use Rattle.planner.specs.Planning.{rooms, Plans, Admits};
 
 // The answer of planning: with a refusal all else is 0; without one what the header says.
 #[repr(C)]
@@ -50,115 +46,19 @@ fn tight(
     0
 }
 
-// An action's deadline as it counts: 0 stands for the cycle.
-fn due_at(image: &[u8], levels: usize, a: usize, cycle: u32) -> u32
-    requires { ⌜ HasRecord (now image) levels a × (cycle ≡ profile (now image) .cycle) ⌝ }
-    ensures { λ r. ⌜ r ≡ due (profile (now (image .entry))) a ⌝ }
+// What the check of the image answers, with 17 after 1 to 9.
+fn with_room(image: &[u8], order: &[u8], limits: &[i32], worst: &[u32], bounds: &[i32]) -> Checked
+    ensures { λ r. ⌜ Admits (now (image .entry)) (now (order .entry)) (now (limits .entry)) (now (worst .entry)) (now (bounds .entry)) r ⌝ }
 {
-    let deadline = read::deadline_at(image, levels, a);
-    if deadline == 0 { cycle } else { deadline }
-}
-
-// ---- the tables
-
-// The row of limits at the position from entry `from` on, for action a, from the row after it; the finished row goes to the lent table, and
-// so do the worst times and the coast bounds.
-fn work_row(
-    image: &[u8],
-    levels: usize,
-    a: usize,
-    due: u32,
-    next: [i32; 8],
-    from: usize,
-    entries: usize,
-    limits: &mut [i32],
-    worst: &mut [u32],
-    bounds: &mut [i32],
-) -> [i32; 8]
-    requires { ⌜ CanWork (now image) levels a due next from entries (now limits) (now worst) (now bounds) ⌝ }
-    ensures { λ r. ⌜ Works (now (image .entry)) levels a due next from entries (now (limits .entry)) (now (worst .entry)) (now (bounds .entry))
-        (now (limits .exit)) (now (worst .exit)) (now (bounds .exit)) r ⌝ }
-{
-    let mut here = [0i32; 8];
-    let mut q = 0;
-    while q < levels {
-        let average = read::average_at(image, levels, a, q);
-        let longest = read::worst_at(image, levels, a, q);
-        let limit = rows::limit_of(due, next[0], next[q], longest, average);
-        here[q] = limit;
-        limits[from + q] = limit;
-        worst[from + q] = longest;
-        rows::bounds_of(limit, longest, from + q, levels, entries, bounds);
-        q += 1;
+    let mut checked = whole::checked(image);
+    if checked.refusal.number != 0 {
+        return checked;
     }
-    here
+    let number = tight(checked.n, checked.levels, order, limits, worst, bounds);
+    let refusal = Refusal { number };
+    checked.refusal = refusal;
+    checked
 }
-
-// The limits, the worst times and the coast bounds, from the last position back: the row at a position takes the place of the row after it.
-fn work(
-    image: &[u8],
-    n: usize,
-    levels: usize,
-    cycle: u32,
-    actions: &[u8; 64],
-    limits: &mut [i32],
-    worst: &mut [u32],
-    bounds: &mut [i32],
-)
-    requires { ⌜ SomeGiven (now image) n levels cycle (now actions) ⌝ }
-    requires { ⌜ (n * levels ≤ length (now limits)) × (n * levels ≤ length (now worst)) × (n * levels * 16 ≤ length (now bounds)) ⌝ }
-    ensures { λ r. ⌜ ((o : Order (profile (now (image .entry)) .n)) → Given (now (image .entry)) n levels cycle (now (actions .entry)) o
-        → Filled (now (image .entry)) n levels (now (limits .entry)) (now (worst .entry)) (now (bounds .entry))
-        (now (limits .exit)) (now (worst .exit)) (now (bounds .exit)) o) ⌝ }
-{
-    let entries = n * levels;
-    let mut next = rows::after_last();
-    let mut i = n;
-    while 0 < i {
-        i -= 1;
-        let a = actions[i] as usize;
-        let from = i * levels;
-        let due = due_at(image, levels, a, cycle);
-        let here = work_row(
-            image,
-            levels,
-            a,
-            due,
-            next,
-            from,
-            entries,
-            limits,
-            worst,
-            bounds,
-        );
-        next = here;
-    }
-}
-
-// All four.
-fn fill(
-    image: &[u8],
-    n: usize,
-    levels: usize,
-    cycle: u32,
-    actions: &[u8; 64],
-    order: &mut [u8],
-    limits: &mut [i32],
-    worst: &mut [u32],
-    bounds: &mut [i32],
-)
-    requires { ⌜ SomeGiven (now image) n levels cycle (now actions) ⌝ }
-    requires { ⌜ (n ≤ length (now order)) × (n * levels ≤ length (now limits)) ⌝ }
-    requires { ⌜ (n * levels ≤ length (now worst)) × (n * levels * 16 ≤ length (now bounds)) ⌝ }
-    ensures { λ r. ⌜ ((o : Order (profile (now (image .entry)) .n)) → Given (now (image .entry)) n levels cycle (now (actions .entry)) o
-        → Written (now (image .entry)) (now (order .entry)) (now (limits .entry)) (now (worst .entry)) (now (bounds .entry))
-        (now (order .exit)) (now (limits .exit)) (now (worst .exit)) (now (bounds .exit)) o) ⌝ }
-{
-    fields::copy_front(actions, n, order);
-    work(image, n, levels, cycle, actions, limits, worst, bounds);
-}
-
-// ---- the call
 
 // What a refused call answers.
 fn refused(refusal: Refusal) -> Planned
@@ -183,7 +83,7 @@ pub fn plan(
     ensures { λ r. ⌜ Plans (now (image .entry)) (now (order .entry)) (now (limits .entry)) (now (worst .entry)) (now (bounds .entry))
         (now (order .exit)) (now (limits .exit)) (now (worst .exit)) (now (bounds .exit)) r ⌝ }
 {
-    let checked = whole::checked(image);
+    let checked = with_room(image, order, limits, worst, bounds);
     let refusal = checked.refusal;
     if refusal.number != 0 {
         return refused(refusal);
@@ -191,12 +91,8 @@ pub fn plan(
     let n = checked.n;
     let levels = checked.levels;
     let cycle = checked.cycle;
-    let number = tight(n, levels, order, limits, worst, bounds);
-    if number != 0 {
-        return refused(Refusal { number });
-    }
     let actions = checked.order;
-    fill(
+    tables::fill(
         image,
         n,
         levels,

@@ -1,4 +1,4 @@
--- A stretch worked from its last position back: one position more in front, how large it is, and what the reading makes of it. Assumes
+-- A stretch worked from its last position back: from none, one position more in front, how large it is, and what the reading makes of it. Assumes
 -- nothing.
 use Prim.Native.Nat.{ℕ, zero, suc, _+_, _-_, _*_, _≤_, _<_, max}
 use mathlib.Core.Path.{_≡_, ap, ap₂, sym, _∙_}
@@ -11,10 +11,14 @@ use Rattle.rules.specs.Limits as Limits
 use Rattle.rules.specs.Limits.{Tables, safe}
 use Rattle.rules.specs.Speed.{room, reading-by, reading}
 use Rattle.rules.proofs.Sums.{sum-longer}
-use Rattle.ratio.specs.Stretch.{Of, Small}
+use Rattle.ratio.specs.Stretch.{Of, Nothing, Small}
 use Rattle.ratio.specs.declared.Stretch.{Stretch}
 
--- ---- one position more, in front
+-- ---- no position, and one more in front
+
+-- none, in front of whichever
+pub from-nothing : {S : Tables} {j k q : ℕ} {s : Stretch} → Nothing s → j ≡ suc k → Of S j k q s
+from-nothing none e = rw e (none _ _ _)
 
 greatest-front : (f : ℕ → ℕ) (i m : ℕ) → greatest-of f i (suc m) ≡ max (f i) (greatest-of f (suc i) m)
 unfolding greatest-of
@@ -108,10 +112,6 @@ module _ (S : Tables) (i k q : ℕ) (few : k < 64) (times : Times S k q) where
 -- ---- the reading
 
 module _ (S : Tables) (i k q : ℕ) (s : Stretch) (of : Of S i k q s) (some : i ≤ k) where
-  pub mixed-is : s .average + s .margin ≡ Limits.mixed S i k q
-  unfolding Limits.mixed
-  mixed-is = ap₂ (λ (a m : ℕ). a + m) (of .average) (of .margin some)
-
   pub reading-is : (t : ℕ) → reading-by (s .average) (pos (S .deadline k) -ℤ pos (s .margin) -ℤ pos t) ≡ reading S i k q t
   unfolding reading room
   reading-is t = ap₂ (λ (a m : ℕ). reading-by a (pos (S .deadline k) -ℤ pos m -ℤ pos t)) (of .average) (of .margin some)

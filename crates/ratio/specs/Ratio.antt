@@ -5,14 +5,10 @@ use Rattle.rules.specs.Speed.{ratio, spent}
 use Rattle.ratio.specs.declared.Reading.{Reading}
 use Rattle.ratio.specs.declared.Reading.the-variants.{Ratio, Spent, Refused}
 
--- Number 0 with a reading, or the number of a refusal.
+-- a reading, or the number of a refusal
 pub data Answer : Type 0 where
   gives : Speed.Reading → Answer
   refuses : ℕ → Answer
-
-abbrev pub number-of : Answer → ℕ
-number-of (gives x) = 0
-number-of (refuses k) = k
 
 abbrev pub reading-of : Reading → Answer
 reading-of (Ratio x) = gives (ratio x)

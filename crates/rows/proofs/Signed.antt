@@ -1,4 +1,4 @@
--- The lesser of two numbers and a difference: how large they can be, and which of the two is the lesser. Assumes nothing.
+-- The lesser of two numbers and a difference: how large they can be, and where the first is the lesser. Assumes nothing.
 use Prim.Native.Nat.{ℕ, zero, suc, _+_, _-_, _≤_, _<_}
 use mathlib.Core.Path.{_≡_}
 use mathlib.Core.Bool.{Bool, true, false, cond}
@@ -38,14 +38,3 @@ as-is z h = toZ-ofZ (record { sfits = h })
 
 pub lesser-left : (a b : ℤ) → ((t c : ℕ) → AtMost t c a → AtMost t c b) → minZ a b ≡ a
 lesser-left a b h = settled (minZ a b) a (λ t c. ((λ m. at-most-min t c a b .0 m .0), (λ m. at-most-min t c a b .1 (m, h t c m))))
-
-pub lesser-right : (a b : ℤ) → ((t c : ℕ) → AtMost t c b → AtMost t c a) → minZ a b ≡ b
-lesser-right a b h = settled (minZ a b) b (λ t c. ((λ m. at-most-min t c a b .0 m .1), (λ m. at-most-min t c a b .1 (h t c m, m))))
-
--- nothing in range is above the greatest number
-pub lesser-top : (m : ℕ) (z : ℤ) → mag z ≤ m → minZ (pos m) z ≡ z
-lesser-top m z h = lesser-right (pos m) z (λ t c. top z h t c)
-  where
-    top : (z : ℤ) → mag z ≤ m → (t c : ℕ) → AtMost t c z → AtMost t c (pos m)
-    top (pos n) h t c a = omega arith
-    top (negsuc n) h t c a = omega arith

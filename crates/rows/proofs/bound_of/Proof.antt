@@ -1,9 +1,11 @@
 -- The test and the two calls are of the bits, which say the numbers. Assumes nothing.
-use mathlib.Core.Path.{_≡_}
+use mathlib.Core.Path.{_≡_, ap, ap₂, _∙_}
 use mathlib.Core.Bool.{true, false}
 use borrow.Author.Needs.{needs}
+use lib.IntN.{ℤ, pos, _-ℤ_}
 use lib.Signed.{ltZ}
 use mir.Facts.{toZ-ofZ}
+use Rattle.rules.specs.Words.{minZ}
 use Rattle.rules.specs.Limits.{absent}
 use Rattle.rows.proofs.Signed.{as-is}
 use Rattle.rows.proofs.bound_of.Statement.{statement}
@@ -22,15 +24,9 @@ returns : tie.Need-returns
 returns c =
     let less = c .before .minus in
     let start = c .before .before .before in
-    rw (
-      as-is _ (c .lesser .ok),
-      c .lesser .ensures,
-      as-is (less .result) (less .ok),
-      less .ensures,
-      toZ-ofZ (start .fits .limit),
-      toZ-ofZ (start .fits .after),
-      there (c .before .before),
-    )
+    let after-less = as-is (less .result) (less .ok) ∙ less .ensures ∙ ap (λ (z : ℤ). z -ℤ pos (start .args .worst)) (toZ-ofZ (start .fits .after)) in
+    rw (there (c .before .before))
+    (as-is (c .lesser .result) (c .lesser .ok) ∙ c .lesser .ensures ∙ ap₂ minZ (toZ-ofZ (start .fits .limit)) after-less)
 
 returns-2 : tie.Need-returns-2
 returns-2 c =

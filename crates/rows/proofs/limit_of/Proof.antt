@@ -1,5 +1,5 @@
 -- Each call's result is what its bits say, so that the calls' contracts join to the definition. Assumes nothing.
-use mathlib.Core.Path.{_≡_}
+use mathlib.Core.Path.{_≡_, ap₂, _∙_}
 use native.Mathlib.Omega.{arith}
 use borrow.Author.Needs.{needs}
 use lib.IntN.{pos}
@@ -17,7 +17,7 @@ lesser-requires : tie.Need-lesser-requires
 lesser-requires c κs = search needs
 
 top : (c : tie.After-lesser) → c .lesser .result ≡ minZ (pos (c .before .args .deadline)) (c .before .args .first)
-top c = rw (toZ-pos w32 {n = c .before .args .deadline} (omega arith), toZ-ofZ (c .before .fits .first)) at (c .lesser .ensures)
+top c = c .lesser .ensures ∙ ap₂ minZ (toZ-pos w32 {n = c .before .args .deadline} (omega arith)) (toZ-ofZ (c .before .fits .first))
 
 minus-requires : tie.Need-minus-requires
 minus-requires c κs =

@@ -14,13 +14,13 @@ none a b c (inr (inl h)) = omega arith
 none a b c (inr (inr h)) = omega arith
 
 returns : tie.Need-returns
-returns c = said-yes (inl (c .if1 .taken))
+returns c = said-yes (inl (omega arith))
 
 returns-2 : tie.Need-returns-2
-returns-2 c = said-yes (inr (inl (c .if2 .taken)))
+returns-2 c = said-yes (inr (inl (omega arith)))
 
 returns-3 : tie.Need-returns-3
-returns-3 c = said-yes (inr (inr (c .if3 .taken)))
+returns-3 c = said-yes (inr (inr (omega arith)))
 
 returns-4 : tie.Need-returns-4
 returns-4 c = said-no (none (omega arith) (omega arith) (omega arith))

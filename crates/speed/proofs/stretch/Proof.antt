@@ -1,14 +1,13 @@
 -- Before a turn the stretch is that of the positions from j on. Assumes nothing.
 use mathlib.Core.Path.{_≡_}
 use Prim.Native.Nat.{_+_, _-_, _≤_}
-use native.Mathlib.Numerals.{add-one}
 use native.Mathlib.Omega.{arith}
 use borrow.Author.Needs.{needs}
 use lib.ListN.{getD}
 use Rattle.rules.specs.Image.{profile}
 use Rattle.records.specs.Reading.{HasRecord}
 use Rattle.ratio.specs.Stretch.{Of, Small}
-use Rattle.ratio.proofs.Stretches.{Times, small}
+use Rattle.ratio.proofs.Stretches.{Times, from-nothing, small}
 use Rattle.speed.specs.Speed.{listed}
 use Rattle.speed.proofs.Listed.{listed-times}
 use Rattle.speed.proofs.stretch.Statement.{statement}
@@ -45,7 +44,7 @@ add-j c = search needs
 loop-holds : tie.Need-loop-holds Inv-loop μ-loop
 loop-holds c =
     let start = c .before .before in
-    (omega (arith, start .pre .ordered), search needs, rw (add-one (start .args .last)) (c .nothing .ensures _ _ _))
+    (omega (arith, start .pre .ordered), search needs, from-nothing (c .nothing .ensures) (omega arith))
 
 sub-j : tie.Need-sub-j Inv-loop μ-loop
 sub-j c = search needs

@@ -11,7 +11,7 @@ use Rattle.rules.specs.Order.{Order}
 use Rattle.rules.specs.Limits.{tables, limit}
 use Rattle.fields.specs.Fields.{splice}
 use Rattle.fields.proofs.Tabs.{tab-ext}
-use Rattle.planner.specs.Planning.{coast-bounds, Given, Filled, Written}
+use Rattle.tables.specs.Filling.{coast-bounds, Given, Filled, Written}
 
 module _ {s : List ℕ} {n L cycle : ℕ} {actions : List ℕ} {o : Order (profile s .n)} (g : Given s n L cycle actions o) where
   -- with the profile's own numbers

@@ -17,8 +17,8 @@ use Rattle.rows.specs.Bounds.{bounds-by, bound-in, Spares}
 use Rattle.rows.proofs.Signed.{as-is}
 use Rattle.rows.proofs.Coast.{bounds-same}
 use Rattle.rows.proofs.Sixteens.{bound-kept}
-use Rattle.planner.proofs.work_row.Statement.{statement}
-use Rattle.planner.proofs.work_row.Tie as tie
+use Rattle.tables.proofs.work_row.Statement.{statement}
+use Rattle.tables.proofs.work_row.Tie as tie
 
 abbrev Inv-loop : tie.InvT-loop
 Inv-loop image levels a due from entries limits₀ worst₀ bounds₀ next here₀ q₀ limits worst bounds here q =

@@ -13,10 +13,10 @@ use Rattle.fields.proofs.Strides.{stride-fits}
 use Rattle.records.specs.Reading.{HasRecord}
 use Rattle.rows.proofs.Limits.{row-small}
 use Rattle.rows.proofs.Sixteens.{sixteen-spares}
-use Rattle.planner.specs.Planning.{Given}
-use Rattle.planner.proofs.Working.{Back, records, lawful, present, position, back-none, back-more, back-done}
-use Rattle.planner.proofs.work.Statement.{statement}
-use Rattle.planner.proofs.work.Tie as tie
+use Rattle.tables.specs.Filling.{Given}
+use Rattle.tables.proofs.Working.{Back, records, lawful, present, position, back-none, back-more, back-done}
+use Rattle.tables.proofs.work.Statement.{statement}
+use Rattle.tables.proofs.work.Tie as tie
 
 abbrev Inv-loop : tie.InvT-loop
 Inv-loop image n levels cycle actions limits₀ worst₀ bounds₀ entries next₀ i₀ limits worst bounds next i =

@@ -24,7 +24,7 @@ use Rattle.rows.specs.Rows.{after-last}
 use Rattle.rows.specs.Bounds.{bounds-from}
 use Rattle.rows.proofs.Limits.{Lawful, Position, Worked, limit-is, worked-none, worked-more, worked-done}
 use Rattle.rows.proofs.Sixteens.{Bounded, bounded-more}
-use Rattle.planner.specs.Planning.{coast-bounds, Given, Works}
+use Rattle.tables.specs.Filling.{coast-bounds, Given, Works}
 
 -- The loop before it works the position in front of i: the row of limits at i, and the rows from i on in the three tables.
 pub record Back (S : Tables) (n L : ℕ) (limits₀ : List ℤ) (worst₀ : List ℕ) (bounds₀ : List ℤ)

@@ -1,9 +1,9 @@
 -- Assumes nothing.
 use borrow.Author.Needs.{needs}
-use Rattle.planner.proofs.Working.{records}
-use Rattle.planner.proofs.Filling.{filled-written}
-use Rattle.planner.proofs.fill.Statement.{statement}
-use Rattle.planner.proofs.fill.Tie as tie
+use Rattle.tables.proofs.Working.{records}
+use Rattle.tables.proofs.Filling.{filled-written}
+use Rattle.tables.proofs.fill.Statement.{statement}
+use Rattle.tables.proofs.fill.Tie as tie
 
 copy-front-requires : tie.Need-copy-front-requires
 copy-front-requires c κs =
