@@ -21,7 +21,7 @@ clear : (b : Bool) (k m : ℕ) → 0 < k → 0 ≡ cond b k m → (b ≡ false) 
 clear true k m p e = absurd (omega arith)
 clear false k m p e = (refl, e)
 
-neither : (a b : Bool) → a || b ≡ false → (a ≡ false) × (b ≡ false)
+pub neither : (a b : Bool) → a || b ≡ false → (a ≡ false) × (b ≡ false)
 neither true b h = absurd (true≢false h)
 neither false b h = (refl, h)
 
