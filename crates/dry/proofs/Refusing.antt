@@ -1,8 +1,8 @@
 -- The row of refusals of the dry run, and what is known where none is given. Assumes nothing.
 use Prim.Native.Nat.{ℕ, zero, suc, _+_, _*_, _≤_, _<_}
 use mathlib.Core.Path.{_≡_, refl, sym, _∙_}
-use mathlib.Core.Bool.{Bool, true, false, cond, _&&_, _||_, true≢false, false≢true}
-use mathlib.Core.List.{List}
+use mathlib.Core.Bool.{Bool, true, false, cond, _&&_, _||_, true≢false, false≢true, or-assoc, or-false}
+use mathlib.Core.List.{List, [], _∷_}
 use mathlib.Core.Logic.{inl, inr, ⊎-elim}
 use native.Mathlib.Nat.{mul-le-mul}
 use native.Mathlib.Numerals.{add-one}
@@ -10,26 +10,18 @@ use native.Mathlib.Omega.{arith}
 use lib.Bits.{bitOr, or-lt, or-add-and, and-le-l, and-le-r}
 use lib.Dec.{leb, ltb, eqb, lit<}
 use lib.ListN.{length, getD}
-use borrow.Author.Tests.{le-leb, lt-leb, ltb-true, leb-true, leb-false}
+use borrow.Author.Tests.{le-leb, lt-leb, ltb-true, ltb-false, leb-true, leb-false}
 use Rattle.rules.specs.Words.{all-pass}
 use Rattle.rules.specs.Refusals.{first, First, CountsOut, Tight}
 use Rattle.rules.specs.Run.{begun, start-refusal}
-use Rattle.rules.specs.Dry.{dry-call}
-use Rattle.rules.proofs.Tests.{all-pass-each}
+use Rattle.rules.specs.Dry.{LongEntry, dry-call}
+use Rattle.rules.proofs.Tests.{or-true, all-pass-each}
 use Rattle.rules.proofs.Refusals.{None, first-none}
 use Rattle.rules.proofs.Calls.{facts-in-range, begun-in-range}
 use Rattle.run.proofs.Ranges.{Counts}
-use Rattle.dry.specs.Dry.{Tables, needed, rooms}
-use Rattle.dry.specs.Cycle.{Says, Ready}
-
-module _ {A : Type 0} where
-  pub yes-said : (b : Bool) → Says b A → b ≡ true → A
-  yes-said true h e = h
-  yes-said false h e = absurd (false≢true e)
-
-  pub no-said : (b : Bool) → Says b A → b ≡ false → A → ⊥
-  no-said true h e = absurd (true≢false e)
-  no-said false h e = h
+use Rattle.run.proofs.Refusing.{neither}
+use Rattle.dry.specs.Dry.{Tables, rooms}
+use Rattle.dry.specs.Cycle.{Ready}
 
 -- ---- 3
 
@@ -61,32 +53,62 @@ few-cells c = mul-le-mul (c .few) (c .few-levels)
 
 -- ---- 17
 
-pub record Room (n cells limits worst bounds durations given marks : ℕ) : Type 0 where
-  pub limited : cells ≤ limits
-  pub timed : cells ≤ worst
-  pub bounded : cells * 16 ≤ bounds
-  pub lasting : cells ≤ durations
+-- some slice is shorter than needed
+short-of : List (ℕ × ℕ) → Bool
+short-of [] = false
+short-of (r ∷ rest) = ltb (r .0) (r .1) || short-of rest
+
+is-tight : (rooms : List (ℕ × ℕ)) → short-of rooms ≡ true → Tight rooms
+unfolding short-of
+is-tight [] h = absurd (false≢true h)
+is-tight (r ∷ rest) h = ⊎-elim (λ e. inl (ltb-true (r .0) (r .1) e)) (λ e. inr (is-tight rest e)) (or-true _ _ .0 h)
+
+not-tight : (rooms : List (ℕ × ℕ)) → short-of rooms ≡ false → Tight rooms → ⊥
+unfolding short-of
+not-tight [] h t = t
+not-tight (r ∷ rest) h t =
+    let p = neither (ltb (r .0) (r .1)) (short-of rest) h in
+    ⊎-elim (λ l. omega (arith, ltb-false (r .0) (r .1) (p .0))) (not-tight rest (p .1)) t
+
+pub record Room (n L : ℕ) (T : Tables) (given marks : ℕ) : Type 0 where
+  pub limited : n * L ≤ length (T .limits)
+  pub timed : n * L ≤ length (T .worst)
+  pub bounded : n * L * 16 ≤ length (T .bounds)
+  pub lasting : n * L ≤ length (T .durations)
   pub gives : n ≤ given
   pub marked : n ≤ marks
 
-module _ (n cells limits worst bounds durations given marks : ℕ) where
-  abbrev Short : Type 0
-  Short = Tight (needed n cells limits worst bounds durations given marks)
+module _ (n L : ℕ) (T : Tables) (given marks : ℕ) where
+  -- the six tests, one after another
+  abbrev tested : Bool
+  tested =
+      ltb (length (T .limits)) (n * L) || ltb (length (T .worst)) (n * L) || ltb (length (T .bounds)) (n * L * 16)
+      || ltb (length (T .durations)) (n * L) || ltb given n || ltb marks n
 
-  pub room : (Short → ⊥) → Room n cells limits worst bounds durations given marks
+  tested-is : tested ≡ short-of (rooms n L T given marks)
+  unfolding short-of
+  tested-is =
+      six (ltb (length (T .limits)) (n * L)) (ltb (length (T .worst)) (n * L)) (ltb (length (T .bounds)) (n * L * 16))
+      (ltb (length (T .durations)) (n * L)) (ltb given n) (ltb marks n)
+    where
+      six : (a b c d e f : Bool) → a || b || c || d || e || f ≡ a || (b || (c || (d || (e || (f || false)))))
+      six a b c d e f = simp (or-assoc, or-false)
+
+  pub tested-tight : tested ≡ true → Tight (rooms n L T given marks)
+  tested-tight h = is-tight _ (sym tested-is ∙ h)
+
+  pub tested-roomy : tested ≡ false → Tight (rooms n L T given marks) → ⊥
+  tested-roomy h = not-tight _ (sym tested-is ∙ h)
+
+  pub room : (Tight (rooms n L T given marks) → ⊥) → Room n L T given marks
   room out =
-      let a : (limits < cells → ⊥) = λ h. out (inl h) in
-      let b : (worst < cells → ⊥) = λ h. out (inr (inl h)) in
-      let c : (bounds < cells * 16 → ⊥) = λ h. out (inr (inr (inl h))) in
-      let d : (durations < cells → ⊥) = λ h. out (inr (inr (inr (inl h)))) in
+      let a : (length (T .limits) < n * L → ⊥) = λ h. out (inl h) in
+      let b : (length (T .worst) < n * L → ⊥) = λ h. out (inr (inl h)) in
+      let c : (length (T .bounds) < n * L * 16 → ⊥) = λ h. out (inr (inr (inl h))) in
+      let d : (length (T .durations) < n * L → ⊥) = λ h. out (inr (inr (inr (inl h)))) in
       let e : (given < n → ⊥) = λ h. out (inr (inr (inr (inr (inl h))))) in
       let f : (marks < n → ⊥) = λ h. out (inr (inr (inr (inr (inr (inl h)))))) in
       record { limited = omega arith; timed = omega arith; bounded = omega arith; lasting = omega arith; gives = omega arith; marked = omega arith }
-
-  pub room-in : Room n cells limits worst bounds durations given marks → Short → ⊥
-  room-in r =
-      ⊎-elim (λ h. omega arith) (⊎-elim (λ h. omega arith) (⊎-elim (λ h. omega arith)
-      (⊎-elim (λ h. omega arith) (⊎-elim (λ h. omega arith) (⊎-elim (λ h. omega arith) (λ h. h))))))
 
 -- ---- 16
 
@@ -119,14 +141,10 @@ module _ (test : ℕ → Bool) where
       by true b p q h ih = (m, omega arith, q ∙ h)
       by false b p q h ih = let e = ih p in (e .0, omega (arith, e .1), e .2)
 
--- an entry above 16,777,215
-abbrev Long : ℕ → List ℕ → Type 0
-Long cells durations = (k : ℕ) × (k < cells) × (16777215 < getD durations k 0)
-
-pub one-long : (cells : ℕ) (durations : List ℕ) → all-pass (short durations) cells ≡ false → Long cells durations
+pub one-long : (cells : ℕ) (durations : List ℕ) → all-pass (short durations) cells ≡ false → LongEntry cells durations
 one-long cells durations h = let e = one-fails (short durations) cells h in (e .0, e .1, leb-false (getD durations (e .0) 0) 16777215 (e .2))
 
-pub none-long : (cells : ℕ) (durations : List ℕ) → all-pass (short durations) cells ≡ true → Long cells durations → ⊥
+pub none-long : (cells : ℕ) (durations : List ℕ) → all-pass (short durations) cells ≡ true → LongEntry cells durations → ⊥
 none-long cells durations h e =
     omega (arith, e .2, leb-true (getD durations (e .0) 0) 16777215 (all-pass-each (short durations) cells h (e .0) (e .1)))
 
@@ -143,7 +161,7 @@ module _ (n L : ℕ) (T : Tables) (given marks : ℕ) (none : First (dry-call n 
   unfolding begun
   ready-begun =
       let c = is-counted in
-      let r = room n (n * L) (length (T .limits)) (length (T .worst)) (length (T .bounds)) (length (T .durations)) given marks (none-of .1 .0) in
+      let r = room n L T given marks (none-of .1 .0) in
       record {
         ranged = facts-in-range _ (begun-in-range n L 0 (c .some-action) (c .few) (c .some-level) (c .few-levels) (omega arith));
         waits = refl;

@@ -1,7 +1,7 @@
--- What the functions of the dry run say to each other: tests, and the cycle from a record on.
+-- What the functions of the dry run say to each other: the cycle from a record on.
 use Prim.Native.Nat.{ℕ, zero, suc, _-_, _*_, _≤_, _<_}
 use mathlib.Core.Path.{_≡_}
-use mathlib.Core.Bool.{Bool, true, false}
+use mathlib.Core.Bool.{true, false}
 use mathlib.Core.List.{List}
 use lib.ListN.{length, getD}
 use Rattle.rules.specs.Words.{tab, one-if}
@@ -9,13 +9,6 @@ use Rattle.rules.specs.Run.{Run, in-range, decides, lent}
 use Rattle.rules.specs.Dry.{step, cell}
 use Rattle.fields.specs.Fields.{splice}
 use Rattle.dry.specs.Dry.{Tables}
-
--- The test b says whether A holds.
-abbrev pub Says : Bool → Type 0 → Type 0
-Says true A = A
-Says false A = A → ⊥
-
--- ---- from a record on
 
 -- One action on, at n and L.
 abbrev pub one-on : Tables → ℕ → ℕ → Run → Run

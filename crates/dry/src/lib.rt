@@ -4,12 +4,12 @@ ghost use Prim.Native.Nat.{_+_, _≤_, _<_};
 ghost use lib.Dec.{leb};
 ghost use lib.ListN.{length, getD};
 ghost use Rattle.rules.specs.Words.{all-pass};
-ghost use Rattle.rules.specs.Refusals.{First, Tight};
+ghost use Rattle.rules.specs.Refusals.{First};
 ghost use Rattle.rules.specs.Run.{ended};
 ghost use Rattle.rules.specs.Dry.{cell, dry-call};
 ghost use Rattle.run.specs.Calls.{run-of};
-ghost use Rattle.dry.specs.Dry.{tables, needed, rooms, Dries};
-ghost use Rattle.dry.specs.Cycle.{Says, Ready, Running, Rest};
+ghost use Rattle.dry.specs.Dry.{tables, rooms, Dries};
+ghost use Rattle.dry.specs.Cycle.{Ready, Running, Rest};
 use run::Run;
 
 // The number of the refusal, 0 for none; the decisions made, the clock at the end, and the two marks.
@@ -122,41 +122,6 @@ fn all_short(durations: &[u32], cells: usize) -> bool
     all <= rules::LONGEST_TIME
 }
 
-// Whether a slice is shorter than needed, by their lengths.
-fn tight(
-    n: usize,
-    cells: usize,
-    limits: usize,
-    worst: usize,
-    bounds: usize,
-    durations: usize,
-    given: usize,
-    marks: usize,
-) -> bool
-    requires { ⌜ cells ≤ 512 ⌝ }
-    ensures { λ r. ⌜ Says r (Tight (needed n cells limits worst bounds durations given marks)) ⌝ }
-{
-    if limits < cells {
-        return true;
-    }
-    if worst < cells {
-        return true;
-    }
-    if bounds < cells * rules::LONGEST_COAST {
-        return true;
-    }
-    if durations < cells {
-        return true;
-    }
-    if given < n {
-        return true;
-    }
-    if marks < n {
-        return true;
-    }
-    false
-}
-
 // Counts 3, room 17, an entry too long 16.
 fn dry_refusal(
     n: usize,
@@ -175,16 +140,13 @@ fn dry_refusal(
         return 3;
     }
     let cells = n * levels;
-    if tight(
-        n,
-        cells,
-        limits.len(),
-        worst.len(),
-        bounds.len(),
-        durations.len(),
-        given,
-        marks,
-    ) {
+    if (limits.len() < cells)
+        | (worst.len() < cells)
+        | (bounds.len() < cells * rules::LONGEST_COAST)
+        | (durations.len() < cells)
+        | (given < n)
+        | (marks < n)
+    {
         return 17;
     }
     if all_short(durations, cells) {
@@ -219,7 +181,7 @@ pub fn dry_run(
     );
     if refusal != 0 {
         return Dried {
-            refusal: refusal,
+            refusal,
             decisions: 0,
             end: 0,
             overrun: false,

@@ -21,7 +21,7 @@ use Rattle.run.specs.declared.Asked.{Asked}
 use Rattle.run.specs.declared.Started.{Started}
 use Rattle.run.specs.declared.Reported.{Reported}
 use Rattle.run.specs.Calls.{run-of, start-of, next-of, with-run, answer-of}
-use Rattle.run.proofs.Ranges.{counts}
+use Rattle.run.proofs.Ranges.{fit-counts}
 use Rattle.run.proofs.Refusing.{askable, reportable}
 
 -- ---- one result only
@@ -156,7 +156,7 @@ started-kept n L a e = by (eqb (rules.start-refusal n L) 0) refl e
         (record { number = 0; run = rules.begun n L 0 })
         (record { number = rules.start-refusal n L; run = rules.begun 0 0 0 }) → StartKept n L a
     by true q e =
-        let f = counts n L (eqb-true _ _ q) in
+        let f = fit-counts n L (sym q) in
         record {
           refused = λ some. absurd (some (ap (λ (x : rules.Next). x .number) e));
           accepted = λ z. ap (λ (x : rules.Next). rules.in-range (x .run)) e

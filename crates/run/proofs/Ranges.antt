@@ -1,16 +1,57 @@
 -- Counts and fields in their ranges, as the calls judge them. Assumes nothing.
-use Prim.Native.Nat.{ℕ, _≤_}
-use mathlib.Core.Path.{_≡_, refl, sym, ap, _∙_}
-use mathlib.Core.Bool.{Bool, true, false, cond, _||_, false≢true}
-use lib.Dec.{ltb, eqb, lit<}
-use borrow.Author.Tests.{le-ltb, ltb-false, eqb-true}
+use Prim.Native.Nat.{ℕ, _+_, _*_, _≤_}
+use mathlib.Core.Path.{_≡_, refl, sym, _∙_}
+use mathlib.Core.Bool.{Bool, true, false, not, cond, _&&_, _||_, true≢false, and-assoc, and-true as and-one}
+use native.Mathlib.Nat.{mul-le-mul}
+use lib.Dec.{leb, ltb, eqb, leb·suc-suc}
+use borrow.Author.Tests.{ltb-true, ltb-false, leb-true, le-leb, lt-leb}
+use Rattle.rules.specs.Words.{every, one-if}
 use Rattle.rules.specs.Refusals.{first}
 use Rattle.rules.specs.Run.{Run, in-range, start-refusal}
-use Rattle.rules.proofs.Tests.{failed}
-use Rattle.rules.proofs.Calls.{InRange, in-range-facts}
-use Rattle.decision.proofs.Rows.{neither, clear}
+use Rattle.rules.proofs.Tests.{and-true}
+use Rattle.rules.proofs.Calls.{in-range-facts}
 
 -- ---- n and L
+
+-- one of them is out of its range
+abbrev out : ℕ → ℕ → Bool
+out n L = ltb n 1 || ltb 64 n || ltb L 1 || ltb 8 L
+
+-- whether they fit
+pub counts-fit : (n L : ℕ) → not (out n L) ≡ eqb (start-refusal n L) 0
+unfolding start-refusal first
+counts-fit n L = by (out n L)
+  where
+    by : (b : Bool) → not b ≡ eqb (cond b 3 0) 0
+    by true = refl
+    by false = refl
+
+pub unfit-three : (n L : ℕ) → eqb (start-refusal n L) 0 ≡ false → 3 ≡ start-refusal n L
+unfolding start-refusal first
+unfit-three n L = by (out n L)
+  where
+    by : (b : Bool) → eqb (cond b 3 0) 0 ≡ false → _≡_ {A = ℕ} 3 (cond b 3 0)
+    by true h = refl
+    by false h = absurd (true≢false h)
+
+not-less : (a b : ℕ) → not (ltb a b) ≡ leb b a
+not-less a b = by (ltb a b) refl
+  where
+    by : (t : Bool) → ltb a b ≡ t → not t ≡ leb b a
+    by true e = sym (lt-leb b a (ltb-true a b e))
+    by false e = sym (le-leb b a (ltb-false a b e))
+
+-- test by test
+pub counts-are : (n L : ℕ) → eqb (start-refusal n L) 0 ≡ leb 1 n && (leb n 64 && (leb 1 L && leb L 8))
+counts-are n L =
+    sym (counts-fit n L) ∙ none (ltb n 1) (ltb 64 n) (ltb L 1) (ltb 8 L)
+    ∙ rw (not-less n 1, not-less 64 n, not-less L 1, not-less 8 L)
+  where
+    none : (a b c d : Bool) → not (a || b || c || d) ≡ not a && (not b && (not c && not d))
+    none true b c d = refl
+    none false true c d = refl
+    none false false true d = refl
+    none false false false d = refl
 
 pub record Counts (n L : ℕ) : Type 0 where
   pub some-action : 1 ≤ n
@@ -18,40 +59,31 @@ pub record Counts (n L : ℕ) : Type 0 where
   pub some-level : 1 ≤ L
   pub few-levels : L ≤ 8
 
-pub counts : (n L : ℕ) → start-refusal n L ≡ 0 → Counts n L
-unfolding start-refusal first
-counts n L h =
-    let p = neither (ltb n 1 || ltb 64 n || ltb L 1) (ltb 8 L) (clear _ 3 0 (lit< tt) h .0) in
-    let q = neither (ltb n 1 || ltb 64 n) (ltb L 1) (p .0) in
-    let s = neither (ltb n 1) (ltb 64 n) (q .0) in
-    record { some-action = ltb-false n 1 (s .0); few = ltb-false 64 n (s .1); some-level = ltb-false L 1 (q .1); few-levels = ltb-false 8 L (p .1) }
-
-counts-in : (n L : ℕ) → Counts n L → 0 ≡ start-refusal n L
-unfolding start-refusal first
-counts-in n L c = rw (le-ltb n 1 (c .some-action), le-ltb 64 n (c .few), le-ltb L 1 (c .some-level), le-ltb 8 L (c .few-levels))
-
-pub counts-out : (n L : ℕ) → (Counts n L → ⊥) → 3 ≡ start-refusal n L
-unfolding start-refusal first
-counts-out n L out = go (ltb n 1 || ltb 64 n || ltb L 1 || ltb 8 L) (λ e. out (counts n L e))
-  where
-    go : (b : Bool) → (_≡_ {A = ℕ} (cond b 3 0) 0 → ⊥) → _≡_ {A = ℕ} 3 (cond b 3 0)
-    go true h = refl
-    go false h = absurd (h refl)
-
--- whether they are
-pub counts-fit : (n L : ℕ) → Counts n L → true ≡ eqb (start-refusal n L) 0
-counts-fit n L c = ap (λ (k : ℕ). eqb k 0) (counts-in n L c)
-
-pub counts-unfit : (n L : ℕ) → (Counts n L → ⊥) → false ≡ eqb (start-refusal n L) 0
-counts-unfit n L out = ap (λ (k : ℕ). eqb k 0) (counts-out n L out)
-
 pub fit-counts : (n L : ℕ) → true ≡ eqb (start-refusal n L) 0 → Counts n L
-fit-counts n L e = counts n L (eqb-true _ _ (sym e))
-
-pub unfit-counts : (n L : ℕ) → false ≡ eqb (start-refusal n L) 0 → Counts n L → ⊥
-unfit-counts n L e c = false≢true (e ∙ sym (counts-fit n L c))
+fit-counts n L e =
+    let a = and-true (leb 1 n) _ .0 (sym (e ∙ counts-are n L)) in
+    let b = and-true (leb n 64) _ .0 (a .1) in
+    let c = and-true (leb 1 L) (leb L 8) .0 (b .1) in
+    record { some-action = leb-true _ _ (a .0); few = leb-true _ _ (b .0); some-level = leb-true _ _ (c .0); few-levels = leb-true _ _ (c .1) }
 
 -- ---- the record
 
-pub out-of-range : (r : Run) → (InRange r → ⊥) → false ≡ in-range r
-out-of-range r out = sym (failed (in-range r) (λ h. out (in-range-facts r h)))
+-- its ranges, as they are tested
+pub ranges-are : (r : Run) (fit : Bool) (one : ℕ) → fit ≡ eqb (start-refusal (r .n) (r .levels)) 0 → one ≡ one-if (r .running)
+    → let asked = r .position + one in
+    fit && leb (r .position) (r .n) && leb (r .clock) 1073741823 && leb asked (r .n) && ltb (r .level) (r .levels) && ltb (r .left) 16
+    && leb (r .left + asked) (r .n) && leb (r .decisions) asked ≡ in-range r
+unfolding in-range every
+ranges-are r fit one fit-is one-is =
+    let asked = r .position + one-if (r .running) in
+    rw (fit-is, counts-are, one-is, leb·suc-suc (r .left) 15)
+    (all (leb 1 (r .n)) (leb (r .n) 64) (leb 1 (r .levels)) (leb (r .levels) 8) (leb (r .position) (r .n)) (leb (r .clock) 1073741823)
+    (leb asked (r .n)) (ltb (r .level) (r .levels)) (leb (r .left) 15) (leb (r .left + asked) (r .n)) (leb (r .decisions) asked))
+  where
+    all : (a b c d e f g h i j k : Bool) → (a && (b && (c && d))) && e && f && g && h && i && j && k
+        ≡ a && (b && (c && (d && (e && (f && (g && (h && (i && (j && (k && true))))))))))
+    all a b c d e f g h i j k = simp (and-assoc, and-one)
+
+-- the products of a record in range fit
+pub few-cells : (r : Run) → in-range r ≡ true → r .n * r .levels ≤ 512
+few-cells r h = let f = in-range-facts r h in mul-le-mul (f .few) (f .few-levels)

@@ -48,10 +48,10 @@ pub none-above : (levels level : ℕ) (test : ℕ → Bool) → level ≡ last-p
 none-above levels level test e below = failed (test (suc level)) (last-is test levels .none-above (suc level) (omega (arith, e)) below)
 
 module _ (limits bounds : List ℤ) (r : Run) where
-  pub decided-is : (level left : ℕ) (fit late : Bool)
+  pub decided-is : (level left : ℕ) (fit : Bool)
       → level ≡ last-passing (λ q. leZ (pos (r .clock)) (getD limits (r .position * r .levels + q) (pos 0))) (r .levels)
       → fit ≡ leZ (pos (r .clock)) (getD limits (r .position * r .levels + level) (pos 0))
-      → left ≡ left-granted 16 (lent (r .n) (r .levels) limits bounds) (r .clock) (r .position) level → late ≡ r .late || not fit
+      → left ≡ left-granted 16 (lent (r .n) (r .levels) limits bounds) (r .clock) (r .position) level
       → let P = lent (r .n) (r .levels) limits bounds in
       (record {
         n = r .n;
@@ -63,10 +63,10 @@ module _ (limits bounds : List ℤ) (r : Run) where
         left = left;
         decisions = r .decisions + 1;
         overrun = r .overrun;
-        late = late;
+        late = r .late || not fit;
       } ≡ decide 16 P r) × (not fit ≡ not (fits P (r .clock) (r .position)))
   unfolding level-given fits lent
-  decided-is level left fit late level-is fit-is left-is late-is = (rw (late-is, left-is, fit-is, level-is, add-one), rw (fit-is, level-is))
+  decided-is level left fit level-is fit-is left-is = (rw (left-is, fit-is, level-is, add-one), rw (fit-is, level-is))
 
 -- ---- the answers
 

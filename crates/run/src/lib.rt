@@ -1,6 +1,6 @@
 // The run record and its calls: start, ask and report. Each call takes the record and hands the next one back.
 ghost use mathlib.Core.Path.{_≡_};
-ghost use mathlib.Core.Bool.{not, cond, _||_};
+ghost use mathlib.Core.Bool.{not, cond};
 ghost use Prim.Native.Nat.{_+_, _*_, _<_, _≤_};
 ghost use lib.Dec.{eqb};
 ghost use Rattle.rules.specs.Words.{one-if};
@@ -58,16 +58,10 @@ pub struct Decided {
     pub late: bool,
 }
 
-fn one_if(b: bool) -> u32
+fn one_if(b: bool) -> usize
     ensures { λ r. ⌜ (r ≡ one-if b) × (r ≤ 1) ⌝ }
 {
     if b { 1 } else { 0 }
-}
-
-fn either(a: bool, b: bool) -> bool
-    ensures { λ r. ⌜ r ≡ a || b ⌝ }
-{
-    if a { true } else { b }
 }
 
 fn unless(b: bool, x: u32) -> u32
@@ -81,8 +75,8 @@ pub fn begun(n: u32, levels: u32) -> Run
     ensures { λ r. ⌜ run-of r ≡ begun n levels 0 ⌝ }
 {
     Run {
-        n: n,
-        levels: levels,
+        n,
+        levels,
         position: 0,
         clock: 0,
         level: 0,
@@ -98,19 +92,7 @@ pub fn begun(n: u32, levels: u32) -> Run
 pub fn counts_fit(n: usize, levels: usize) -> bool
     ensures { λ r. ⌜ r ≡ eqb (start-refusal n levels) 0 ⌝ }
 {
-    if n < 1 {
-        return false;
-    }
-    if rules::MOST_ACTIONS < n {
-        return false;
-    }
-    if levels < 1 {
-        return false;
-    }
-    if rules::MOST_LEVELS < levels {
-        return false;
-    }
-    true
+    !((n < 1) | (rules::MOST_ACTIONS < n) | (levels < 1) | (rules::MOST_LEVELS < levels))
 }
 
 impl Run {
@@ -130,37 +112,21 @@ impl Run {
         }
     }
 
-    // Whether each field is in its range. Too high a position and too long a coast are told first, so that their sum does not wrap.
+    // Whether each field is in its range. The sums are of 32-bit numbers in more bits, so that none wraps.
     fn in_range(self) -> bool
         ensures { λ r. ⌜ r ≡ in-range (run-of self) ⌝ }
     {
-        let n = self.n;
-        let levels = self.levels;
-        let position = self.position;
-        let left = self.left;
-        if !counts_fit(n as usize, levels as usize) {
-            return false;
-        }
-        if n < position {
-            return false;
-        }
-        if rules::LONGEST_COAST <= left as usize {
-            return false;
-        }
-        let asked = position + one_if(self.running);
-        if n < left + asked {
-            return false;
-        }
-        if levels <= self.level {
-            return false;
-        }
-        if rules::LAST_CLOCK < self.clock {
-            return false;
-        }
-        if asked < self.decisions {
-            return false;
-        }
-        true
+        let n = self.n as usize;
+        let left = self.left as usize;
+        let asked = self.position as usize + one_if(self.running);
+        counts_fit(n, self.levels as usize)
+            & (self.position <= self.n)
+            & (self.clock <= rules::LAST_CLOCK)
+            & (asked <= n)
+            & (self.level < self.levels)
+            & (left < rules::LONGEST_COAST)
+            & (left + asked <= n)
+            & (self.decisions as usize <= asked)
     }
 
     // A decision here and now takes the level given, leaves r - 1 to coast, counts, and sets the late mark where no level fits.
@@ -185,13 +151,13 @@ impl Run {
                 position: self.position,
                 clock: t,
                 level: level as u32,
-                left: left,
+                left,
                 decisions: self.decisions + 1,
                 running: true,
                 overrun: self.overrun,
-                late: either(self.late, late),
+                late: self.late | late,
             },
-            late: late,
+            late,
         }
     }
 
@@ -225,12 +191,12 @@ impl Run {
             n: self.n,
             levels: self.levels,
             position: self.position + 1,
-            clock: clock,
+            clock,
             level: self.level,
             left: unless(over, self.left),
             decisions: self.decisions,
             running: false,
-            overrun: either(self.overrun, over),
+            overrun: self.overrun | over,
             late: self.late,
         }
     }
@@ -262,13 +228,10 @@ impl Run {
         }
         let n = self.n as usize;
         let cells = n * self.levels as usize;
-        if order.len() < n {
-            return 17;
-        }
-        if limits.len() < cells {
-            return 17;
-        }
-        if bounds.len() < cells * rules::LONGEST_COAST {
+        if (order.len() < n)
+            | (limits.len() < cells)
+            | (bounds.len() < cells * rules::LONGEST_COAST)
+        {
             return 17;
         }
         if self.running {
@@ -297,9 +260,9 @@ impl Run {
             let made = self.decided(limits, bounds);
             let run = made.run;
             return Asked {
-                run: run,
+                run,
                 answer: Answer::Given {
-                    action: action,
+                    action,
                     level: run.level,
                     decided: true,
                     late: made.late,
@@ -309,7 +272,7 @@ impl Run {
         Asked {
             run: self.coasted(),
             answer: Answer::Given {
-                action: action,
+                action,
                 level: self.level,
                 decided: false,
                 late: false,
@@ -347,7 +310,7 @@ impl Run {
         if refusal != 0 {
             return Reported {
                 run: self.kept(),
-                refusal: refusal,
+                refusal,
             };
         }
         let at = (self.position * self.levels + self.level) as usize;

@@ -6,8 +6,8 @@ use borrow.Author.Needs.{needs}
 use borrow.Author.Tests.{not-true, not-false}
 use Rattle.rules.specs.Refusals.{Tight}
 use Rattle.run.proofs.Ranges.{Counts, fit-counts}
-use Rattle.dry.specs.Dry.{tables, rooms}
-use Rattle.dry.proofs.Refusing.{yes-said, no-said, counts-in, unfit-counts-out, few-cells, room, one-long, none-long}
+use Rattle.dry.specs.Dry.{Tables, tables, rooms}
+use Rattle.dry.proofs.Refusing.{counts-in, unfit-counts-out, few-cells, tested-tight, tested-roomy, room, one-long, none-long}
 use Rattle.dry.proofs.dry_refusal.Statement.{statement}
 use Rattle.dry.proofs.dry_refusal.Tie as tie
 
@@ -15,9 +15,12 @@ use Rattle.dry.proofs.dry_refusal.Tie as tie
 counted : (c : tie.Else1) → let a = c .before .before .before .before .args in Counts (a .n) (a .levels)
 counted c = fit-counts _ _ (sym (not-false _ (c .if1 .left)) ∙ c .before .counts-fit .ensures)
 
-roomy : (c : tie.Else2) → let a = c .before .before .before .before .before .before .args in
-    Tight (rooms (a .n) (a .levels) (tables (a .limits .now) (a .worst .now) (a .bounds .now) (a .durations .now)) (a .given) (a .marks)) → ⊥
-roomy c = no-said _ (c .before .tight .ensures) (c .if2 .left)
+abbrev lent : tie.Else1 → Tables
+lent c = let a = c .before .before .before .before .args in tables (a .limits .now) (a .worst .now) (a .bounds .now) (a .durations .now)
+
+roomy : (c : tie.Else2) → let a = c .before .before .before .before .before .args in
+    Tight (rooms (a .n) (a .levels) (lent (c .before)) (a .given) (a .marks)) → ⊥
+roomy c = tested-roomy _ _ (lent (c .before)) _ _ (c .if2 .left)
 
 counts-fit-requires : tie.Need-counts-fit-requires
 counts-fit-requires c κs = search needs
@@ -28,30 +31,30 @@ returns c = inl (unfit-counts-out _ _ (sym (not-true _ (c .if1 .taken)) ∙ c .b
 mul-cells : tie.Need-mul-cells
 mul-cells c = omega (arith, few-cells (counted c))
 
-tight-requires : tie.Need-tight-requires
-tight-requires c κs = omega (arith, few-cells (counted c))
+mul-if2 : tie.Need-mul-if2
+mul-if2 c = omega (arith, few-cells (counted c))
 
 returns-2 : tie.Need-returns-2
-returns-2 c = inr (counts-in (counted (c .before .before)), inl (yes-said _ (c .before .tight .ensures) (c .if2 .taken), refl))
+returns-2 c = inr (counts-in (counted (c .before)), inl (tested-tight _ _ (lent (c .before)) _ _ (c .if2 .taken), refl))
 
 all-short-requires : tie.Need-all-short-requires
-all-short-requires c κs = room _ _ _ _ _ _ _ _ (roomy c) .lasting
+all-short-requires c κs = room _ _ (lent (c .before)) _ _ (roomy c) .lasting
 
 returns-3 : tie.Need-returns-3
 returns-3 c =
-    let a = c .before .before .before .before .before .before .before .before .args in
+    let a = c .before .before .before .before .before .before .before .args in
     inr (
-      counts-in (counted (c .before .before .before .before)),
+      counts-in (counted (c .before .before .before)),
       inr (roomy (c .before .before), inr (none-long _ (a .durations .now) (sym (c .before .all-short .ensures) ∙ c .if3 .taken), refl)),
     )
 
 returns-4 : tie.Need-returns-4
 returns-4 c =
-    let a = c .before .before .before .before .before .before .before .before .args in
+    let a = c .before .before .before .before .before .before .before .args in
     inr (
-      counts-in (counted (c .before .before .before .before)),
+      counts-in (counted (c .before .before .before)),
       inr (roomy (c .before .before), inl (one-long _ (a .durations .now) (sym (c .before .all-short .ensures) ∙ c .if3 .left), refl)),
     )
 
 pub dry-refusal-spec : {M : Type 1} → statement M
-dry-refusal-spec = tie.close (tie.spec counts-fit-requires returns mul-cells tight-requires returns-2 all-short-requires returns-3 returns-4)
+dry-refusal-spec = tie.close (tie.spec counts-fit-requires returns mul-cells mul-if2 returns-2 all-short-requires returns-3 returns-4)

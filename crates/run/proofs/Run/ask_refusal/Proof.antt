@@ -3,10 +3,11 @@ use mathlib.Core.Path.{_≡_, sym, _∙_}
 use mathlib.Core.Bool.{true}
 use native.Mathlib.Omega.{arith}
 use borrow.Author.Needs.{needs}
-use borrow.Author.Tests.{not-true, not-false}
-use Rattle.rules.specs.Run.{in-range}
+use borrow.Author.Tests.{not-false, eq-eqb, ne-eqb}
+use Rattle.rules.specs.Refusals.{first}
+use Rattle.rules.specs.Run.{in-range, ask-refusal}
 use Rattle.run.specs.Calls.{run-of}
-use Rattle.run.proofs.Refusing.{few-cells, ask-fields, ask-room, ask-turn, ask-done, ask-none}
+use Rattle.run.proofs.Ranges.{few-cells}
 use Rattle.run.proofs.Run.ask_refusal.Statement.{statement}
 use Rattle.run.proofs.Run.ask_refusal.Tie as tie
 
@@ -18,7 +19,8 @@ in-range-requires : tie.Need-in-range-requires
 in-range-requires c κs = search needs
 
 returns : tie.Need-returns
-returns c = ask-fields _ _ _ _ (sym (c .before .in-range .ensures) ∙ not-true _ (c .if1 .taken))
+unfolding ask-refusal first
+returns c = rw (← c .before .in-range .ensures, c .if1 .taken)
 
 cast-n : tie.Need-cast-n
 cast-n c = search needs
@@ -29,46 +31,30 @@ cast-cells c = search needs
 mul-cells : tie.Need-mul-cells
 mul-cells c = omega (arith, few-cells _ (ranged (c .before .before)))
 
+mul-if2 : tie.Need-mul-if2
+mul-if2 c = omega (arith, few-cells _ (ranged (c .before .before)))
+
 returns-2 : tie.Need-returns-2
-returns-2 c = ask-room _ _ _ _ (ranged (c .before .before .before)) (λ f. omega arith)
+unfolding ask-refusal first
+returns-2 c = rw (ranged (c .before .before .before), c .if2 .taken)
 
 returns-3 : tie.Need-returns-3
-returns-3 c = ask-room _ _ _ _ (ranged (c .before .before .before .before)) (λ f. omega arith)
-
-mul-if4 : tie.Need-mul-if4
-mul-if4 c = omega (arith, few-cells _ (ranged (c .before .before .before .before)))
+unfolding ask-refusal first
+returns-3 c = let room = c .before in rw (ranged (room .before .before .before), room .if2 .left, c .if3 .taken)
 
 returns-4 : tie.Need-returns-4
-returns-4 c = ask-room _ _ _ _ (ranged (c .before .before .before .before .before)) (λ f. omega arith)
+unfolding ask-refusal first
+returns-4 c =
+    let turn = c .before .before in
+    rw (ranged (turn .before .before .before .before), turn .before .if2 .left, turn .if3 .left, eq-eqb _ _ (c .if4 .taken))
 
 returns-5 : tie.Need-returns-5
+unfolding ask-refusal first
 returns-5 c =
-    ask-turn _ _ _ _ (ranged (c .before .before .before .before .before .before))
-    (record { orders = omega arith; limited = omega arith; bounded = omega arith }) (c .if5 .taken)
-
-returns-6 : tie.Need-returns-6
-returns-6 c =
-    ask-done _ _ _ _ (ranged (c .before .before .before .before .before .before .before .before))
-    (record { orders = omega arith; limited = omega arith; bounded = omega arith }) (c .before .before .if5 .left) (c .if6 .taken)
-
-returns-7 : tie.Need-returns-7
-returns-7 c =
-    ask-none _ _ _ _ (ranged (c .before .before .before .before .before .before .before .before))
-    (record { orders = omega arith; limited = omega arith; bounded = omega arith }) (c .before .before .if5 .left) (c .if6 .left)
+    let turn = c .before .before in
+    rw (ranged (turn .before .before .before .before), turn .before .if2 .left, turn .if3 .left, ne-eqb _ _ (c .if4 .left))
 
 pub ask-refusal-spec : {M : Type 1} → statement M
 ask-refusal-spec =
     tie.close
-    (tie.spec
-    in-range-requires
-    returns
-    cast-n
-    cast-cells
-    mul-cells
-    returns-2
-    returns-3
-    mul-if4
-    returns-4
-    returns-5
-    returns-6
-    returns-7)
+    (tie.spec in-range-requires returns cast-n cast-cells mul-cells mul-if2 returns-2 returns-3 returns-4 returns-5)

@@ -50,14 +50,11 @@ cast-t14 c =
 add-t15 : tie.Need-add-t15
 add-t15 c = let o = c .before .before .before .before .before .before .before .pre in omega (arith, opened o .counted, opened o .ranges)
 
-either-requires : tie.Need-either-requires
-either-requires c κs = search needs
-
 returns : tie.Need-returns
 returns c =
-    let level = c .before .before .before .before in
-    decided-is _ _ (run-of (level .before .before .before .before .args .self)) _ _ _ _ (level .last-within .ensures)
-    (c .before .before .before .within .ensures) (c .before .before .left-granted .ensures) (c .either .ensures)
+    let left = c .before .before in
+    decided-is _ _ (run-of (left .before .before .before .before .before .before .args .self)) _ _ _ (left .before .before .last-within .ensures)
+    (left .before .within .ensures) (left .left-granted .ensures)
 
 pub decided-spec : {M : Type 1} → statement M
 decided-spec =
@@ -73,5 +70,4 @@ decided-spec =
     left-granted-requires
     cast-t14
     add-t15
-    either-requires
     returns)

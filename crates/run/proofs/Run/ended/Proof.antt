@@ -14,12 +14,9 @@ add-t5 c = search needs
 unless-requires : tie.Need-unless-requires
 unless-requires c κs = search needs
 
-either-requires : tie.Need-either-requires
-either-requires c κs = search needs
-
 returns : tie.Need-returns
 unfolding ended
-returns c = rw (c .before .unless .ensures, c .either .ensures, add-one)
+returns c = rw (c .before .unless .ensures, add-one)
 
 pub ended-spec : {M : Type 1} → statement M
-ended-spec = tie.close (tie.spec sub-over add-t5 unless-requires either-requires returns)
+ended-spec = tie.close (tie.spec sub-over add-t5 unless-requires returns)

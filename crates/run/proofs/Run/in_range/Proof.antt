@@ -1,97 +1,52 @@
--- Each return is judged by the ranges as a whole. Assumes nothing.
-use mathlib.Core.Path.{sym, _∙_}
-use native.Mathlib.Omega.{arith}
+-- The tests of the rules, in their order. Assumes nothing.
 use borrow.Author.Needs.{needs}
-use borrow.Author.Tests.{not-true, not-false}
-use Rattle.rules.proofs.Calls.{facts-in-range}
-use Rattle.run.proofs.Ranges.{Counts, fit-counts, unfit-counts, out-of-range}
+use Rattle.run.proofs.Ranges.{ranges-are}
 use Rattle.run.proofs.Run.in_range.Statement.{statement}
 use Rattle.run.proofs.Run.in_range.Tie as tie
 
--- after the first test
-counted : (c : tie.Else1) → let r = c .before .before .args .self in Counts (r .n) (r .levels)
-counted c = fit-counts _ _ (sym (not-false _ (c .if1 .left)) ∙ c .before .counts-fit .ensures)
+cast-n : tie.Need-cast-n
+cast-n c = search needs
 
-cast-counts-fit : tie.Need-cast-counts-fit
-cast-counts-fit c = search needs
+cast-left : tie.Need-cast-left
+cast-left c = search needs
 
-cast-counts-fit-2 : tie.Need-cast-counts-fit-2
-cast-counts-fit-2 c = search needs
-
-counts-fit-requires : tie.Need-counts-fit-requires
-counts-fit-requires c κs = search needs
-
-returns : tie.Need-returns
-returns c = out-of-range _ (λ f. unfit-counts _ _ (sym (not-true _ (c .if1 .taken)) ∙ c .before .counts-fit .ensures) (record {
-  some-action = f .some-action;
-  few = f .few;
-  some-level = f .some-level;
-  few-levels = f .few-levels;
-}))
-
-returns-2 : tie.Need-returns-2
-returns-2 c = out-of-range _ (λ f. omega arith)
-
-cast-if3 : tie.Need-cast-if3
-cast-if3 c = search needs
-
-returns-3 : tie.Need-returns-3
-returns-3 c = out-of-range _ (λ f. omega arith)
+cast-asked : tie.Need-cast-asked
+cast-asked c = search needs
 
 one-if-requires : tie.Need-one-if-requires
 one-if-requires c κs = search needs
 
 add-asked : tie.Need-add-asked
-add-asked c = omega (arith, counted (c .before .before .before))
+add-asked c = search needs
 
-add-if4 : tie.Need-add-if4
-add-if4 c = omega (arith, counted (c .before .before .before))
+cast-counts-fit : tie.Need-cast-counts-fit
+cast-counts-fit c = search needs
 
-returns-4 : tie.Need-returns-4
-returns-4 c = out-of-range _ (λ f. omega arith)
+counts-fit-requires : tie.Need-counts-fit-requires
+counts-fit-requires c κs = search needs
 
-returns-5 : tie.Need-returns-5
-returns-5 c = out-of-range _ (λ f. omega arith)
+add-result : tie.Need-add-result
+add-result c = search needs
 
-returns-6 : tie.Need-returns-6
-returns-6 c = out-of-range _ (λ f. omega arith)
+cast-result : tie.Need-cast-result
+cast-result c = search needs
 
-returns-7 : tie.Need-returns-7
-returns-7 c = out-of-range _ (λ f. omega arith)
-
-returns-8 : tie.Need-returns-8
-returns-8 c =
-    let k = counted (c .before .before .before .before .before .before .before .before .before .before) in
-    sym (facts-in-range _ (record {
-      some-action = k .some-action;
-      few = k .few;
-      some-level = k .some-level;
-      few-levels = k .few-levels;
-      position = omega arith;
-      clock = omega arith;
-      running = omega arith;
-      level = omega arith;
-      left = omega arith;
-      room = omega arith;
-      decisions = omega arith;
-    }))
+returns : tie.Need-returns
+returns c =
+    let k = c .before .before .before .before in
+    ranges-are _ _ _ (k .counts-fit .ensures) (k .before .before .one-if .ensures .0)
 
 pub in-range-spec : {M : Type 1} → statement M
 in-range-spec =
     tie.close
     (tie.spec
-    cast-counts-fit
-    cast-counts-fit-2
-    counts-fit-requires
-    returns
-    returns-2
-    cast-if3
-    returns-3
+    cast-n
+    cast-left
+    cast-asked
     one-if-requires
     add-asked
-    add-if4
-    returns-4
-    returns-5
-    returns-6
-    returns-7
-    returns-8)
+    cast-counts-fit
+    counts-fit-requires
+    add-result
+    cast-result
+    returns)

@@ -4,7 +4,7 @@ use borrow.Author.Needs.{needs}
 use borrow.Author.Tests.{not-true, not-false}
 use Rattle.rules.specs.Run.{start}
 use Rattle.decision.proofs.Rows.{into, past}
-use Rattle.run.proofs.Ranges.{counts-out, unfit-counts}
+use Rattle.run.proofs.Ranges.{unfit-three}
 use Rattle.run.proofs.Run.start.Statement.{statement}
 use Rattle.run.proofs.Run.start.Tie as tie
 
@@ -18,7 +18,7 @@ returns : tie.Need-returns
 unfolding start
 returns c =
     let h = sym (c .before .before .counts-fit .ensures) ∙ not-true _ (c .before .if1 .taken) in
-    past _ _ _ h (rw (sym (counts-out _ _ (unfit-counts _ _ (sym h))), c .begun .ensures))
+    past _ _ _ h (rw (sym (unfit-three _ _ h), c .begun .ensures))
 
 begun-requires-2 : tie.Need-begun-requires-2
 begun-requires-2 c κs = search needs

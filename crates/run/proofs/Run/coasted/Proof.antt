@@ -1,0 +1,14 @@
+-- The record in a coast, field by field. Assumes nothing.
+use mathlib.Core.Path.{refl}
+use borrow.Author.Needs.{needs}
+use Rattle.run.proofs.Run.coasted.Statement.{statement}
+use Rattle.run.proofs.Run.coasted.Tie as tie
+
+sub-t2 : tie.Need-sub-t2
+sub-t2 c = search needs
+
+returns : tie.Need-returns
+returns c = refl
+
+pub coasted-spec : {M : Type 1} → statement M
+coasted-spec = tie.close (tie.spec sub-t2 returns)
