@@ -1,5 +1,5 @@
 -- The first k bytes are copied. Assumes nothing.
-use mathlib.Core.Path.{_≡_, refl}
+use mathlib.Core.Path.{_≡_}
 use Prim.Native.Nat.{_-_, _≤_}
 use native.Mathlib.Omega.{arith}
 use borrow.Author.Needs.{needs}
@@ -35,7 +35,7 @@ loop-less c = search needs
 loop-again : tie.Need-loop-again Inv-loop μ-loop
 loop-again c =
     let t = c .before .before .loop in
-    (search needs, search needs, tab-more _ _ 0 (t .k) (t .k) (omega arith) (omega arith) (t .inv .1) refl (t .inv .2))
+    (search needs, search needs, tab-more _ _ 0 (t .k) (t .k) (omega arith) (omega arith) (t .inv .1) (search needs) (t .inv .2))
 
 same-length : tie.Need-same-length Inv-loop μ-loop
 same-length c = search needs

@@ -78,7 +78,7 @@ loop-again c =
       search needs,
       simp length-set (omega arith),
       byte-more _ _ (x .w) (x .v) (t .j - 1) (t .j) (omega arith) (omega arith) (omega arith) (omega arith) (t .inv .2) (t .inv .3),
-      left-more (x .w) _ (t .j - 1) (t .j) (omega arith) (omega arith) (t .inv .3),
+      omega (arith, left-more (x .w) (x .v) (t .j - 1) (t .j) (omega arith) (omega arith) (t .inv .3)),
     )
 
 same-length : tie.Need-same-length Inv-loop μ-loop

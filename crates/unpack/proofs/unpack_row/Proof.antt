@@ -65,8 +65,8 @@ loop-again c =
       search needs,
       simp length-set (omega arith),
       simp length-set (omega arith),
-      tab-more _ _ _ _ (p .loop .q) (omega arith) (omega arith) (omega arith) (c .before .average-at .ensures) (p .loop .inv .3),
-      tab-more _ _ _ _ (p .loop .q) (omega arith) (omega arith) (omega arith) (c .worst-at .ensures) (p .loop .inv .4),
+      tab-more _ _ _ _ (p .loop .q) (omega arith) (omega arith) (omega arith) (search needs) (p .loop .inv .3),
+      tab-more _ _ _ _ (p .loop .q) (omega arith) (omega arith) (omega arith) (search needs) (p .loop .inv .4),
     )
 
 same-length : tie.Need-same-length Inv-loop μ-loop

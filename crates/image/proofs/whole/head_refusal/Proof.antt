@@ -1,4 +1,4 @@
-use mathlib.Core.Path.{refl, sym, _∙_}
+use mathlib.Core.Path.{refl}
 use mathlib.Core.Logic.{inl, inr}
 use denote.Ref.{now}
 use borrow.Author.Needs.{needs}
@@ -12,13 +12,13 @@ use Rattle.image.proofs.whole.head_refusal.Statement.{statement}
 use Rattle.image.proofs.whole.head_refusal.Tie as tie
 
 not-version : (c : tie.Else1) → Version (now (c .before .before .before .args .image)) → ⊥
-not-version c h = h (sym (c .before .before .before .pre .version) ∙ c .if1 .left)
+not-version c h = h (omega arith)
 
 not-count : (c : tie.Else2) → Count (profile (now (c .before .before .before .before .before .args .image))) → ⊥
 not-count c h = denied (c .before .count-out .ensures) (c .if2 .left) (count-is (c .before .before .before .before .before .pre) .1 h)
 
 returns : tie.Need-returns
-returns c = inl ((λ e. c .if1 .taken (c .before .before .before .pre .version ∙ e)), refl)
+returns c = inl ((λ e. c .if1 .taken (omega arith)), refl)
 
 count-out-requires : tie.Need-count-out-requires
 count-out-requires c κs = search needs

@@ -5,22 +5,22 @@ use Rattle.records.proofs.scan.count_out.Statement.{statement}
 use Rattle.records.proofs.scan.count_out.Tie as tie
 
 returns : tie.Need-returns
-returns c = said-yes (inl (inl (c .if1 .taken)))
+returns c = said-yes (inl (inl (omega arith)))
 
 returns-2 : tie.Need-returns-2
-returns-2 c = said-yes (inl (inr (inl (c .if2 .taken))))
+returns-2 c = said-yes (inl (inr (inl (omega arith))))
 
 returns-3 : tie.Need-returns-3
-returns-3 c = said-yes (inl (inr (inr (inl (c .if3 .taken)))))
+returns-3 c = said-yes (inl (inr (inr (inl (omega arith)))))
 
 returns-4 : tie.Need-returns-4
-returns-4 c = said-yes (inl (inr (inr (inr (c .if4 .taken)))))
+returns-4 c = said-yes (inl (inr (inr (inr (omega arith)))))
 
 returns-5 : tie.Need-returns-5
-returns-5 c = said-yes (inr (inl (c .if5 .taken)))
+returns-5 c = said-yes (inr (inl (omega arith)))
 
 returns-6 : tie.Need-returns-6
-returns-6 c = said-yes (inr (inr (c .if6 .taken)))
+returns-6 c = said-yes (inr (inr (omega arith)))
 
 returns-7 : tie.Need-returns-7
 returns-7 c = said-no (elim [

@@ -5,13 +5,13 @@ use Rattle.records.proofs.scan.level_breaks.Statement.{statement}
 use Rattle.records.proofs.scan.level_breaks.Tie as tie
 
 returns : tie.Need-returns
-returns c = said-yes (inl (c .if1 .taken))
+returns c = said-yes (inl (omega arith))
 
 returns-2 : tie.Need-returns-2
-returns-2 c = said-yes (inr (inl (c .if2 .taken)))
+returns-2 c = said-yes (inr (inl (omega arith)))
 
 returns-3 : tie.Need-returns-3
-returns-3 c = said-yes (inr (inr (c .if3 .taken)))
+returns-3 c = said-yes (inr (inr (omega arith)))
 
 returns-4 : tie.Need-returns-4
 returns-4 c = said-no (elim [ inl h ↦ omega arith | inr (inl h) ↦ omega arith | inr (inr h) ↦ omega arith ])

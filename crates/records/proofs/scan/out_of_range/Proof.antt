@@ -1,11 +1,15 @@
-use mathlib.Core.Logic.{inl}
+use mathlib.Core.Path.{_≡_}
+use mathlib.Core.Bool.{true}
+use mathlib.Core.Logic.{inl, _↔_}
+use native.Mathlib.Omega.{arith}
 use borrow.Author.Needs.{needs}
+use Rattle.sets.specs.Sets.{Below}
 use Rattle.records.proofs.Faults.{said-yes, mask-says}
 use Rattle.records.proofs.scan.out_of_range.Statement.{statement}
 use Rattle.records.proofs.scan.out_of_range.Tie as tie
 
 returns : tie.Need-returns
-returns c = said-yes (inl (c .if1 .taken))
+returns c = said-yes (inl (omega arith))
 
 below-requires : tie.Need-below-requires
 below-requires c κs = search needs
@@ -13,7 +17,8 @@ below-requires c κs = search needs
 returns-2 : tie.Need-returns-2
 returns-2 c =
     let x = c .before .before in
-    mask-says _ (x .args .cycle) _ (x .args .deadline) (x .fits .mask .fits) (c .before .if1 .left) _ (c .below .ensures)
+    let says : (c .below .result ≡ true) ↔ Below (x .args .mask) (x .args .n) = search needs in
+    mask-says _ (x .args .cycle) _ (x .args .deadline) (x .fits .mask .fits) (omega arith) _ says
 
 pub out-of-range-spec : {M : Type 1} → statement M
 out-of-range-spec = tie.close (tie.spec returns below-requires returns-2)
