@@ -12,7 +12,7 @@ use Rattle.rules.specs.Refusals.{First, Count, Range, TimeOut, Table, Looped, U
 use Rattle.rules.proofs.Refusals.{None, first-none, accepted-sound}
 use Rattle.fields.proofs.Bytes.{Bytes, be-lt}
 use Rattle.trips.proofs.Sizes.{length-image}
-use Rattle.trips.proofs.Same.{Same, same-back, count-same, range-same, time-out-same, table-same, looped-same, unfit-same}
+use Rattle.trips.proofs.Same.{Same, same-back, count-to, range-to, time-out-to, table-to, looped-to, unfit-to}
 use Rattle.trips.proofs.Written.{InRange, in-range, version-back, header-spare-back, spare-back, written-read}
 use Rattle.trips.proofs.Again.{Formed}
 use Rattle.trips.proofs.RoundTrip.{ReadFrom, tables-same, tables-again, Gives, tables-back}
@@ -52,18 +52,17 @@ write-sound F rooms = ((λ p. sound (none .0 p)), (λ p. none .1 (all (p .0) (p 
 
 -- Of two profiles that say the same it accepts both or none.
 same-writable : {F G : Profile} → Same F G → Writable F → Writable G
-same-writable {F} x w =
-    let some : 0 < F .levels = not-below (λ l. w .not-count (inl (inr (inr (inl l))))) in record {
-      not-count = λ h. w .not-count (count-same x .1 h);
-      not-range = λ h. w .not-range (range-same x .1 h);
-      not-time-out = λ h. w .not-time-out (time-out-same x .1 h);
-      not-table = λ h. w .not-table (table-same x .1 h);
-      not-looped = λ h. w .not-looped (looped-same x some .1 h);
-      not-unfit = λ h. w .not-unfit (unfit-same x some .1 h);
+same-writable {F} {G} x w =
+    let y = same-back x in
+    let none : G .levels < 1 → ⊥ = λ l. w .not-count (count-to y (inl (inr (inr (inl l))))) in
+    let some : 0 < G .levels = omega arith in record {
+      not-count = λ h. w .not-count (count-to y h);
+      not-range = λ h. w .not-range (range-to y h);
+      not-time-out = λ h. w .not-time-out (time-out-to y h);
+      not-table = λ h. w .not-table (table-to y h);
+      not-looped = λ h. w .not-looped (looped-to y some h);
+      not-unfit = λ h. w .not-unfit (unfit-to y some h);
     }
-  where
-    not-below : {x y : ℕ} → (y < x → ⊥) → x ≤ y
-    not-below h = omega arith
 
 writable-range : {F : Profile} → Writable F → InRange F
 writable-range w = in-range (w .not-count) (w .not-range) (w .not-time-out)

@@ -4,13 +4,13 @@ use mathlib.Core.Path.{_≡_, refl, sym, _∙_}
 use mathlib.Core.List.{List}
 use native.Mathlib.Omega.{arith}
 use lib.ListN.{length, getD, take}
-use lib.Seq.{take-all, length-take-le, getD-take}
+use lib.Seq.{length-take-le, getD-take}
 use Rattle.rules.specs.Words.{tab, rows}
 use Rattle.rules.specs.Image.{actions, levels, cycle, mask-of, deadline-of, average-of, worst-of, profile, of-tables, image}
 use Rattle.fields.specs.Fields.{splice}
 use Rattle.fields.proofs.Bytes.{Bytes}
 use Rattle.fields.proofs.Strides.{cell-fits}
-use Rattle.fields.proofs.Holds.{Holds, whole, getD-holds}
+use Rattle.fields.proofs.Holds.{Holds, getD-holds}
 use Rattle.fields.proofs.Splice.{of-splice}
 use Rattle.fields.proofs.Tabs.{length-tab, getD-tab, tab-is}
 use Rattle.fields.proofs.Rows.{rows-ext, length-rows, getD-rows, rows-part}
@@ -28,11 +28,6 @@ pub record ReadFrom (s masks deadlines averages worst : List ℕ) : Type 0 where
   pub worst-are : Holds worst 0 (rows (worst-of s) (actions s) (levels s))
 
 module _ (s : List ℕ) where
-  -- the tables alone
-  pub read-alone : ReadFrom s (tab (mask-of s) (actions s)) (tab (deadline-of s) (actions s)) (rows (average-of s) (actions s) (levels s))
-      (rows (worst-of s) (actions s) (levels s))
-  read-alone = record { masks-are = whole _; deadlines-are = whole _; averages-are = whole _; worst-are = whole _ }
-
   -- what `unpack` leaves in lent slices
   pub read-lent : (m d a w : List ℕ)
       → ReadFrom s (splice m 0 (tab (mask-of s) (actions s))) (splice d 0 (tab (deadline-of s) (actions s)))
@@ -107,17 +102,3 @@ module _ (n L c : ℕ) (masks deadlines averages worst : List ℕ) (r : InRange 
       table : (xs : List ℕ) (f : ℕ → ℕ → ℕ) → n * L ≤ length xs → ((a q : ℕ) → a < n → q < L → getD xs (a * L + q) 0 ≡ f a q)
           → rows f n L ≡ take (n * L) xs
       table xs f h e = rows-ext f _ n L (λ a q l m. sym (e a q l m)) ∙ rows-part xs 0 n L 0 (λ a. a * L) (λ a. omega arith) (omega arith)
-
-  -- all of them, where they are no longer than needed
-  pub tables-back-whole : length masks ≡ n → length deadlines ≡ n → length averages ≡ n * L → length worst ≡ n * L
-      → Gives (image (of-tables n L c masks deadlines averages worst)) n L c masks deadlines averages worst
-  tables-back-whole hm hd ha hw =
-      let g = tables-back (omega arith) (omega arith) (omega arith) (omega arith) in record {
-        actions-are = g .actions-are;
-        levels-are = g .levels-are;
-        cycle-is = g .cycle-is;
-        masks-are = g .masks-are ∙ take-all n masks (omega arith);
-        deadlines-are = g .deadlines-are ∙ take-all n deadlines (omega arith);
-        averages-are = g .averages-are ∙ take-all (n * L) averages (omega arith);
-        worst-are = g .worst-are ∙ take-all (n * L) worst (omega arith);
-      }

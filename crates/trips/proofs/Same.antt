@@ -1,7 +1,7 @@
 -- Profiles that say the same: they have the same image, and the same grounds of refusal hold of them.
 use Prim.Native.Nat.{ℕ, suc, _<_}
 use mathlib.Core.Path.{_≡_, sym, ap}
-use mathlib.Core.Logic.{_↔_, ⊎-map}
+use mathlib.Core.Logic.{⊎-map}
 use native.Mathlib.Omega.{arith}
 use Rattle.rules.specs.Image.{Profile, has, due, header-of, level-image, record-image, image}
 use Rattle.rules.specs.Refusals.{Count, Range, TimeOut, Falls, Table, Looped, Unfit}
@@ -45,18 +45,18 @@ module _ {F G : Profile} (x : Same F G) where
   unfolding image header-of
   image-same = rw (cat-ext (record-image F) (record-image G) (F .n) record-same, x .n, x .levels, x .cycle)
 
-  -- ---- the grounds
+  -- ---- each ground goes over from the one to the other
 
-  count-to : Count F → Count G
+  pub count-to : Count F → Count G
   count-to h = rw (x .n, x .levels, x .cycle) at h
 
-  range-to : Range F → Range G
+  pub range-to : Range F → Range G
   range-to (a, l, h) = (a, omega (arith, x .n), rw (x .cycle, x .deadline a l, x .n, x .mask a l) at h)
 
-  time-out-to : TimeOut F → TimeOut G
+  pub time-out-to : TimeOut F → TimeOut G
   time-out-to (a, l, (q, m, h)) = (a, omega (arith, x .n), (q, omega (arith, x .levels), rw (x .average a q l m, x .worst a q l m) at h))
 
-  table-to : Table F → Table G
+  pub table-to : Table F → Table G
   table-to (a, l, h) = (a, omega (arith, x .n), ⊎-map above (⊎-map (falls (x .average a)) (falls (x .worst a))) h)
     where
       above : (q : ℕ) × (q < F .levels) × (F .worst a q < F .average a q) → (q : ℕ) × (q < G .levels) × (G .worst a q < G .average a q)
@@ -75,25 +75,9 @@ module _ {F G : Profile} (x : Same F G) where
     times = λ a l. x .worst a 0 l some;
   }
 
--- Each ground holds of the one exactly if of the other.
-module _ {F G : Profile} (x : Same F G) where
-  pub count-same : Count F ↔ Count G
-  count-same = (count-to x, count-to (same-back x))
-
-  pub range-same : Range F ↔ Range G
-  range-same = (range-to x, range-to (same-back x))
-
-  pub time-out-same : TimeOut F ↔ TimeOut G
-  time-out-same = (time-out-to x, time-out-to (same-back x))
-
-  pub table-same : Table F ↔ Table G
-  table-same = (table-to x, table-to (same-back x))
-
   module _ (some : 0 < F .levels) where
-    pub looped-same : Looped F ↔ Looped G
-    looped-same = looped-alike (alike x some)
+    pub looped-to : Looped F → Looped G
+    looped-to = looped-alike (alike some) .0
 
-    pub unfit-same : Unfit F ↔ Unfit G
-    unfit-same =
-        let fit = fit-alike (alike x some) 0 in
-        ((λ u f. u (fit .1 f)), (λ u f. u (fit .0 f)))
+    pub unfit-to : Unfit F → Unfit G
+    unfit-to u f = u (fit-alike (alike some) 0 .1 f)

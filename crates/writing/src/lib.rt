@@ -30,16 +30,8 @@ pub fn refusal(
     }
     // The lowest action at fault for 7 and for 6, n for none. 6 is given first, but where no row breaks the rule of 7 it is the sooner told.
     let fallen = checks::table(n, levels, averages, worst);
-    let out = checks::range(
-        n,
-        levels,
-        cycle,
-        masks,
-        deadlines,
-        averages,
-        worst,
-        n <= fallen,
-    );
+    let ordered = n <= fallen;
+    let out = checks::range(n, levels, cycle, masks, deadlines, averages, worst, ordered);
     if out < n {
         return 6;
     }
@@ -69,16 +61,8 @@ pub fn write(
     ensures { λ r. ⌜ Writes n levels cycle (now (masks .entry)) (now (deadlines .entry)) (now (averages .entry)) (now (worst .entry))
         (now (image .entry)) (now (image .exit)) (r .refusal) (r .bytes) ⌝ }
 {
-    let refused = refusal(
-        n,
-        levels,
-        cycle,
-        masks,
-        deadlines,
-        averages,
-        worst,
-        image.len(),
-    );
+    let room = image.len();
+    let refused = refusal(n, levels, cycle, masks, deadlines, averages, worst, room);
     if refused != 0 {
         return Written {
             refusal: refused,
