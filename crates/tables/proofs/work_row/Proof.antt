@@ -15,7 +15,7 @@ use Rattle.fields.proofs.Tabs.{tab-more, length-tab}
 use Rattle.rows.specs.Rows.{limits-of, eight}
 use Rattle.rows.specs.Bounds.{bounds-by, bound-in, Spares}
 use Rattle.rows.proofs.Signed.{as-is}
-use Rattle.rows.proofs.Coast.{bounds-same}
+use Rattle.rows.proofs.Coast.{bounds-stored}
 use Rattle.rows.proofs.Sixteens.{bound-kept}
 use Rattle.tables.proofs.work_row.Statement.{statement}
 use Rattle.tables.proofs.work_row.Tie as tie
@@ -156,7 +156,7 @@ loop-again c =
       tab-more _ _ (a .from) (a .from + t .q) (t .q) (omega (arith, s .pre .limits-room)) (omega arith) (t .inv .2) limit (t .inv .6),
       tab-more _ _ (a .from) (a .from + t .q) (t .q) (omega (arith, s .pre .worst-room)) (omega arith) (t .inv .3) longest (t .inv .7),
       cat-more _ 16 (λ p. ap suc (length-tab _ 15)) _ (a .from * 16) ((a .from + t .q) * 16) (t .q) (omega arith) (omega arith) (t .inv .8)
-          (done .ensures ∙ ap (splice (t .bounds) ((a .from + t .q) * 16)) (bounds-same limit longest (λ k h. kept in-loop k))),
+          (bounds-stored (t .bounds) ((a .from + t .q) * 16) limit longest (λ k h. kept in-loop k) (done .ensures)),
     )
 
 same-length : tie.Need-same-length Inv-loop μ-loop
