@@ -14,6 +14,7 @@ use Rattle.rules.specs.Words.{sum, span, minZ, least-of, tab}
 use Rattle.rules.specs.Limits.{Tables, absent, coast-bound}
 use Rattle.rules.proofs.Sums.{sum-longer}
 use Rattle.rules.proofs.Limits.Signed.{AtMost, at-most-min, at-most-less, at-most-sooner, settled, least-all, all-least}
+use Rattle.fields.specs.Fields.{splice}
 use Rattle.fields.proofs.Cats.{cat-front}
 use Rattle.fields.proofs.Tabs.{tab-ext}
 use Rattle.rows.specs.Bounds.{bound-by, bounds-by, Spares}
@@ -25,8 +26,13 @@ above-absent (pos n) h = refl
 above-absent (negsuc n) h = lt-ltb n 2147483647 (omega arith)
 
 -- the sixteen from equal numbers
-pub bounds-same : {y z : ℤ} {v w : ℕ} {f g : ℕ → ℤ} → y ≡ z → v ≡ w → ((k : ℕ) → k < 15 → f k ≡ g k) → bounds-by y v f ≡ bounds-by z w g
+bounds-same : {y z : ℤ} {v w : ℕ} {f g : ℕ → ℤ} → y ≡ z → v ≡ w → ((k : ℕ) → k < 15 → f k ≡ g k) → bounds-by y v f ≡ bounds-by z w g
 bounds-same {z = z} {w = w} d e same = rw (d, e) (ap (λ (x : List ℤ). z ∷ x) (tab-ext _ _ 15 (λ k h. ap (bound-by z w) (same k h))))
+
+-- and where they are stored
+pub bounds-stored : (out : List ℤ) (at : ℕ) {out′ : List ℤ} {y z : ℤ} {v w : ℕ} {f g : ℕ → ℤ} → y ≡ z → v ≡ w → ((k : ℕ) → k < 15 → f k ≡ g k)
+    → out′ ≡ splice out at (bounds-by y v f) → out′ ≡ splice out at (bounds-by z w g)
+bounds-stored out at d e same is = is ∙ ap (splice out at) (bounds-same d e same)
 
 module _ (S : Tables) (limit : ℕ → ℕ → ℤ) where
   -- the worst times at q of positions i to j - 1

@@ -91,7 +91,7 @@ fn work(
     }
 }
 
-// All four.
+// The order and the three tables.
 pub fn fill(
     image: &[u8],
     n: usize,

@@ -10,13 +10,13 @@ mul-entries : tie.Need-mul-entries
 mul-entries c = omega (arith, mul-le-mul (c .pre .0) (c .pre .1))
 
 returns : tie.Need-returns
-returns c = inl (inl (c .if1 .taken), refl)
+returns c = inl (inl (omega arith), refl)
 
 returns-2 : tie.Need-returns-2
-returns-2 c = inl (inr (inl (c .if2 .taken)), refl)
+returns-2 c = inl (inr (inl (omega arith)), refl)
 
 returns-3 : tie.Need-returns-3
-returns-3 c = inl (inr (inr (inl (c .if3 .taken))), refl)
+returns-3 c = inl (inr (inr (inl (omega arith))), refl)
 
 mul-if4 : tie.Need-mul-if4
 mul-if4 c =
@@ -24,7 +24,7 @@ mul-if4 c =
     omega (arith, mul-le-mul (s .pre .0) (s .pre .1))
 
 returns-4 : tie.Need-returns-4
-returns-4 c = inl (inr (inr (inr (inl (c .if4 .taken)))), refl)
+returns-4 c = inl (inr (inr (inr (inl (omega arith)))), refl)
 
 returns-5 : tie.Need-returns-5
 returns-5 c =

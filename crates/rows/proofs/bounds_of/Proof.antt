@@ -1,5 +1,5 @@
 -- The sixteen of the position after it are what the table says. Assumes nothing.
-use mathlib.Core.Path.{_≡_, refl, sym, ap, subst, _∙_}
+use mathlib.Core.Path.{_≡_, refl, sym, subst}
 use Prim.Native.Nat.{ℕ, _+_, _*_, _<_}
 use native.Mathlib.Omega.{arith}
 use borrow.Author.Needs.{needs}
@@ -8,9 +8,8 @@ use lib.IntN.{pos}
 use lib.ListN.{getD, replicate, getD-replicate}
 use mir.Facts.{toZ-ofZ}
 use Rattle.rules.specs.Limits.{absent}
-use Rattle.fields.specs.Fields.{splice}
 use Rattle.rows.specs.Bounds.{bound-in, Spares}
-use Rattle.rows.proofs.Coast.{bounds-same}
+use Rattle.rows.proofs.Coast.{bounds-stored}
 use Rattle.rows.proofs.bounds_of.Statement.{statement}
 use Rattle.rows.proofs.bounds_of.Tie as tie
 
@@ -44,8 +43,7 @@ returns : tie.Need-returns
 returns c =
     let then1 = c .before .before .before in
     let a = then1 .before .args in
-    c .before .bounds-by .ensures
-    ∙ ap (splice (a .out .now) (a .x * 16)) (bounds-same {v = a .worst} (toZ-ofZ (then1 .before .fits .limit)) refl (past then1))
+    bounds-stored (a .out .now) (a .x * 16) {v = a .worst} (toZ-ofZ (then1 .before .fits .limit)) refl (past then1) (c .before .bounds-by .ensures)
 
 mul-sixteen : tie.Need-mul-sixteen
 mul-sixteen c = search needs
@@ -65,8 +63,7 @@ returns-2 : tie.Need-returns-2
 returns-2 c =
     let read = c .before .before .before in
     let s = read .before .before .before in
-    let a = s .args in
-    c .before .bounds-by2 .ensures ∙ ap (splice (a .out .now) (a .x * 16)) (bounds-same {v = a .worst} (toZ-ofZ (s .fits .limit)) refl (held read))
+    bounds-stored (s .args .out .now) (s .args .x * 16) {v = s .args .worst} (toZ-ofZ (s .fits .limit)) refl (held read) (c .before .bounds-by2 .ensures)
 
 pub bounds-of-spec : {M : Type 1} → statement M
 bounds-of-spec =

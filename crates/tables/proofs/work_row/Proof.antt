@@ -1,9 +1,10 @@
 -- The levels below q are worked and stored. Assumes nothing.
 use mathlib.Core.Path.{_≡_, sym, ap, subst, _∙_}
+use mathlib.Core.List.{List}
 use Prim.Native.Nat.{ℕ, suc, _+_, _-_, _*_, _≤_}
 use native.Mathlib.Omega.{arith}
 use borrow.Author.Needs.{needs}
-use lib.IntN.{pos}
+use lib.IntN.{ℤ, pos}
 use lib.ListN.{length, replicate}
 use mir.Syntax.{w32}
 use mir.Val.{toZ, ofZ}
@@ -15,10 +16,15 @@ use Rattle.fields.proofs.Tabs.{tab-more, length-tab}
 use Rattle.rows.specs.Rows.{limits-of, eight}
 use Rattle.rows.specs.Bounds.{bounds-by, bound-in, Spares}
 use Rattle.rows.proofs.Signed.{as-is}
-use Rattle.rows.proofs.Coast.{bounds-same}
+use Rattle.rows.proofs.Coast.{bounds-stored}
 use Rattle.rows.proofs.Sixteens.{bound-kept}
 use Rattle.tables.proofs.work_row.Statement.{statement}
 use Rattle.tables.proofs.work_row.Tie as tie
+
+-- the sixteen of level q, from the bounds as they stood
+abbrev sixteens : (s : List ℕ) (L a due : ℕ) (next : List ℤ) (from entries : ℕ) (bounds : List ℤ) → ℕ → List ℤ
+sixteens s L a due next from entries bounds q =
+    bounds-by (limits-of next (average-of s a) (worst-of s a) due q) (worst-of s a q) (bound-in bounds entries (from + q + L))
 
 abbrev Inv-loop : tie.InvT-loop
 Inv-loop image levels a due from entries limits₀ worst₀ bounds₀ next here₀ q₀ limits worst bounds here q =
@@ -30,8 +36,7 @@ Inv-loop image levels a due from entries limits₀ worst₀ bounds₀ next here�
     × (here ≡ splice (replicate 8 (pos 0)) 0 (tab (limits-of next (average-of image a) (worst-of image a) due) q))
     × (limits ≡ splice limits₀ from (tab (limits-of next (average-of image a) (worst-of image a) due) q))
     × (worst ≡ splice worst₀ from (tab (worst-of image a) q))
-    × (bounds ≡ splice bounds₀ (from * 16) (cat (λ p. bounds-by (limits-of next (average-of image a) (worst-of image a) due p) (worst-of image a p)
-    (bound-in bounds₀ entries (from + p + levels))) q))
+    × (bounds ≡ splice bounds₀ (from * 16) (cat (sixteens image levels a due next from entries bounds₀) q))
 
 abbrev μ-loop : tie.MeasureT-loop
 μ-loop image levels a due from entries limits₀ worst₀ bounds₀ next here₀ q₀ limits worst bounds here q = levels - q
@@ -44,8 +49,8 @@ kept c =
     let s = c .before .before .before .before in
     let a = s .args in
     let t = c .before .loop in
-    let done = length-cat (λ p. bounds-by (limits-of (a .t5) (average-of (a .image .now) (a .a)) (worst-of (a .image .now) (a .a)) (a .due) p)
-    (worst-of (a .image .now) (a .a) p) (bound-in (a .bounds .now) (a .entries) (a .from + p + a .levels))) 16 (λ p. ap suc (length-tab _ 15)) (t .q) in
+    let done = length-cat (sixteens (a .image .now) (a .levels) (a .a) (a .due) (a .t5) (a .from) (a .entries) (a .bounds .now)) 16
+    (λ p. ap suc (length-tab _ 15)) (t .q) in
     bound-kept (a .bounds .now) _ (a .from * 16) (a .entries) (a .from + t .q + a .levels)
     (omega (arith, done, s .pre .inside, s .pre .bounds-room)) (omega (arith, done)) (t .inv .8)
 
@@ -155,8 +160,9 @@ loop-again c =
       tab-more _ _ 0 (t .q) (t .q) (omega arith) (omega arith) (t .inv .1) limit (t .inv .5),
       tab-more _ _ (a .from) (a .from + t .q) (t .q) (omega (arith, s .pre .limits-room)) (omega arith) (t .inv .2) limit (t .inv .6),
       tab-more _ _ (a .from) (a .from + t .q) (t .q) (omega (arith, s .pre .worst-room)) (omega arith) (t .inv .3) longest (t .inv .7),
-      cat-more _ 16 (λ p. ap suc (length-tab _ 15)) _ (a .from * 16) ((a .from + t .q) * 16) (t .q) (omega arith) (omega arith) (t .inv .8)
-          (done .ensures ∙ ap (splice (t .bounds) ((a .from + t .q) * 16)) (bounds-same limit longest (λ k h. kept in-loop k))),
+      cat-more (sixteens (a .image .now) (a .levels) (a .a) (a .due) (a .t5) (a .from) (a .entries) (a .bounds .now)) 16
+          (λ p. ap suc (length-tab _ 15)) (a .bounds .now) (a .from * 16) ((a .from + t .q) * 16) (t .q) (omega arith) (omega arith) (t .inv .8)
+          (bounds-stored (t .bounds) ((a .from + t .q) * 16) limit longest (λ k h. kept in-loop k) (done .ensures)),
     )
 
 same-length : tie.Need-same-length Inv-loop μ-loop
