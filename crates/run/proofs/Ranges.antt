@@ -3,7 +3,9 @@ use Prim.Native.Nat.{ℕ, _+_, _*_, _≤_}
 use mathlib.Core.Path.{_≡_, refl, sym, _∙_}
 use mathlib.Core.Bool.{Bool, true, false, not, cond, _&&_, _||_, true≢false, and-assoc, and-true as and-one}
 use native.Mathlib.Nat.{mul-le-mul}
+use native.Mathlib.Omega.{arith}
 use lib.Dec.{leb, ltb, eqb, leb·suc-suc}
+use mir.Val.{boolByte}
 use borrow.Author.Tests.{ltb-true, ltb-false, leb-true, le-leb, lt-leb}
 use Rattle.rules.specs.Words.{every, one-if}
 use Rattle.rules.specs.Refusals.{first}
@@ -68,15 +70,24 @@ fit-counts n L e =
 
 -- ---- the record
 
--- its ranges, as they are tested
-pub ranges-are : (r : Run) (fit : Bool) (one : ℕ) → fit ≡ eqb (start-refusal (r .n) (r .levels)) 0 → one ≡ one-if (r .running)
-    → let asked = r .position + one in
+-- a mark as a number
+byte-is : (b : Bool) → boolByte b ≡ one-if b
+byte-is true = refl
+byte-is false = refl
+
+pub byte-small : (b : Bool) → boolByte b ≤ 1
+byte-small true = omega arith
+byte-small false = omega arith
+
+-- the ranges, as they are tested
+pub ranges-are : (r : Run) (fit : Bool) → fit ≡ eqb (start-refusal (r .n) (r .levels)) 0
+    → let asked = r .position + boolByte (r .running) in
     fit && leb (r .position) (r .n) && leb (r .clock) 1073741823 && leb asked (r .n) && ltb (r .level) (r .levels) && ltb (r .left) 16
     && leb (r .left + asked) (r .n) && leb (r .decisions) asked ≡ in-range r
 unfolding in-range every
-ranges-are r fit one fit-is one-is =
+ranges-are r fit fit-is =
     let asked = r .position + one-if (r .running) in
-    rw (fit-is, counts-are, one-is, leb·suc-suc (r .left) 15)
+    rw (fit-is, counts-are, byte-is (r .running), leb·suc-suc (r .left) 15)
     (all (leb 1 (r .n)) (leb (r .n) 64) (leb 1 (r .levels)) (leb (r .levels) 8) (leb (r .position) (r .n)) (leb (r .clock) 1073741823)
     (leb asked (r .n)) (ltb (r .level) (r .levels)) (leb (r .left) 15) (leb (r .left + asked) (r .n)) (leb (r .decisions) asked))
   where

@@ -3,7 +3,6 @@ ghost use mathlib.Core.Path.{_≡_};
 ghost use mathlib.Core.Bool.{not, cond};
 ghost use Prim.Native.Nat.{_+_, _*_, _<_, _≤_};
 ghost use lib.Dec.{eqb};
-ghost use Rattle.rules.specs.Words.{one-if};
 ghost use Rattle.rules.specs.Run.{in-range, begun, coast, decide, ended, fits, lent, start-refusal, start, ask-refusal, ask, report-refusal, report};
 ghost use Rattle.run.specs.Calls.{run-of, answer-of, next-of, start-of, Open};
 
@@ -56,12 +55,6 @@ pub struct Reported {
 pub struct Decided {
     pub run: Run,
     pub late: bool,
-}
-
-fn one_if(b: bool) -> usize
-    ensures { λ r. ⌜ (r ≡ one-if b) × (r ≤ 1) ⌝ }
-{
-    if b { 1 } else { 0 }
 }
 
 fn unless(b: bool, x: u32) -> u32
@@ -118,7 +111,7 @@ impl Run {
     {
         let n = self.n as usize;
         let left = self.left as usize;
-        let asked = self.position as usize + one_if(self.running);
+        let asked = self.position as usize + self.running as usize;
         counts_fit(n, self.levels as usize)
             & (self.position <= self.n)
             & (self.clock <= rules::LAST_CLOCK)
@@ -166,13 +159,14 @@ impl Run {
         requires { ⌜ 0 < self .left ⌝ }
         ensures { λ r. ⌜ run-of r ≡ coast (run-of self) ⌝ }
     {
+        let left = self.left - 1;
         Run {
             n: self.n,
             levels: self.levels,
             position: self.position,
             clock: self.clock,
             level: self.level,
-            left: self.left - 1,
+            left,
             decisions: self.decisions,
             running: true,
             overrun: self.overrun,
