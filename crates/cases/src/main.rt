@@ -1,112 +1,90 @@
 // Outside cases: NNN.profile is an image, NNN.plan what the plan program prints for it, NNN.durations its durations and NNN.dry what the
-// dry-run program prints for both. 000 to 070 come with the rules; those from 071 on are written by the independent program of host/.
+// dry-run program prints for both. 000 to 070 come with the rules, the first three of them cases 1 to 3 of its worked values: Three with the
+// durations 6, 8, 4, then 0, 8, 8, then 8, 4, 8, each at both levels. Those from 071 on are written by the independent program of host/.
+// Last, what the programs print where a file is not there: it is empty, so an image is refused as short and durations are too few.
 use files::read_file;
-ghost use Prim.Native.Nat.{_≤_};
+use files::sum_up;
+use files::tell;
+ghost use Rattle.io.specs.Counts.{Counts};
 
-const CASES: u64 = 418;
+const CASES: usize = 418;
+
+// A number that no file has.
+const ABSENT: usize = 999;
+
+// How much of a case's file there is at the start of `out`: the file whose name is the case in three digits, then `what`.
+fn read_case(case: usize, what: &[u8], out: &mut [u8]) -> usize
+    ensures { λ r. ⌜ Counts r (now (out .exit)) ⌝ }
+{
+    let mut name = [0u8; 32];
+    let hundreds = text::put_digit(&mut name, 0, case / 100);
+    let tens = text::put_digit(&mut name, hundreds, case / 10);
+    let ones = text::put_digit(&mut name, tens, case);
+    let end = text::put_bytes(&mut name, ones, what);
+    read_file(&name[..end], out)
+}
+
+// What the plan program prints for a case's profile.
+fn plan(case: usize, out: &mut [u8]) -> usize
+    ensures { λ r. ⌜ Counts r (now (out .exit)) ⌝ }
+{
+    let mut image = io::buffer();
+    let n = read_case(case, b".profile", &mut image);
+    print::plan_text(&image[..n], out)
+}
+
+// What the dry-run program prints for the profile of one case and the durations of another.
+fn dry_run(profile: usize, durations: usize, out: &mut [u8]) -> usize
+    ensures { λ r. ⌜ Counts r (now (out .exit)) ⌝ }
+{
+    let mut image = io::buffer();
+    let n = read_case(profile, b".profile", &mut image);
+    let mut bytes = io::buffer();
+    let m = read_case(durations, b".durations", &mut bytes);
+    print::dry_text(&image[..n], &bytes[..m], out)
+}
 
 // Whether the plan of a case is what its file says.
-fn plans(hundreds: u8, tens: u8, ones: u8) -> bool {
-    let profile = [
-        hundreds,
-        tens,
-        ones,
-        b'.',
-        b'p',
-        b'r',
-        b'o',
-        b'f',
-        b'i',
-        b'l',
-        b'e',
-    ];
-    let plan = [hundreds, tens, ones, b'.', b'p', b'l', b'a', b'n'];
-    let mut image = io::buffer();
-    let n = read_file(&profile, &mut image);
-    let mut want = io::large_buffer();
-    let wanted = read_file(&plan, &mut want);
+fn plan_agrees(case: usize) -> bool {
     let mut out = io::large_buffer();
-    let k = print::plan_text(&image[..n], &mut out);
+    let k = plan(case, &mut out);
+    let mut want = io::large_buffer();
+    let wanted = read_case(case, b".plan", &mut want);
     check::same(&out[..k], &want[..wanted])
 }
 
 // Whether the dry run of a case is what its file says.
-fn dries(hundreds: u8, tens: u8, ones: u8) -> bool {
-    let profile = [
-        hundreds,
-        tens,
-        ones,
-        b'.',
-        b'p',
-        b'r',
-        b'o',
-        b'f',
-        b'i',
-        b'l',
-        b'e',
-    ];
-    let durations = [
-        hundreds,
-        tens,
-        ones,
-        b'.',
-        b'd',
-        b'u',
-        b'r',
-        b'a',
-        b't',
-        b'i',
-        b'o',
-        b'n',
-        b's',
-    ];
-    let dry = [hundreds, tens, ones, b'.', b'd', b'r', b'y'];
-    let mut image = io::buffer();
-    let n = read_file(&profile, &mut image);
-    let mut bytes = io::buffer();
-    let m = read_file(&durations, &mut bytes);
-    let mut want = io::large_buffer();
-    let wanted = read_file(&dry, &mut want);
+fn dry_run_agrees(case: usize) -> bool {
     let mut out = io::large_buffer();
-    let k = print::dry_text(&image[..n], &bytes[..m], &mut out);
+    let k = dry_run(case, case, &mut out);
+    let mut want = io::large_buffer();
+    let wanted = read_case(case, b".dry", &mut want);
     check::same(&out[..k], &want[..wanted])
 }
 
-// Counts a case that agrees, and names one that does not.
-fn tell(agrees: bool, what: &[u8], case: u64) -> u64
-    ensures { λ r. ⌜ r ≤ 1 ⌝ }
-{
-    if agrees {
-        return 1;
-    }
-    io::write_all(1, what);
-    io::write_all(1, b" differs: ");
-    io::print_decimal(1, case);
-    io::write_all(1, b"\n");
-    0
-}
-
-// How many of them do.
-fn sum_up(agree: u64, what: &[u8]) {
-    io::print_decimal(1, agree);
-    io::write_all(1, b" of ");
-    io::print_decimal(1, CASES);
-    io::write_all(1, what);
-    io::write_all(1, b" agree\n");
+fn say_absent() {
+    let mut out = io::large_buffer();
+    let planned = plan(ABSENT, &mut out);
+    io::write_all(1, b"plan with no profile: ");
+    io::write_all(1, &out[..planned]);
+    let refused = dry_run(ABSENT, 0, &mut out);
+    io::write_all(1, b"dry run with no profile: ");
+    io::write_all(1, &out[..refused]);
+    let few = dry_run(0, ABSENT, &mut out);
+    io::write_all(1, b"dry run with no durations: ");
+    io::write_all(1, &out[..few]);
 }
 
 fn main() {
     let mut planned: u64 = 0;
     let mut dried: u64 = 0;
-    let mut case: u64 = 0;
+    let mut case = 0;
     while case < CASES {
-        let hundreds = b'0' + (case / 100 % 10) as u8;
-        let tens = b'0' + (case / 10 % 10) as u8;
-        let ones = b'0' + (case % 10) as u8;
-        planned += tell(plans(hundreds, tens, ones), b"plan", case);
-        dried += tell(dries(hundreds, tens, ones), b"dry run", case);
+        planned += tell(plan_agrees(case), b"plan", case);
+        dried += tell(dry_run_agrees(case), b"dry run", case);
         case += 1;
     }
-    sum_up(planned, b" plans");
-    sum_up(dried, b" dry runs");
+    sum_up(planned, CASES, b" plans");
+    sum_up(dried, CASES, b" dry runs");
+    say_absent();
 }

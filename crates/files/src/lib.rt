@@ -1,4 +1,5 @@
-// Files of the programs.
+// Files of the programs, and how many values agree with them.
+ghost use Prim.Native.Nat.{_≤_};
 ghost use mathlib.Core.Path.{_≡_};
 ghost use lib.ListN.{length};
 ghost use Rattle.io.specs.Counts.{Counts};
@@ -21,4 +22,27 @@ pub fn long_buffer() -> [u8; 400000]
     ensures { λ r. ⌜ 400000 ≡ length r ⌝ }
 {
     [0; 400000]
+}
+
+// Counts what agrees with its file, and names what does not.
+pub fn tell(agrees: bool, what: &[u8], number: usize) -> u64
+    ensures { λ r. ⌜ r ≤ 1 ⌝ }
+{
+    if agrees {
+        return 1;
+    }
+    io::write_all(1, what);
+    io::write_all(1, b" does not agree: ");
+    io::print_decimal(1, number as u64);
+    io::write_all(1, b"\n");
+    0
+}
+
+// How many agree of how many.
+pub fn sum_up(agreed: u64, all: usize, what: &[u8]) {
+    io::print_decimal(1, agreed);
+    io::write_all(1, b" of ");
+    io::print_decimal(1, all as u64);
+    io::write_all(1, what);
+    io::write_all(1, b" agree\n");
 }

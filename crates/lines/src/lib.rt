@@ -1,11 +1,16 @@
 // Lines of words, as files of outside values have them: a line ends in a newline, one space stands between two words.
 ghost use Prim.Native.Nat.{_+_, _≤_, _<_};
-ghost use lib.ListN.{length};
+ghost use mathlib.Core.Path.{_≡_};
+ghost use lib.ListN.{length, drop};
+ghost use Rattle.io.specs.Counts.{Counts};
+ghost use Rattle.lines.specs.Words.{from-first, after-first, from-word, decimal};
+ghost use Rattle.lines.specs.Words.{capped as Words·capped};
 
 // Where the byte stands first, from index `from` on; the length where it does not.
 pub fn find(text: &[u8], from: usize, byte: u8) -> usize
     requires { ⌜ from ≤ length (now text) ⌝ }
     ensures { λ r. ⌜ (from ≤ r) × (r ≤ length (now (text .entry))) ⌝ }
+    ensures { λ r. ⌜ drop r (now (text .entry)) ≡ from-first byte (drop from (now (text .entry))) ⌝ }
 {
     let mut at = from;
     while at < text.len() {
@@ -17,10 +22,11 @@ pub fn find(text: &[u8], from: usize, byte: u8) -> usize
     at
 }
 
-// The index after that; the length where it does not.
+// The index after that; the length where it stands nowhere.
 pub fn next(text: &[u8], from: usize, byte: u8) -> usize
     requires { ⌜ from ≤ length (now text) ⌝ }
     ensures { λ r. ⌜ (r ≤ length (now (text .entry))) × (from < length (now (text .entry)) → from < r) ⌝ }
+    ensures { λ r. ⌜ drop r (now (text .entry)) ≡ after-first byte (drop from (now (text .entry))) ⌝ }
 {
     let at = find(text, from, byte);
     if at < text.len() {
@@ -32,6 +38,7 @@ pub fn next(text: &[u8], from: usize, byte: u8) -> usize
 // Where word k of a line starts, counted from 0; the length where it has no more.
 pub fn word(line: &[u8], k: usize) -> usize
     ensures { λ r. ⌜ r ≤ length (now (line .entry)) ⌝ }
+    ensures { λ r. ⌜ drop r (now (line .entry)) ≡ from-word k (now (line .entry)) ⌝ }
 {
     let mut at = 0;
     let mut left = k;
@@ -42,9 +49,10 @@ pub fn word(line: &[u8], k: usize) -> usize
     at
 }
 
-// The value of a digit, hexadecimal in lower case; 16 for any other byte.
+// The value of a digit, hexadecimal in lower case; 16 for any other byte. The bytes 48 to 57 are 0 to 9.
 fn digit(b: u8) -> u64
     ensures { λ r. ⌜ r ≤ 16 ⌝ }
+    ensures { λ r. ⌜ (48 ≤ b → b ≤ 57 → r + 48 ≡ b) × (r ≤ 9 → (48 ≤ b) × (b ≤ 57)) ⌝ }
 {
     if b < b'0' {
         return 16;
@@ -63,7 +71,7 @@ fn digit(b: u8) -> u64
 
 // A value that is too large for 32 bits counts as the largest one that is not.
 fn capped(value: u64) -> u32
-    ensures { λ r. ⌜ r ≤ 4294967295 ⌝ }
+    ensures { λ r. ⌜ r ≡ Words·capped value ⌝ }
 {
     if value < 4_294_967_295 {
         return value as u32;
@@ -71,8 +79,10 @@ fn capped(value: u64) -> u32
     4_294_967_295
 }
 
-// Word k as a decimal number, read up to the first byte that is no digit.
-pub fn number(line: &[u8], k: usize) -> u32 {
+// Word k as a decimal number, read up to the first byte that is no digit: 0 where it begins with none.
+pub fn number(line: &[u8], k: usize) -> u32
+    ensures { λ r. ⌜ r ≡ Words·capped (decimal 0 (from-word k (now (line .entry)))) ⌝ }
+{
     let mut value: u32 = 0;
     let mut at = word(line, k);
     while at < line.len() {
@@ -109,7 +119,7 @@ fn pair(line: &[u8], at: usize) -> u64
 
 // The bytes that word 0 says in hexadecimal, as many as fit; answers how many.
 pub fn bytes(line: &[u8], out: &mut [u8]) -> usize
-    ensures { λ r. ⌜ r ≤ length (now (out .entry)) ⌝ }
+    ensures { λ r. ⌜ Counts r (now (out .exit)) ⌝ }
 {
     let mut n = 0;
     let mut at = 0;

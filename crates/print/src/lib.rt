@@ -6,36 +6,36 @@ use text::put_number;
 use text::put_signed;
 ghost use Prim.Native.Nat.{_+_, _*_, _≤_, _<_};
 ghost use lib.ListN.{length};
-
-fn put_refusal(out: &mut [u8], number: u32) -> usize
-    ensures { λ r. ⌜ r ≤ length (now (out .entry)) ⌝ }
-{
-    let at = put_bytes(&mut *out, 0, b"refused ");
-    let end = put_number(&mut *out, at, number);
-    put_byte(out, end, b'\n')
-}
+ghost use Rattle.io.specs.Counts.{Counts};
 
 // A number and the space or line end after it.
 fn put_field(out: &mut [u8], at: usize, n: u32, after: u8) -> usize
-    requires { ⌜ at ≤ length (now out) ⌝ }
-    ensures { λ r. ⌜ r ≤ length (now (out .entry)) ⌝ }
+    requires { ⌜ Counts at (now out) ⌝ }
+    ensures { λ r. ⌜ Counts r (now (out .exit)) ⌝ }
 {
     let end = put_number(&mut *out, at, n);
     put_byte(out, end, after)
 }
 
+fn put_refusal(out: &mut [u8], number: u32) -> usize
+    ensures { λ r. ⌜ Counts r (now (out .exit)) ⌝ }
+{
+    let at = put_bytes(&mut *out, 0, b"refused ");
+    put_field(out, at, number, b'\n')
+}
+
 // ---- the plan
 
 // The limits of a position, each after a space.
-fn put_limits(out: &mut [u8], at: usize, limits: &[i32], from: usize, levels: usize) -> usize
-    requires { ⌜ (at ≤ length (now out)) × (from + levels ≤ length (now limits)) ⌝ }
-    ensures { λ r. ⌜ r ≤ length (now (out .entry)) ⌝ }
+fn put_limits(out: &mut [u8], at: usize, limits: &[i32]) -> usize
+    requires { ⌜ Counts at (now out) ⌝ }
+    ensures { λ r. ⌜ Counts r (now (out .exit)) ⌝ }
 {
     let mut to = at;
     let mut q = 0;
-    while q < levels {
-        let end = put_byte(&mut *out, to, b' ');
-        to = put_signed(&mut *out, end, limits[from + q]);
+    while q < limits.len() {
+        let next = put_byte(&mut *out, to, b' ');
+        to = put_signed(&mut *out, next, limits[q]);
         q += 1;
     }
     to
@@ -50,15 +50,17 @@ fn put_position(
     limits: &[i32],
     levels: usize,
 ) -> usize
-    requires { ⌜ (at ≤ length (now out)) × (i < 64) × (levels ≤ 8) × (i * levels + levels ≤ length (now limits)) ⌝ }
-    ensures { λ r. ⌜ r ≤ length (now (out .entry)) ⌝ }
+    requires { ⌜ Counts at (now out) × (i < 64) × (levels ≤ 8) × (i * levels + levels ≤ length (now limits)) ⌝ }
+    ensures { λ r. ⌜ Counts r (now (out .exit)) ⌝ }
 {
-    let next = put_field(&mut *out, at, i as u32, b' ');
-    let end = put_number(&mut *out, next, action as u32);
-    let last = put_limits(&mut *out, end, limits, i * levels, levels);
-    put_byte(out, last, b'\n')
+    let row = i * levels;
+    let a = put_field(&mut *out, at, i as u32, b' ');
+    let b = put_number(&mut *out, a, action as u32);
+    let c = put_limits(&mut *out, b, &limits[row..row + levels]);
+    put_byte(out, c, b'\n')
 }
 
+// That line for each position.
 fn put_positions(
     out: &mut [u8],
     at: usize,
@@ -67,8 +69,8 @@ fn put_positions(
     n: usize,
     levels: usize,
 ) -> usize
-    requires { ⌜ (at ≤ length (now out)) × (n ≤ 64) × (levels ≤ 8) × (n ≤ length (now order)) × (n * levels ≤ length (now limits)) ⌝ }
-    ensures { λ r. ⌜ r ≤ length (now (out .entry)) ⌝ }
+    requires { ⌜ Counts at (now out) × (n ≤ 64) × (levels ≤ 8) × (n ≤ length (now order)) × (n * levels ≤ length (now limits)) ⌝ }
+    ensures { λ r. ⌜ Counts r (now (out .exit)) ⌝ }
 {
     let mut to = at;
     let mut i = 0;
@@ -81,7 +83,7 @@ fn put_positions(
 
 // Actions, levels, cycle; then position, action and limits by level. Answers how much of `out` it wrote.
 pub fn plan_text(image: &[u8], out: &mut [u8]) -> usize
-    ensures { λ r. ⌜ r ≤ length (now (out .entry)) ⌝ }
+    ensures { λ r. ⌜ Counts r (now (out .exit)) ⌝ }
 {
     let mut order = [0u8; 64];
     let mut limits = [0i32; 512];
@@ -104,7 +106,7 @@ pub fn plan_text(image: &[u8], out: &mut [u8]) -> usize
 
 // The durations that the bytes say, four bytes each, high byte first, as far as `out` has room. Answers how many.
 fn take_durations(bytes: &[u8], out: &mut [u32]) -> usize
-    ensures { λ r. ⌜ r ≤ length (now (out .entry)) ⌝ }
+    ensures { λ r. ⌜ Counts r (now (out .exit)) ⌝ }
 {
     let said = bytes.len() / 4;
     let mut k = 0;
@@ -118,18 +120,26 @@ fn take_durations(bytes: &[u8], out: &mut [u32]) -> usize
     k
 }
 
-// Position, action, level and decided, for each position.
+// Position, action, level and decided.
+fn put_step(out: &mut [u8], at: usize, i: usize, action: u8, level: u8, mark: u8) -> usize
+    requires { ⌜ Counts at (now out) × (i < 64) ⌝ }
+    ensures { λ r. ⌜ Counts r (now (out .exit)) ⌝ }
+{
+    let a = put_field(&mut *out, at, i as u32, b' ');
+    let b = put_field(&mut *out, a, action as u32, b' ');
+    let c = put_field(&mut *out, b, level as u32, b' ');
+    put_field(out, c, mark as u32, b'\n')
+}
+
+// That line for each position.
 fn put_steps(out: &mut [u8], order: &[u8], given: &[u8], marks: &[u8], n: usize) -> usize
     requires { ⌜ (n ≤ 64) × (n ≤ length (now order)) × (n ≤ length (now given)) × (n ≤ length (now marks)) ⌝ }
-    ensures { λ r. ⌜ r ≤ length (now (out .entry)) ⌝ }
+    ensures { λ r. ⌜ Counts r (now (out .exit)) ⌝ }
 {
     let mut to = 0;
     let mut i = 0;
     while i < n {
-        let a = put_field(&mut *out, to, i as u32, b' ');
-        let b = put_field(&mut *out, a, fields::wide32(order[i]), b' ');
-        let c = put_field(&mut *out, b, fields::wide32(given[i]), b' ');
-        to = put_field(&mut *out, c, fields::wide32(marks[i]), b'\n');
+        to = put_step(&mut *out, to, i, order[i], given[i], marks[i]);
         i += 1;
     }
     to
@@ -141,8 +151,8 @@ fn one_if(b: bool) -> u32 {
 
 // Decisions, end, overrun, late.
 fn put_end(out: &mut [u8], at: usize, framed: Framed) -> usize
-    requires { ⌜ at ≤ length (now out) ⌝ }
-    ensures { λ r. ⌜ r ≤ length (now (out .entry)) ⌝ }
+    requires { ⌜ Counts at (now out) ⌝ }
+    ensures { λ r. ⌜ Counts r (now (out .exit)) ⌝ }
 {
     let a = put_field(&mut *out, at, framed.decisions, b' ');
     let b = put_field(&mut *out, a, framed.end, b' ');
@@ -152,7 +162,7 @@ fn put_end(out: &mut [u8], at: usize, framed: Framed) -> usize
 
 // Position, action, level and decided; then decisions, end, overrun, late. Answers how much of `out` it wrote.
 pub fn dry_text(image: &[u8], bytes: &[u8], out: &mut [u8]) -> usize
-    ensures { λ r. ⌜ r ≤ length (now (out .entry)) ⌝ }
+    ensures { λ r. ⌜ Counts r (now (out .exit)) ⌝ }
 {
     let mut durations = [0u32; 512];
     let count = take_durations(bytes, &mut durations);

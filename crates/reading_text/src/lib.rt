@@ -2,8 +2,7 @@
 use ratio::Reading;
 use text::put_bytes;
 use text::put_number;
-ghost use Prim.Native.Nat.{_≤_};
-ghost use lib.ListN.{length};
+ghost use Rattle.io.specs.Counts.{Counts};
 
 // The bits of a ratio. A ratio is never below 0, so what is has bits that no ratio has.
 fn bits(x: f64) -> u64 {
@@ -14,7 +13,7 @@ fn bits(x: f64) -> u64 {
 }
 
 pub fn put_reading(out: &mut [u8], reading: Reading) -> usize
-    ensures { λ r. ⌜ r ≤ length (now (out .entry)) ⌝ }
+    ensures { λ r. ⌜ Counts r (now (out .exit)) ⌝ }
 {
     match reading {
         Reading::Ratio(x) => {

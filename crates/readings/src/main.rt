@@ -1,6 +1,8 @@
 // Outside readings: each line of readings.txt has an image in hexadecimal, the first position, the last, the level, the time, and the
 // reading as the programs print it.
 use files::read_file;
+use files::sum_up;
+use files::tell;
 use reading_text::put_reading;
 
 // Whether the reading that a line asks for is the one that it says.
@@ -18,31 +20,18 @@ fn agrees(line: &[u8]) -> bool {
     check::same(&out[..k], &line[said..])
 }
 
-fn disagrees(line: u64) {
-    io::write_all(1, b"line ");
-    io::print_decimal(1, line);
-    io::write_all(1, b" does not agree\n");
-}
-
-// How many lines agree of how many, and the number of each that does not, counted from 1.
+// How many lines agree of how many, counted from 1.
 fn compare(text: &[u8]) {
     let mut at = 0;
-    let mut line: u64 = 0;
+    let mut line = 0;
     let mut agreed: u64 = 0;
     while at < text.len() {
         let end = lines::find(text, at, b'\n');
         line += 1;
-        if agrees(&text[at..end]) {
-            agreed += 1;
-        } else {
-            disagrees(line);
-        }
+        agreed += tell(agrees(&text[at..end]), b"line", line);
         at = lines::next(text, at, b'\n');
     }
-    io::print_decimal(1, agreed);
-    io::write_all(1, b" of ");
-    io::print_decimal(1, line);
-    io::write_all(1, b" readings agree\n");
+    sum_up(agreed, line, b" readings");
 }
 
 fn main() {

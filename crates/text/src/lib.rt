@@ -1,11 +1,10 @@
-// Lines of numbers in a lent buffer, for the programs. Each function writes at index `at` and answers the index after what it wrote; what
-// does not fit is left out.
-ghost use Prim.Native.Nat.{_≤_};
-ghost use lib.ListN.{length};
+// Lines of numbers in a lent buffer, for the programs. `at` counts the bytes that are written already; each function writes after them and
+// answers the new count. What does not fit is left out.
+ghost use Rattle.io.specs.Counts.{Counts};
 
 pub fn put_byte(out: &mut [u8], at: usize, b: u8) -> usize
-    requires { ⌜ at ≤ length (now out) ⌝ }
-    ensures { λ r. ⌜ r ≤ length (now (out .entry)) ⌝ }
+    requires { ⌜ Counts at (now out) ⌝ }
+    ensures { λ r. ⌜ Counts r (now (out .exit)) ⌝ }
 {
     if at < out.len() {
         out[at] = b;
@@ -15,8 +14,8 @@ pub fn put_byte(out: &mut [u8], at: usize, b: u8) -> usize
 }
 
 pub fn put_bytes(out: &mut [u8], at: usize, from: &[u8]) -> usize
-    requires { ⌜ at ≤ length (now out) ⌝ }
-    ensures { λ r. ⌜ r ≤ length (now (out .entry)) ⌝ }
+    requires { ⌜ Counts at (now out) ⌝ }
+    ensures { λ r. ⌜ Counts r (now (out .exit)) ⌝ }
 {
     let mut to = at;
     let mut i = 0;
@@ -27,9 +26,17 @@ pub fn put_bytes(out: &mut [u8], at: usize, from: &[u8]) -> usize
     to
 }
 
+// The last decimal digit of a number.
+pub fn put_digit(out: &mut [u8], at: usize, n: usize) -> usize
+    requires { ⌜ Counts at (now out) ⌝ }
+    ensures { λ r. ⌜ Counts r (now (out .exit)) ⌝ }
+{
+    put_byte(out, at, b'0' + (n % 10) as u8)
+}
+
 pub fn put_number(out: &mut [u8], at: usize, n: u32) -> usize
-    requires { ⌜ at ≤ length (now out) ⌝ }
-    ensures { λ r. ⌜ r ≤ length (now (out .entry)) ⌝ }
+    requires { ⌜ Counts at (now out) ⌝ }
+    ensures { λ r. ⌜ Counts r (now (out .exit)) ⌝ }
 {
     let mut digits = [0u8; 20];
     let k = io::decimal(n as u64, &mut digits);
@@ -43,8 +50,8 @@ fn raised(z: i32) -> u32 {
 
 // A number that may be negative.
 pub fn put_signed(out: &mut [u8], at: usize, z: i32) -> usize
-    requires { ⌜ at ≤ length (now out) ⌝ }
-    ensures { λ r. ⌜ r ≤ length (now (out .entry)) ⌝ }
+    requires { ⌜ Counts at (now out) ⌝ }
+    ensures { λ r. ⌜ Counts r (now (out .exit)) ⌝ }
 {
     let high = raised(z);
     if 2_147_483_648 <= high {

@@ -1,108 +1,56 @@
 // Outside traces: tNN.profile is an image, tNN.trace a trace, and tNN.refreshed the new image, empty with a refusal.
 use files::read_file;
+use files::sum_up;
+use files::tell;
+ghost use Rattle.io.specs.Counts.{Counts};
 
-// The number that each trace is refused with, 0 for none.
-const NUMBERS: [u32; 24] = [
-    0,
-    0,
-    0,
-    0,
-    0,
-    0,
-    14,
-    14,
-    15,
-    15,
-    16,
-    0,
-    0,
-    0,
-    0,
-    0,
-    0,
-    0,
-    0,
-    0,
-    0,
-    0,
-    0,
-    0,
-];
+const TRACES: usize = 24;
 
-// Whether the refresh of an image by a trace answers the number and the new image, and keeps the rest of the lent slice.
-fn answers(image: &[u8], trace: &[u8], number: u32, want: &[u8]) -> bool {
-    let mut out = [0xa5u8; 4096];
-    let blank = [0xa5u8; 4096];
-    let answer = refresh::refresh(image, trace, &mut out);
-    let bytes = answer.bytes;
-    if answer.refusal.number != number {
-        return false;
+// The number that a trace is refused with, 0 for none.
+fn number(trace: usize) -> u32 {
+    match trace {
+        6 | 7 => 14,
+        8 | 9 => 15,
+        10 => 16,
+        _ => 0,
     }
-    if 4096 < bytes {
-        return false;
-    }
-    check::same(&out[..bytes], want) && check::same(&out[bytes..], &blank[bytes..])
 }
 
-// Whether a trace gives what its files say.
-fn agrees(tens: u8, ones: u8, number: u32) -> bool {
-    let profile = [
-        b't',
-        tens,
-        ones,
-        b'.',
-        b'p',
-        b'r',
-        b'o',
-        b'f',
-        b'i',
-        b'l',
-        b'e',
-    ];
-    let file = [b't', tens, ones, b'.', b't', b'r', b'a', b'c', b'e'];
-    let refreshed = [
-        b't',
-        tens,
-        ones,
-        b'.',
-        b'r',
-        b'e',
-        b'f',
-        b'r',
-        b'e',
-        b's',
-        b'h',
-        b'e',
-        b'd',
-    ];
+// How much of a trace's file there is at the start of `out`: the file whose name is t, the trace in two digits, then `what`.
+fn read_trace(trace: usize, what: &[u8], out: &mut [u8]) -> usize
+    ensures { λ r. ⌜ Counts r (now (out .exit)) ⌝ }
+{
+    let mut name = [0u8; 32];
+    let letter = text::put_byte(&mut name, 0, b't');
+    let tens = text::put_digit(&mut name, letter, trace / 10);
+    let ones = text::put_digit(&mut name, tens, trace);
+    let end = text::put_bytes(&mut name, ones, what);
+    read_file(&name[..end], out)
+}
+
+// Whether the refresh by a trace answers its number and its new image. The lent slice and the wanted one start out alike, so that they stay
+// alike only where the refresh keeps what it does not write.
+fn agrees(trace: usize) -> bool {
     let mut image = io::buffer();
-    let n = read_file(&profile, &mut image);
-    let mut trace = files::long_buffer();
-    let m = read_file(&file, &mut trace);
-    let mut want = io::buffer();
-    let wanted = read_file(&refreshed, &mut want);
-    answers(&image[..n], &trace[..m], number, &want[..wanted])
-}
-
-fn disagrees(case: usize) {
-    io::write_all(1, b"t");
-    io::print_decimal(1, case as u64);
-    io::write_all(1, b" does not agree\n");
+    let n = read_trace(trace, b".profile", &mut image);
+    let mut records = files::long_buffer();
+    let m = read_trace(trace, b".trace", &mut records);
+    let mut want = [0xa5u8; 4096];
+    let wanted = read_trace(trace, b".refreshed", &mut want);
+    let mut out = [0xa5u8; 4096];
+    let answer = refresh::refresh(&image[..n], &records[..m], &mut out);
+    if answer.refusal.number != number(trace) {
+        return false;
+    }
+    answer.bytes == wanted && check::same(&out, &want)
 }
 
 fn main() {
     let mut agreed: u64 = 0;
-    let mut case = 0;
-    while case < 24 {
-        let tens = b'0' + (case / 10) as u8;
-        let ones = b'0' + (case % 10) as u8;
-        if agrees(tens, ones, NUMBERS[case]) {
-            agreed += 1;
-        } else {
-            disagrees(case);
-        }
-        case += 1;
+    let mut trace = 0;
+    while trace < TRACES {
+        agreed += tell(agrees(trace), b"trace", trace);
+        trace += 1;
     }
-    io::print_decimal(1, agreed);
-    io::write_all(1, b" of 24 traces agree\n");
+    sum_up(agreed, TRACES, b" traces");
 }

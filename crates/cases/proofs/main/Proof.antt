@@ -1,38 +1,21 @@
 -- No more agree than there are. Assumes nothing.
 use Prim.Native.Nat.{_≤_, _-_}
+use native.Mathlib.Omega.{arith}
 use borrow.Author.Needs.{needs}
 use Rattle.cases.proofs.main.Statement.{statement}
 use Rattle.cases.proofs.main.Tie as tie
 
 abbrev Inv-loop : tie.InvT-loop
-Inv-loop planned₀ dried₀ case₀ t7 t8 t9 t10 planned dried case = (case ≤ 418) × (planned ≤ case) × (dried ≤ case)
+Inv-loop planned₀ dried₀ case₀ t4 t5 t6 t7 planned dried case = (case ≤ 418) × (planned ≤ case) × (dried ≤ case)
 
 abbrev μ-loop : tie.MeasureT-loop
-μ-loop planned₀ dried₀ case₀ t7 t8 t9 t10 planned dried case = 418 - case
+μ-loop planned₀ dried₀ case₀ t4 t5 t6 t7 planned dried case = 418 - case
 
 loop-holds : tie.Need-loop-holds Inv-loop μ-loop
 loop-holds c = search needs
 
-cast-hundreds : tie.Need-cast-hundreds Inv-loop μ-loop
-cast-hundreds c = search needs
-
-add-hundreds : tie.Need-add-hundreds Inv-loop μ-loop
-add-hundreds c = search needs
-
-cast-tens : tie.Need-cast-tens Inv-loop μ-loop
-cast-tens c = search needs
-
-add-tens : tie.Need-add-tens Inv-loop μ-loop
-add-tens c = search needs
-
-cast-ones : tie.Need-cast-ones Inv-loop μ-loop
-cast-ones c = search needs
-
-add-ones : tie.Need-add-ones Inv-loop μ-loop
-add-ones c = search needs
-
-plans-requires : tie.Need-plans-requires Inv-loop μ-loop
-plans-requires c κs = search needs
+plan-agrees-requires : tie.Need-plan-agrees-requires Inv-loop μ-loop
+plan-agrees-requires c κs = search needs
 
 slice-aggregate-tell : tie.Need-slice-aggregate-tell Inv-loop μ-loop
 slice-aggregate-tell c = search needs
@@ -41,10 +24,10 @@ tell-requires : tie.Need-tell-requires Inv-loop μ-loop
 tell-requires c κs = search needs
 
 add-planned : tie.Need-add-planned Inv-loop μ-loop
-add-planned c = search needs
+add-planned c = omega arith
 
-dries-requires : tie.Need-dries-requires Inv-loop μ-loop
-dries-requires c κs = search needs
+dry-run-agrees-requires : tie.Need-dry-run-agrees-requires Inv-loop μ-loop
+dry-run-agrees-requires c κs = search needs
 
 slice-aggregate-tell-2 : tie.Need-slice-aggregate-tell-2 Inv-loop μ-loop
 slice-aggregate-tell-2 c = search needs
@@ -53,13 +36,13 @@ tell-requires-2 : tie.Need-tell-requires-2 Inv-loop μ-loop
 tell-requires-2 c κs = search needs
 
 add-dried : tie.Need-add-dried Inv-loop μ-loop
-add-dried c = search needs
+add-dried c = omega arith
 
 add-case : tie.Need-add-case Inv-loop μ-loop
-add-case c = search needs
+add-case c = omega arith
 
 loop-less : tie.Need-loop-less Inv-loop μ-loop
-loop-less c = search needs
+loop-less c = omega arith
 
 loop-again : tie.Need-loop-again Inv-loop μ-loop
 loop-again c = search needs
@@ -76,6 +59,9 @@ slice-aggregate-sum-up-2 c = search needs
 sum-up-requires-2 : tie.Need-sum-up-requires-2 Inv-loop μ-loop
 sum-up-requires-2 c κs = search needs
 
+say-absent-requires : tie.Need-say-absent-requires Inv-loop μ-loop
+say-absent-requires c κs = search needs
+
 returns : tie.Need-returns Inv-loop μ-loop
 returns c = search needs
 
@@ -86,17 +72,11 @@ main-spec =
     Inv-loop
     μ-loop
     loop-holds
-    cast-hundreds
-    add-hundreds
-    cast-tens
-    add-tens
-    cast-ones
-    add-ones
-    plans-requires
+    plan-agrees-requires
     slice-aggregate-tell
     tell-requires
     add-planned
-    dries-requires
+    dry-run-agrees-requires
     slice-aggregate-tell-2
     tell-requires-2
     add-dried
@@ -107,4 +87,5 @@ main-spec =
     sum-up-requires
     slice-aggregate-sum-up-2
     sum-up-requires-2
+    say-absent-requires
     returns)

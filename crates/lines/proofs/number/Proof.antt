@@ -1,54 +1,77 @@
--- The index stays within the line, and a value below 2 ^ 32 with one digit more fits. Assumes nothing.
-use Prim.Native.Nat.{_≤_, _-_}
-use lib.ListN.{length}
+-- What the digits so far and those that are left say stays the same. Assumes nothing.
+use Prim.Native.Nat.{ℕ, _+_, _*_, _≤_, _-_}
+use mathlib.Core.Path.{_≡_, sym, ap, _∙_}
+use mathlib.Core.List.{List}
+use native.Mathlib.Omega.{arith}
+use lib.ListN.{length, drop}
+use Rattle.lines.specs.Words.{from-word, decimal, capped}
+use Rattle.lines.proofs.Passed.{digit-here, digits-end, text-end, capped-once}
 use borrow.Author.Needs.{needs}
 use Rattle.lines.proofs.number.Statement.{statement}
 use Rattle.lines.proofs.number.Tie as tie
 
 abbrev Inv-loop : tie.InvT-loop
-Inv-loop line k value₀ at₀ value at = (at ≤ length line) × (value ≤ 4294967295)
+Inv-loop line k value₀ at₀ value at = (at ≤ length line) × (value ≤ 4294967295) × (capped (decimal 0 (from-word k line)) ≡ capped (decimal value (drop at line)))
 
 abbrev μ-loop : tie.MeasureT-loop
 μ-loop line k value₀ at₀ value at = length line - at
+
+abbrev line : tie.At-loop Inv-loop μ-loop → List ℕ
+line turn = turn .before .before .before .args .line .now
 
 word-requires : tie.Need-word-requires Inv-loop μ-loop
 word-requires c κs = search needs
 
 loop-holds : tie.Need-loop-holds Inv-loop μ-loop
-loop-holds c = search needs
+loop-holds c = (search needs, search needs, ap (λ (l : List ℕ). capped (decimal 0 l)) (sym (c .word .ensures .1)))
 
 shared-slice-read-digit : tie.Need-shared-slice-read-digit Inv-loop μ-loop
-shared-slice-read-digit c = search needs
+shared-slice-read-digit c = omega arith
 
 digit-requires : tie.Need-digit-requires Inv-loop μ-loop
 digit-requires c κs = search needs
 
 returns : tie.Need-returns Inv-loop μ-loop
-returns c = search needs
+returns c =
+    let turn = c .before .before .before .before in
+    let digit = c .before .digit .ensures .1 .0 in
+    let end = digits-end (line turn) (turn .loop .at) (turn .loop .value) (omega arith) (λ low high. omega (arith, digit low high)) in
+    omega (arith, turn .loop .inv .2, ap capped end)
 
 cast-capped : tie.Need-cast-capped Inv-loop μ-loop
-cast-capped c = search needs
+cast-capped c = omega arith
 
 mul-capped : tie.Need-mul-capped Inv-loop μ-loop
-mul-capped c = search needs
+mul-capped c = omega arith
 
 add-capped : tie.Need-add-capped Inv-loop μ-loop
-add-capped c = search needs
+add-capped c = omega arith
 
 capped-requires : tie.Need-capped-requires Inv-loop μ-loop
 capped-requires c κs = search needs
 
 add-at : tie.Need-add-at Inv-loop μ-loop
-add-at c = search needs
+add-at c = omega arith
 
 loop-less : tie.Need-loop-less Inv-loop μ-loop
-loop-less c = search needs
+loop-less c = omega arith
 
 loop-again : tie.Need-loop-again Inv-loop μ-loop
-loop-again c = search needs
+loop-again c =
+    let turn = c .before .before .before .before .before in
+    let was = turn .loop in
+    let digit = c .before .before .digit in
+    let is = digit .ensures .1 .1 (omega arith) in
+    let here = digit-here (line turn) (was .at) (was .value) (digit .result) (omega arith) (is .0) (is .1) (digit .ensures .1 .0 (is .0) (is .1)) in
+    let rest = drop (was .at + 1) (line turn) in
+    let once = capped-once (was .value * 10 + digit .result) rest in
+    let now = ap (λ (v : ℕ). capped (decimal v rest)) (sym (c .capped .ensures)) in
+    (search needs, search needs, was .inv .2 ∙ ap capped here ∙ sym once ∙ now)
 
 returns-2 : tie.Need-returns-2 Inv-loop μ-loop
-returns-2 c = search needs
+returns-2 c =
+    let turn = c .before in
+    omega (arith, turn .loop .inv .2, ap capped (text-end (line turn) (turn .loop .at) (turn .loop .value) (omega arith)))
 
 pub number-spec : {M : Type 1} → statement M
 number-spec =

@@ -1,12 +1,16 @@
--- The index stays within the line. Assumes nothing.
-use Prim.Native.Nat.{_≤_}
-use lib.ListN.{length}
+-- From the index on the words that are left stand. Assumes nothing.
+use Prim.Native.Nat.{_≤_, _-_}
+use mathlib.Core.Path.{_≡_, sym, ap, _∙_}
+use native.Mathlib.Omega.{arith}
+use lib.ListN.{length, drop}
 use borrow.Author.Needs.{needs}
+use Rattle.lines.specs.Words.{from-word}
+use Rattle.lines.proofs.Passed.{word-after}
 use Rattle.lines.proofs.word.Statement.{statement}
 use Rattle.lines.proofs.word.Tie as tie
 
 abbrev Inv-loop : tie.InvT-loop
-Inv-loop line k at₀ left₀ at left = at ≤ length line
+Inv-loop line k at₀ left₀ at left = (at ≤ length line) × (from-word k line ≡ from-word left (drop at line))
 
 abbrev μ-loop : tie.MeasureT-loop
 μ-loop line k at₀ left₀ at left = left
@@ -18,16 +22,22 @@ next-requires : tie.Need-next-requires Inv-loop μ-loop
 next-requires c κs = search needs
 
 sub-left : tie.Need-sub-left Inv-loop μ-loop
-sub-left c = search needs
+sub-left c = omega arith
 
 loop-less : tie.Need-loop-less Inv-loop μ-loop
-loop-less c = search needs
+loop-less c = omega arith
 
 loop-again : tie.Need-loop-again Inv-loop μ-loop
-loop-again c = search needs
+loop-again c =
+    let turn = c .before .before .loop in
+    let next = ap (from-word (turn .left - 1)) (sym (c .next .ensures .1)) in
+    (search needs, turn .inv .1 ∙ word-after (turn .left) _ (omega arith) ∙ next)
 
 returns : tie.Need-returns Inv-loop μ-loop
-returns c = search needs
+unfolding from-word
+returns c =
+    let none : c .before .loop .left ≡ 0 = omega arith in
+    (search needs, sym (rw none at (c .before .loop .inv .1)))
 
 pub word-spec : {M : Type 1} → statement M
 word-spec =

@@ -13,7 +13,7 @@ take-durations-requires : tie.Need-take-durations-requires
 take-durations-requires c κs = search needs
 
 array-share-prefix-durations : tie.Need-array-share-prefix-durations
-array-share-prefix-durations c = search needs
+array-share-prefix-durations c = omega arith
 
 slice-aggregate-dry-frame : tie.Need-slice-aggregate-dry-frame
 slice-aggregate-dry-frame c = simp length-take (omega arith)
@@ -34,7 +34,7 @@ put-refusal-requires : tie.Need-put-refusal-requires
 put-refusal-requires c κs = search needs
 
 same-length : tie.Need-same-length
-same-length c = search needs
+same-length c = omega arith
 
 returns : tie.Need-returns
 returns c = search needs
@@ -60,7 +60,7 @@ put-end-requires : tie.Need-put-end-requires
 put-end-requires c κs = search needs
 
 same-length-2 : tie.Need-same-length-2
-same-length-2 c = search needs
+same-length-2 c = omega arith
 
 returns-2 : tie.Need-returns-2
 returns-2 c = search needs

@@ -29,7 +29,7 @@ put-refusal-requires : tie.Need-put-refusal-requires
 put-refusal-requires c κs = search needs
 
 same-length : tie.Need-same-length
-same-length c = search needs
+same-length c = omega arith
 
 returns : tie.Need-returns
 returns c = search needs
@@ -64,7 +64,7 @@ put-positions-requires c κs =
     (search needs, k .0, k .1, omega (arith, lengths .1 .0, k .0), omega (arith, lengths .1 .1 .0, cells))
 
 same-length-2 : tie.Need-same-length-2
-same-length-2 c = search needs
+same-length-2 c = omega arith
 
 returns-2 : tie.Need-returns-2
 returns-2 c = search needs

@@ -1,5 +1,6 @@
--- Assumes nothing.
+-- The row of a position lies within the limits. Assumes nothing.
 use borrow.Author.Needs.{needs}
+use Rattle.io.specs.Counts.{Counts}
 use Prim.Native.Nat.{_≤_, _-_}
 use mathlib.Core.Path.{_≡_}
 use lib.ListN.{length}
@@ -9,34 +10,34 @@ use Rattle.print.proofs.put_positions.Statement.{statement}
 use Rattle.print.proofs.put_positions.Tie as tie
 
 abbrev Inv-loop : tie.InvT-loop
-Inv-loop out₀ at order limits n levels to₀ i₀ out to i = (i ≤ n) × (length out ≡ length out₀) × (to ≤ length out₀)
+Inv-loop out₀ at order limits n levels to₀ i₀ out to i = (i ≤ n) × (length out ≡ length out₀) × Counts to out
 
 abbrev μ-loop : tie.MeasureT-loop
 μ-loop out₀ at order limits n levels to₀ i₀ out to i = n - i
 
 loop-holds : tie.Need-loop-holds Inv-loop μ-loop
-loop-holds c = search needs
+loop-holds c = (omega arith, omega arith, search needs)
 
 shared-slice-read-put-position : tie.Need-shared-slice-read-put-position Inv-loop μ-loop
-shared-slice-read-put-position c = search needs
+shared-slice-read-put-position c = omega arith
 
 put-position-requires : tie.Need-put-position-requires Inv-loop μ-loop
 put-position-requires c κs =
     let x = c .before .before .before .before .before .before .args in
     let fits = stride-fits (c .before .before .before .loop .i) (x .n) (x .levels) (omega arith) in
-    (omega arith, omega arith, omega arith, omega arith)
+    (search needs, omega arith, omega arith, omega arith)
 
 add-i : tie.Need-add-i Inv-loop μ-loop
-add-i c = search needs
+add-i c = omega arith
 
 loop-less : tie.Need-loop-less Inv-loop μ-loop
-loop-less c = search needs
+loop-less c = omega arith
 
 loop-again : tie.Need-loop-again Inv-loop μ-loop
-loop-again c = search needs
+loop-again c = (omega arith, omega arith, search needs)
 
 same-length : tie.Need-same-length Inv-loop μ-loop
-same-length c = search needs
+same-length c = omega arith
 
 returns : tie.Need-returns Inv-loop μ-loop
 returns c = search needs

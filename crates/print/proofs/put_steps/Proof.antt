@@ -1,64 +1,45 @@
--- Assumes nothing.
-use borrow.Author.Needs.{needs}
+-- The count stays within the buffer. Assumes nothing.
 use Prim.Native.Nat.{_≤_, _-_}
 use mathlib.Core.Path.{_≡_}
 use lib.ListN.{length}
+use Rattle.io.specs.Counts.{Counts}
+use native.Mathlib.Omega.{arith}
+use borrow.Author.Needs.{needs}
 use Rattle.print.proofs.put_steps.Statement.{statement}
 use Rattle.print.proofs.put_steps.Tie as tie
 
 abbrev Inv-loop : tie.InvT-loop
-Inv-loop out₀ order given marks n to₀ i₀ out to i = (i ≤ n) × (length out ≡ length out₀) × (to ≤ length out₀)
+Inv-loop out₀ order given marks n to₀ i₀ out to i = (i ≤ n) × (length out ≡ length out₀) × Counts to out
 
 abbrev μ-loop : tie.MeasureT-loop
 μ-loop out₀ order given marks n to₀ i₀ out to i = n - i
 
 loop-holds : tie.Need-loop-holds Inv-loop μ-loop
-loop-holds c = search needs
+loop-holds c = (omega arith, omega arith, search needs)
 
-cast-put-field : tie.Need-cast-put-field Inv-loop μ-loop
-cast-put-field c = search needs
+shared-slice-read-put-step : tie.Need-shared-slice-read-put-step Inv-loop μ-loop
+shared-slice-read-put-step c = omega arith
 
-put-field-requires : tie.Need-put-field-requires Inv-loop μ-loop
-put-field-requires c κs = search needs
+shared-slice-read-put-step-2 : tie.Need-shared-slice-read-put-step-2 Inv-loop μ-loop
+shared-slice-read-put-step-2 c = omega arith
 
-shared-slice-read-wide32 : tie.Need-shared-slice-read-wide32 Inv-loop μ-loop
-shared-slice-read-wide32 c = search needs
+shared-slice-read-put-step-3 : tie.Need-shared-slice-read-put-step-3 Inv-loop μ-loop
+shared-slice-read-put-step-3 c = omega arith
 
-wide32-requires : tie.Need-wide32-requires Inv-loop μ-loop
-wide32-requires c κs = search needs
-
-put-field-requires-2 : tie.Need-put-field-requires-2 Inv-loop μ-loop
-put-field-requires-2 c κs = search needs
-
-shared-slice-read-wide32-2 : tie.Need-shared-slice-read-wide32-2 Inv-loop μ-loop
-shared-slice-read-wide32-2 c = search needs
-
-wide32-requires-2 : tie.Need-wide32-requires-2 Inv-loop μ-loop
-wide32-requires-2 c κs = search needs
-
-put-field-requires-3 : tie.Need-put-field-requires-3 Inv-loop μ-loop
-put-field-requires-3 c κs = search needs
-
-shared-slice-read-wide32-3 : tie.Need-shared-slice-read-wide32-3 Inv-loop μ-loop
-shared-slice-read-wide32-3 c = search needs
-
-wide32-requires-3 : tie.Need-wide32-requires-3 Inv-loop μ-loop
-wide32-requires-3 c κs = search needs
-
-put-field-requires-4 : tie.Need-put-field-requires-4 Inv-loop μ-loop
-put-field-requires-4 c κs = search needs
+put-step-requires : tie.Need-put-step-requires Inv-loop μ-loop
+put-step-requires c κs = search needs
 
 add-i : tie.Need-add-i Inv-loop μ-loop
-add-i c = search needs
+add-i c = omega arith
 
 loop-less : tie.Need-loop-less Inv-loop μ-loop
-loop-less c = search needs
+loop-less c = omega arith
 
 loop-again : tie.Need-loop-again Inv-loop μ-loop
-loop-again c = search needs
+loop-again c = (omega arith, omega arith, search needs)
 
 same-length : tie.Need-same-length Inv-loop μ-loop
-same-length c = search needs
+same-length c = omega arith
 
 returns : tie.Need-returns Inv-loop μ-loop
 returns c = search needs
@@ -70,17 +51,10 @@ put-steps-spec =
     Inv-loop
     μ-loop
     loop-holds
-    cast-put-field
-    put-field-requires
-    shared-slice-read-wide32
-    wide32-requires
-    put-field-requires-2
-    shared-slice-read-wide32-2
-    wide32-requires-2
-    put-field-requires-3
-    shared-slice-read-wide32-3
-    wide32-requires-3
-    put-field-requires-4
+    shared-slice-read-put-step
+    shared-slice-read-put-step-2
+    shared-slice-read-put-step-3
+    put-step-requires
     add-i
     loop-less
     loop-again

@@ -1,64 +1,45 @@
 -- No more agree than there are. Assumes nothing.
 use Prim.Native.Nat.{_≤_, _-_}
-use mathlib.Core.Logic.{⊎-elim}
 use native.Mathlib.Omega.{arith}
 use borrow.Author.Needs.{needs}
 use Rattle.traces.proofs.main.Statement.{statement}
 use Rattle.traces.proofs.main.Tie as tie
 
 abbrev Inv-loop : tie.InvT-loop
-Inv-loop agreed₀ case₀ t5 agreed case = (case ≤ 24) × (agreed ≤ case)
+Inv-loop agreed₀ trace₀ t3 t4 agreed trace = (trace ≤ 24) × (agreed ≤ trace)
 
 abbrev μ-loop : tie.MeasureT-loop
-μ-loop agreed₀ case₀ t5 agreed case = 24 - case
+μ-loop agreed₀ trace₀ t3 t4 agreed trace = 24 - trace
 
 loop-holds : tie.Need-loop-holds Inv-loop μ-loop
 loop-holds c = search needs
 
-cast-tens : tie.Need-cast-tens Inv-loop μ-loop
-cast-tens c = search needs
-
-add-tens : tie.Need-add-tens Inv-loop μ-loop
-add-tens c = search needs
-
-cast-ones : tie.Need-cast-ones Inv-loop μ-loop
-cast-ones c = search needs
-
-add-ones : tie.Need-add-ones Inv-loop μ-loop
-add-ones c = search needs
-
-mul-agrees : tie.Need-mul-agrees Inv-loop μ-loop
-mul-agrees c = search needs
-
-array-read-agrees : tie.Need-array-read-agrees Inv-loop μ-loop
-array-read-agrees c = search needs
-
 agrees-requires : tie.Need-agrees-requires Inv-loop μ-loop
 agrees-requires c κs = search needs
 
+slice-aggregate-tell : tie.Need-slice-aggregate-tell Inv-loop μ-loop
+slice-aggregate-tell c = search needs
+
+tell-requires : tie.Need-tell-requires Inv-loop μ-loop
+tell-requires c κs = search needs
+
 add-agreed : tie.Need-add-agreed Inv-loop μ-loop
-add-agreed c = search needs
+add-agreed c = omega arith
 
-disagrees-requires : tie.Need-disagrees-requires Inv-loop μ-loop
-disagrees-requires c κs = search needs
-
-add-case : tie.Need-add-case Inv-loop μ-loop
-add-case c = search needs
+add-trace : tie.Need-add-trace Inv-loop μ-loop
+add-trace c = omega arith
 
 loop-less : tie.Need-loop-less Inv-loop μ-loop
-loop-less c = search needs
+loop-less c = omega arith
 
 loop-again : tie.Need-loop-again Inv-loop μ-loop
-loop-again c = ⊎-elim (λ w. omega arith) (λ w. omega arith) (c .if1 .came)
+loop-again c = search needs
 
-print-decimal-requires : tie.Need-print-decimal-requires Inv-loop μ-loop
-print-decimal-requires c κs = search needs
+slice-aggregate-sum-up : tie.Need-slice-aggregate-sum-up Inv-loop μ-loop
+slice-aggregate-sum-up c = search needs
 
-slice-aggregate-write-all : tie.Need-slice-aggregate-write-all Inv-loop μ-loop
-slice-aggregate-write-all c = search needs
-
-write-all-requires : tie.Need-write-all-requires Inv-loop μ-loop
-write-all-requires c κs = search needs
+sum-up-requires : tie.Need-sum-up-requires Inv-loop μ-loop
+sum-up-requires c κs = search needs
 
 returns : tie.Need-returns Inv-loop μ-loop
 returns c = search needs
@@ -70,19 +51,13 @@ main-spec =
     Inv-loop
     μ-loop
     loop-holds
-    cast-tens
-    add-tens
-    cast-ones
-    add-ones
-    mul-agrees
-    array-read-agrees
     agrees-requires
+    slice-aggregate-tell
+    tell-requires
     add-agreed
-    disagrees-requires
-    add-case
+    add-trace
     loop-less
     loop-again
-    print-decimal-requires
-    slice-aggregate-write-all
-    write-all-requires
+    slice-aggregate-sum-up
+    sum-up-requires
     returns)
