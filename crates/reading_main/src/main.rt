@@ -37,7 +37,7 @@ fn say_ratio(x: f64) {
 fn say_reading(reading: Reading) {
     let mut text = [0u8; 32];
     let k = put_reading(&mut text, reading);
-    io::write_all(1, &text[..k]);
+    io::write_all(1, &text[0..k]);
     match reading {
         Reading::Ratio(x) => say_ratio(x),
         Reading::Spent => {}
@@ -157,9 +157,9 @@ fn own_refusals() {
 fn say_damaged(number: u32) {
     let image = samples::damaged(number);
     let bytes = samples::damaged_bytes(number);
-    say_reading(speed::speed_reading(&image[..bytes], 0, 0, 0, 0));
+    say_reading(speed::speed_reading(&image[0..bytes], 0, 0, 0, 0));
     io::write_all(1, b", first: ");
-    say_reading(speed::speed_reading(&image[..bytes], 1, 0, 1, 1_073_741_824));
+    say_reading(speed::speed_reading(&image[0..bytes], 1, 0, 1, 1_073_741_824));
     io::write_all(1, b"\n");
 }
 
@@ -168,9 +168,13 @@ fn image_refusals() {
         1,
         b"One damaged, asked for position 0; and for what would be 18 and 13\n",
     );
-    let mut number = 1;
-    while number < 10 {
-        say_damaged(number);
-        number += 1;
-    }
+    say_damaged(1);
+    say_damaged(2);
+    say_damaged(3);
+    say_damaged(4);
+    say_damaged(5);
+    say_damaged(6);
+    say_damaged(7);
+    say_damaged(8);
+    say_damaged(9);
 }

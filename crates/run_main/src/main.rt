@@ -30,21 +30,16 @@ fn main() {
 // ---- answers
 
 fn same(a: Run, b: Run) -> bool {
-    same_counts(a, b) && same_marks(a, b)
-}
-
-fn same_counts(a: Run, b: Run) -> bool {
-    a.n == b.n
-        && a.levels == b.levels
-        && a.position == b.position
-        && a.clock == b.clock
-        && a.level == b.level
-        && a.left == b.left
-        && a.decisions == b.decisions
-}
-
-fn same_marks(a: Run, b: Run) -> bool {
-    a.running == b.running && a.overrun == b.overrun && a.late == b.late
+    (a.n == b.n)
+        & (a.levels == b.levels)
+        & (a.position == b.position)
+        & (a.clock == b.clock)
+        & (a.level == b.level)
+        & (a.left == b.left)
+        & (a.decisions == b.decisions)
+        & (a.running == b.running)
+        & (a.overrun == b.overrun)
+        & (a.late == b.late)
 }
 
 // The number of a refusal, 0 for none, where a refusal gave the record back as it was.
@@ -97,7 +92,9 @@ fn say_answer(words: &[u8], number: u32) {
     io::print_decimal(1, number as u64);
 }
 
-fn end_line() {
+// The answer that ends its line.
+fn say_last(words: &[u8], number: u32) {
+    say_answer(words, number);
     io::write_all(1, b"\n");
 }
 
@@ -121,8 +118,7 @@ fn starts() {
 fn start(n: u32, levels: u32) {
     let started = Run::start(n, levels);
     let run = started.run;
-    say::number(b"start ", n);
-    say::number(b" ", levels);
+    say::numbers(b"start _ _", &[n, levels]);
     say_answer(b": ", started.refusal);
     if started.refusal == 0 {
         say_fresh(run, fresh(n, levels));
@@ -130,8 +126,7 @@ fn start(n: u32, levels: u32) {
         say_fresh(run, fresh(0, 0));
     }
     say_answer(b", ask ", ask_number(run, ask(run)));
-    say_answer(b", report ", report_number(run, report(run, 0)));
-    end_line();
+    say_last(b", report ", report_number(run, report(run, 0)));
 }
 
 // Sets n and L, all else 0 or no; a refused start has zero actions.
@@ -152,9 +147,7 @@ fn fresh(n: u32, levels: u32) -> Run {
 
 fn say_fresh(run: Run, wanted: Run) {
     if same(run, wanted) {
-        say::number(b" with n ", run.n);
-        say::number(b", levels ", run.levels);
-        io::write_all(1, b", all else 0");
+        say::numbers(b" with n _, levels _, all else 0", &[run.n, run.levels]);
         return;
     }
     io::write_all(1, b" with another record");
@@ -236,14 +229,18 @@ fn greatest() -> Run {
 }
 
 fn say_record(run: Run) {
-    say::number(b"of n ", run.n);
-    say::number(b", levels ", run.levels);
-    say::number(b", position ", run.position);
-    say::number(b", clock ", run.clock);
-    say::number(b", level ", run.level);
-    say::number(b", left ", run.left);
-    say::number(b", decisions ", run.decisions);
-    end_line();
+    say::numbers(
+        b"of n _, levels _, position _, clock _, level _, left _, decisions _\n",
+        &[
+            run.n,
+            run.levels,
+            run.position,
+            run.clock,
+            run.level,
+            run.left,
+            run.decisions,
+        ],
+    );
 }
 
 fn fields_of_greatest() {
@@ -291,8 +288,7 @@ fn edge(run: Run, field: Field, value: u32) {
     let runs = running(waits);
     say_field(field, value);
     say_answer(b": ask ", ask_number(waits, ask(waits)));
-    say_answer(b", report ", report_number(runs, report(runs, runs.clock)));
-    end_line();
+    say_last(b", report ", report_number(runs, report(runs, runs.clock)));
 }
 
 // ---- tables of odd lengths, for 3 actions at 2 levels
@@ -316,15 +312,15 @@ fn ask_rooms() {
 }
 
 // A line on asking with that much of each table.
-fn ask_room(run: Run, a: usize, b: usize, c: usize)
+fn ask_room(run: Run, a: u32, b: u32, c: u32)
     requires { ⌜ (a ≤ 4) × (b ≤ 7) × (c ≤ 97) ⌝ }
 {
     say_state(run);
-    say::count(b", order ", a);
-    say::count(b", limits ", b);
-    say::count(b", bounds ", c);
-    say_answer(b": ask ", ask_front(run, a, b, c));
-    end_line();
+    say::numbers(b", order _, limits _, bounds _", &[a, b, c]);
+    say_last(
+        b": ask ",
+        ask_front(run, a as usize, b as usize, c as usize),
+    );
 }
 
 fn ask_front(run: Run, a: usize, b: usize, c: usize) -> u32
@@ -333,7 +329,7 @@ fn ask_front(run: Run, a: usize, b: usize, c: usize) -> u32
     let order = [0u8; 4];
     let limits = [0i32; 7];
     let bounds = [0i32; 97];
-    let asked = run.ask(&order[..a], &limits[..b], &bounds[..c]);
+    let asked = run.ask(&order[0..a], &limits[0..b], &bounds[0..c]);
     ask_number(run, asked)
 }
 
@@ -355,28 +351,27 @@ fn report_rooms() {
     report_room(Run::start(3, 2).run, LAST + 1, 6);
 }
 
-fn report_room(run: Run, clock: u32, a: usize)
+fn report_room(run: Run, clock: u32, a: u32)
     requires { ⌜ a ≤ 7 ⌝ }
 {
     say_state(run);
-    say::count(b", worst ", a);
-    say::number(b", clock ", clock);
-    say_answer(b": report ", report_front(run, clock, a));
-    end_line();
+    say::numbers(b", worst _, clock _", &[a, clock]);
+    say_last(b": report ", report_front(run, clock, a as usize));
 }
 
 fn report_front(run: Run, clock: u32, a: usize) -> u32
     requires { ⌜ a ≤ 7 ⌝ }
 {
     let worst = [0u32; 7];
-    let reported = run.report(clock, &worst[..a]);
+    let reported = run.report(clock, &worst[0..a]);
     report_number(run, reported)
 }
 
 fn say_state(run: Run) {
-    say::number(b"n ", run.n);
-    say::number(b", position ", run.position);
-    say::mark(b", running ", run.running);
+    say::numbers(
+        b"n _, position _, running _",
+        &[run.n, run.position, run.running as u32],
+    );
 }
 
 // ---- turns
@@ -395,13 +390,11 @@ fn turn(run: Run, call: u8) -> Run {
     say_state(run);
     if call == b'a' {
         let asked = ask(run);
-        say_answer(b": ask ", ask_number(run, asked));
-        end_line();
+        say_last(b": ask ", ask_number(run, asked));
         return asked.run;
     }
     let reported = report(run, run.clock);
-    say_answer(b": report ", report_number(run, reported));
-    end_line();
+    say_last(b": report ", report_number(run, reported));
     reported.run
 }
 
@@ -428,9 +421,8 @@ fn clock(run: Run, at: u32) {
     let next = reported.run;
     say::number(b"report at ", at);
     say_answer(b": ", report_number(runs, reported));
-    say::number(b"; position ", next.position);
-    say::number(b", clock ", next.clock);
-    say::number(b", left ", next.left);
-    say::mark(b", overrun ", next.overrun);
-    end_line();
+    say::numbers(
+        b"; position _, clock _, left _, overrun _\n",
+        &[next.position, next.clock, next.left, next.overrun as u32],
+    );
 }
