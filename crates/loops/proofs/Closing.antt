@@ -14,9 +14,9 @@ use lib.Seq.{getD-set-same, getD-set-other}
 use Rattle.rules.specs.Image.{has}
 use Rattle.rules.specs.Order.{MustFollow}
 use Rattle.rules.proofs.Tests.{not-both, or-true}
+use Rattle.sets.specs.Sets.{before}
 use Rattle.sets.proofs.Bits.{has-or}
 use Rattle.sets.proofs.Cases.{eq-or-ne}
-use Rattle.sets.specs.Sets.{before}
 use Rattle.loops.specs.Looped.{Leads, next, via, Row, Rows}
 
 module _ (masks : List ℕ) where

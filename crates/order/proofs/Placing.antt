@@ -16,12 +16,11 @@ use Rattle.rules.proofs.Order.Best.{by-urgency-permitted}
 use Rattle.rules.proofs.Order.Loops.{no-loop}
 use Rattle.rules.proofs.Order.Stepwise
 use Rattle.rules.proofs.Order.Stepwise.{Earlier, Free, free-same, next-same, stuck-in-loop}
-use Rattle.sets.specs.Sets.{members, With}
+use Rattle.sets.specs.Sets.{members, With, before}
 use Rattle.sets.proofs.Bits.{has-empty}
 use Rattle.sets.proofs.Laws.{added, stays, either}
 use Rattle.sets.proofs.Members.{members-none, members-with}
 use Rattle.sets.proofs.Cases.{eq-or-ne}
-use Rattle.sets.specs.Sets.{before}
 use Rattle.order.specs.Lent.{Masked}
 use Rattle.order.specs.Arranged.{Ready, Parted, Next, Placed}
 use Rattle.order.proofs.Waiting.{parted-each}

@@ -7,8 +7,7 @@ use mathlib.Core.List.{List}
 use lib.ListN.{length, getD}
 use Rattle.rules.specs.Image.{has}
 use Rattle.rules.specs.Order.{Order, Loop, ByUrgency}
-use Rattle.sets.specs.Sets.{Subset}
-use Rattle.sets.specs.Sets.{before}
+use Rattle.sets.specs.Sets.{Subset, before}
 
 -- Action a is ready: it is not done yet, and all its predecessors are.
 pub record Ready (n : ℕ) (masks : List ℕ) (done a : ℕ) : Type 0 where

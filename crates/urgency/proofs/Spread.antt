@@ -14,11 +14,10 @@ use Rattle.rules.specs.Order.{MustFollow, Urgency}
 use Rattle.rules.proofs.Tests.{true-or-false, not-both}
 use Rattle.rules.proofs.Sums.{sum-mono}
 use Rattle.rules.proofs.Order.Loops.{settled}
-use Rattle.sets.specs.Sets.{Lowest, Without}
+use Rattle.sets.specs.Sets.{Lowest, Without, before}
 use Rattle.sets.proofs.Bits.{has-empty}
 use Rattle.sets.proofs.Laws.{gone, kept, was}
 use Rattle.sets.proofs.Cases.{lt-or-le, eq-or-ne}
-use Rattle.sets.specs.Sets.{before}
 use Rattle.urgency.specs.Spread.{lowered, HandedOn, From, total, Passed}
 
 -- ---- one more action got what a hands on
