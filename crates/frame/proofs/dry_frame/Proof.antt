@@ -1,3 +1,4 @@
+-- Refused by the image, by the room of the order or by the dry run, and else the frame. Assumes nothing.
 use native.Mathlib.Omega.{arith}
 use borrow.Author.Needs.{needs}
 use Rattle.frame.proofs.Answers.{Planning, few, sound, n-is, image-refused, order-refused, dry-refused, framed}
