@@ -28,7 +28,8 @@ pub fn refusal(
     if room < pack::image_bytes(n, levels) {
         return 17;
     }
-    // The lowest action at fault for 7 and for 6, n for none. 6 is given first, but where no row breaks the rule of 7 it is the sooner told.
+    // The lowest action at fault for 7 and for 6, n for none. 6 is given before 7 and looked for after it: where no row breaks the rule of 7,
+    // one test a row tells whether a time is too long.
     let fallen = checks::table(n, levels, averages, worst);
     let ordered = n <= fallen;
     let out = checks::range(n, levels, cycle, masks, deadlines, averages, worst, ordered);
