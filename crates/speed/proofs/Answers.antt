@@ -3,6 +3,7 @@ use Prim.Native.Nat.{ℕ, _≤_, _<_}
 use mathlib.Core.Path.{_≡_, refl, sym, ap, _∙_}
 use mathlib.Core.List.{List}
 use mathlib.Core.Logic.{_≢_, inl, inr}
+use native.Mathlib.Nat.{lt-of-not-le}
 use native.Mathlib.Decide.{ℕ-discrete}
 use native.Mathlib.Omega.{arith}
 use lib.Dec.{lit<}
@@ -41,16 +42,13 @@ in-range n levels i k q t none =
     let (not-reading, (not-clock, _)) = first-none (own-checks n levels i k q t) (lit< tt, (lit< tt, tt)) .0 none in
     record {
       ordered = not-out (λ l. not-reading (inl l));
-      position = not-in (λ l. not-reading (inr (inl l)));
-      level = not-in (λ l. not-reading (inr (inr l)));
+      position = lt-of-not-le (λ l. not-reading (inr (inl l)));
+      level = lt-of-not-le (λ l. not-reading (inr (inr l)));
       clock = not-out not-clock;
     }
   where
     not-out : {x y : ℕ} → (y < x → ⊥) → x ≤ y
     not-out h = omega arith
-
-    not-in : {x y : ℕ} → (y ≤ x → ⊥) → x < y
-    not-in h = omega arith
 
 -- with no refusal the image is sound too
 pub read-range : (s : List ℕ) (i k q t : ℕ) → First (speed-call s i k q t) 0 → Sound s × InRange (profile s .n) (profile s .levels) i k q t

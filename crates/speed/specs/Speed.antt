@@ -25,11 +25,11 @@ pub record Reads (s : List ℕ) (first last level t : ℕ) (r : Reading) : Type 
   pub read : number ≡ 0
       → (o : Order (profile s .n)) × TheOrder (profile s) o × (reading-of r ≡ gives (reading (tables (profile s) o) first last level t))
 
--- b tells whether the reading is a ratio of at most 1: never with a refusal; without one exactly if room is above 0 and t is at most
--- deadline (last) - mixed (first, last, level).
+-- room is above 0, and t is at most deadline (k) - mixed (i, k, q)
 abbrev pub OnTime : Tables → ℕ → ℕ → ℕ → ℕ → Type 0
 OnTime S i k q t = (pos 0 <ℤ room S i k q t) × (pos t ≤ℤ (pos (S .deadline k) -ℤ pos (mixed S i k q)))
 
+-- b tells whether the reading is a ratio of at most 1: never with a refusal; without one exactly if it is on time by the profile's order.
 pub record Tells (s : List ℕ) (first last level t : ℕ) (b : Bool) : Type 0 where
   pub number : ℕ
   pub given : First (speed-call s first last level t) number
@@ -38,10 +38,11 @@ pub record Tells (s : List ℕ) (first last level t : ℕ) (b : Bool) : Type 0 w
 
 -- ---- asked between the functions of this crate
 
--- the call's own refusals, of n positions and so many levels
+-- the first position is above the last one, or a position or the level is absent, of n positions and so many levels
 abbrev pub Absent : ℕ → ℕ → ℕ → ℕ → ℕ → Type 0
 Absent n levels i k q = (k < i) ⊎ ((n ≤ k) ⊎ (levels ≤ q))
 
+-- the call's own refusals, after the image's
 abbrev pub own-checks : ℕ → ℕ → ℕ → ℕ → ℕ → ℕ → List Ground
 own-checks n levels i k q t = 18 when Absent n levels i k q ∷ 13 when (1073741823 < t) ∷ []
 
