@@ -1,15 +1,14 @@
 -- What a refresh answers and leaves is settled by what it is given; the new image is accepted, and differs in averages only. Assumes nothing.
-use Prim.Native.Nat.{ℕ, _<_}
+use Prim.Native.Nat.{ℕ}
 use mathlib.Core.Path.{_≡_, sym, _∙_}
 use mathlib.Core.List.{List, []}
-use mathlib.Core.Logic.{⊎-elim}
-use native.Mathlib.Omega.{arith}
-use Rattle.rules.specs.Image.{be, average-of, worst-of, profile}
-use Rattle.rules.specs.Refusals.{First, TimeOut, Accepted}
+use Rattle.rules.specs.Image.{profile}
+use Rattle.rules.specs.Refusals.{First, Accepted}
 use Rattle.rules.specs.Refresh.{refreshed, new-image, refresh-call}
 use Rattle.rules.proofs.Refusals.{Sound, first-one}
+use Rattle.rules.proofs.Speed.Reading.{times-small}
 use Rattle.rules.proofs.Refresh.{NoFault, refresh-sound, refreshed-table, refreshed-times, refreshed-grounds}
-use Rattle.fields.proofs.Bytes.{Bytes, be-lt}
+use Rattle.fields.proofs.Bytes.{Bytes}
 use Rattle.trips.proofs.Same.{Same}
 use Rattle.trips.proofs.Written.{in-range, written-read}
 use Rattle.trips.proofs.Accepts.{Writable, write-sound, written-accepted}
@@ -30,21 +29,13 @@ module _ (s trace : List ℕ) (rooms : List (ℕ × ℕ)) (is-bytes : Bytes s) (
   sound : Sound s × NoFault (profile s) trace
   sound = refresh-sound s trace rooms given
 
-  -- 24 bits say no time above 16,777,215
-  not-long : TimeOut (profile s) → ⊥
-  unfolding profile average-of worst-of
-  not-long t = ⊎-elim (short _) (short _) (t .2 .2)
-    where
-      short : (at : ℕ) → 16777215 < be s at 3 → ⊥
-      short at h = omega (arith, be-lt s at 3 is-bytes)
-
   writable : Writable (refreshed (profile s) trace)
   writable =
       let (h, no-fault) = sound in
       let same = refreshed-grounds (profile s) trace in record {
         not-count = λ c. h .not-count (same .count .0 c);
         not-range = λ c. h .not-range (same .range .0 c);
-        not-time-out = refreshed-times (profile s) trace (h .not-table) no-fault not-long;
+        not-time-out = refreshed-times (profile s) trace (h .not-table) no-fault (times-small s is-bytes);
         not-table = refreshed-table (profile s) trace (h .not-table) no-fault;
         not-looped = λ c. h .not-looped (same .looped .0 c);
         not-unfit = λ c. h .not-unfit (same .unfit .0 c);

@@ -17,8 +17,10 @@ use Rattle.camera.proofs.runs.ask_flat.Symbol.{name as #g}
 use Rattle.camera.proofs.runs.ask_flat.Met as g-thm
 use Rattle.camera.proofs.Lent.{refl, ap, List, [], _∷_, URA, fullShare, named, Val, SProp, id⊢, fsep, fat, flft, Memory, Routine, Heap, Tables, Atoms, sem, Fun, fact}
 use Rattle.camera.proofs.Lent.{givenOf, tables, tablesOf, Lfts, Shares, AllOutlive, Given, ‵, raw, _⊛_, _$_, _∵_, !, qed, move, drop, rewrite, fmOf}
-use Rattle.camera.proofs.Lent.{look, look-raw, init, store-raw, stop, hop, fld, from, load, of-opd, and-then, no-more, assigns, land, returns, enter, alloc1, alloc0, params1, pass1, pass0, free0, whole, sub, look-in}
-use Rattle.camera.proofs.Lent.{owns, Spells, all-typed, ptr-vals, mut-tells, plain, typesAt, only, Args, alive, tripleOf, Triple, entered, cited, Stays, stay-ref, goes-ref, ends-at}
+use Rattle.camera.proofs.Lent.{look, look-raw, init, store-raw, stop, hop, fld, from, load, of-opd, and-then, no-more, assigns, land, returns}
+use Rattle.camera.proofs.Lent.{enter, alloc1, alloc0, params1, pass1, pass0, free0, whole, sub, look-in}
+use Rattle.camera.proofs.Lent.{owns, Spells, all-typed, ptr-vals, mut-tells, plain, typesAt, only}
+use Rattle.camera.proofs.Lent.{Args, alive, tripleOf, Triple, entered, cited, Stays, stay-ref, goes-ref, ends-at}
 use Rattle.camera.proofs.Lent.{row, vals, lawful, Other, slice, stays, rows, spells, others-vals, Own, all-tell, all-go, all-lawful, Callee}
 use Rattle.camera.proofs.Lent.{passed, Passed, Walk, met, opened, calls, closed, lets, leaves}
 use Rattle.camera.proofs.runs.nyokazerubi_ask.Key.{name as #f}
@@ -58,19 +60,23 @@ module _ {M : Type 1} (𝓤 : URA M) (H : Heap 𝓤) (A : Atoms 𝓤) (W : Given
       move ! (5 ∷ 1 ∷ 6 ∷ []) $
       calls ! (fmOf 𝓤 H (W .laws) 𝓣) g.ended (g.clauses 𝓤 H A at-mem run) known to κs others (a .1) (fsep (row .own (a .0 .now) (vals (a .0 .now))) (Own κs others (a .1)))
       (id⊢ 𝓤 (sem 𝓤 H A (fsep (row .own (a .0 .now) (vals (a .0 .now))) (Own κs others (a .1))))) (id⊢ 𝓤 (Callee 𝓤 H A g.ended (g.clauses 𝓤 H A at-mem run) .pre to))
-      (and-then ! (load ! (from ! (stop !)) (look ! 6 refl)) (and-then ! (load ! (from ! (stop !)) (look ! 14 refl)) (and-then ! (load ! (from ! (stop !)) (look ! 12 refl)) (and-then ! (load ! (from ! (stop !)) (look ! 10 refl)) (no-more !)))))
+      (and-then ! (load ! (from ! (stop !)) (look ! 6 refl)) (and-then ! (load ! (from ! (stop !)) (look ! 14 refl)) (and-then ! (load ! (from ! (stop !)) (look ! 12 refl))
+      (and-then ! (load ! (from ! (stop !)) (look ! 10 refl)) (no-more !)))))
       (λ r ws. Said r) (λ r ws. id⊢ 𝓤 (fact 𝓤 (Said r))) (λ u r ws e is. let owed = LL.owed P.the-type P′.the-laws r (u ∷ []) is in drop ! $
       -- [the other tokens; the other parameters'; the cell; the open borrow; obs; auth; the locals]
       land ! (from ! (stop !)) (init ! 8 refl (LL.lawful P.the-type P′.the-laws 𝓤 H A W .typed r _ is .0)) $
       rewrite ! 8 (λ (w : Val). ‵ (fat fullShare P′.mir l5 0 w)) (ap only (LL.tells P.the-type P′.the-laws r _ is)) refl $
       assigns ! (of-opd ! (load ! (from ! (fld ! refl (stop !))) (look-in ! 8 (sub ! 0 refl (whole !))))) (from ! (hop ! (look ! 16 refl) (stop !)))
       (store-raw ! 2 refl (lawful 𝓤 H A W .typed (r .run) _ (owed .0) .0)) $
-      assigns ! (of-opd ! (load ! (from ! (fld ! refl (stop !))) (look-in ! 8 (sub ! 1 refl (whole !))))) (from ! (stop !)) (init ! 18 refl (LL.lawful Q.the-type Q′.the-laws 𝓤 H A W .typed (r .given) _ (owed .1 .0) .0)) $
+      assigns ! (of-opd ! (load ! (from ! (fld ! refl (stop !))) (look-in ! 8 (sub ! 1 refl (whole !))))) (from ! (stop !))
+      (init ! 18 refl (LL.lawful Q.the-type Q′.the-laws 𝓤 H A W .typed (r .given) _ (owed .1 .0) .0)) $
       closed ! tt (r .run) (owed .0) $
       -- [obs; the borrow; its token; the other tokens; the other parameters'; the locals]
-      returns ! (look ! 17 refl) $ lets ! 17 17 refl refl $ lets ! 15 15 refl refl $ lets ! 13 13 refl refl $ lets ! 11 11 refl refl $ lets ! 9 9 refl refl $ lets ! 7 7 refl refl $ lets ! 5 5 refl refl $ free0 ! $
+      returns ! (look ! 17 refl) $ lets ! 17 17 refl refl $ lets ! 15 15 refl refl $ lets ! 13 13 refl refl $ lets ! 11 11 refl refl $ lets ! 9 9 refl refl $ lets ! 7 7 refl refl $
+      lets ! 5 5 refl refl $ free0 ! $
       leaves ! (r .run) (Q.the-row .own (r .given) (LL.vals Q.the-type Q′.the-laws (r .given))) e (LL.makes Q.the-type Q′.the-plain 𝓤 H A (r .given) _ (owed .1 .0))
-      (ends-at 𝓤 H A f.ended stayed (f.clauses 𝓤 H A at-mem run) W ((κs, qs, outlive, a, passed f.signature κs (spelled κs) a), tt) _ (r .given) (r .run, (tt, (tt, (tt, tt)))) (tt, (tt, (tt, (tt, tt))))))))))))))
+      (ends-at 𝓤 H A f.ended stayed (f.clauses 𝓤 H A at-mem run) W ((κs, qs, outlive, a, passed f.signature κs (spelled κs) a), tt)
+      _ (r .given) (r .run, (tt, (tt, (tt, tt)))) (tt, (tt, (tt, (tt, tt))))))))))))))
 
 pub nyokazerubi-ask-spec : {M : Type 1} → stated.statement M
 unfolding code.routine tablesOf

@@ -12,8 +12,10 @@ use Rattle.run.proofs.Run.start.Symbol.{name as #g}
 use Rattle.run.proofs.Run.start.Met as g-thm
 use Rattle.camera.proofs.Lent.{_≡_, refl, ap, List, [], _∷_, URA, fullShare, named, w32, Val, SProp, snd∗, id⊢, fat, flft, Memory, Routine, Heap, Tables, Atoms, sem, Fun, fact}
 use Rattle.camera.proofs.Lent.{givenOf, tables, tablesOf, Lfts, Shares, AllOutlive, Given, ‵, raw, _⊛_, _$_, _∵_, !, qed, move, drop, rewrite, fmOf}
-use Rattle.camera.proofs.Lent.{look, init, store-raw, stop, hop, fld, from, load, of-opd, and-then, no-more, assigns, land, returns, enter, alloc1, alloc0, params1, pass1, pass0, free0, whole, sub, look-in}
-use Rattle.camera.proofs.Lent.{owns, Spells, all-typed, uint-vals, uint-makes, uint-lawful, u32, ptr-vals, mut-tells, plain, typesAt, only, Args, alive, tripleOf, Triple, entered, cited, Stays, stay-ref, goes-ref, ends-at}
+use Rattle.camera.proofs.Lent.{look, init, store-raw, stop, hop, fld, from, load, of-opd, and-then, no-more, assigns, land, returns}
+use Rattle.camera.proofs.Lent.{enter, alloc1, alloc0, params1, pass1, pass0, free0, whole, sub, look-in}
+use Rattle.camera.proofs.Lent.{owns, Spells, all-typed, uint-vals, uint-makes, uint-lawful, u32, ptr-vals, mut-tells, plain, typesAt, only}
+use Rattle.camera.proofs.Lent.{Args, alive, tripleOf, Triple, entered, cited, Stays, stay-ref, goes-ref, ends-at}
 use Rattle.camera.proofs.Lent.{row, vals, lawful, Other, number, stays, rows, spells, others-vals, Own, all-tell, all-go, all-lawful, Callee}
 use Rattle.camera.proofs.Lent.{passed, Passed, Walk, met, opened, calls, closed, lets, leaves}
 use Rattle.camera.proofs.runs.nyokazerubi_start.Key.{name as #f}
@@ -59,7 +61,8 @@ module _ {M : Type 1} (𝓤 : URA M) (H : Heap 𝓤) (A : Atoms 𝓤) (W : Given
       rewrite ! 6 (λ (w : Val). ‵ (fat fullShare P′.mir l4 0 w)) (ap only (LL.tells P.the-type P′.the-laws r _ is)) refl $
       assigns ! (of-opd ! (load ! (from ! (fld ! refl (stop !))) (look-in ! 6 (sub ! 0 refl (whole !))))) (from ! (hop ! (look ! 12 refl) (stop !)))
       (store-raw ! 2 refl (lawful 𝓤 H A W .typed (r .run) _ (owed .0) .0)) $
-      assigns ! (of-opd ! (load ! (from ! (fld ! refl (stop !))) (look-in ! 6 (sub ! 1 refl (whole !))))) (from ! (stop !)) (init ! 14 refl (uint-lawful 𝓤 H A W w32 .typed (r .refusal) _ (owed .1 .0) .0)) $
+      assigns ! (of-opd ! (load ! (from ! (fld ! refl (stop !))) (look-in ! 6 (sub ! 1 refl (whole !))))) (from ! (stop !))
+      (init ! 14 refl (uint-lawful 𝓤 H A W w32 .typed (r .refusal) _ (owed .1 .0) .0)) $
       closed ! tt (r .run) (owed .0) $
       -- [obs; the borrow; its token; the other tokens; the other parameters'; the locals]
       returns ! (look ! 13 refl) $ lets ! 13 13 refl refl $ lets ! 11 11 refl refl $ lets ! 9 9 refl refl $ lets ! 7 7 refl refl $ lets ! 5 5 refl refl $ free0 ! $

@@ -64,14 +64,16 @@ module _ {M : Type 1} (𝓤 : URA M) (H : Heap 𝓤) (A : Atoms 𝓤) (W : Given
       qed W (raw (alive 𝓤 H A f.signature κs qs) ∷ ‵ (owns (typesAt (f.signature .params) κs) a (passed f.signature κs (spelled κs) a)) ∷ []) ∵
       enter ! (𝓣 .C) (𝓣 .Λ) code.function _ _ $
       alloc1 ! (λ l0. alloc1 ! (λ l1. alloc1 ! (λ l2. alloc1 ! (λ l3. alloc1 ! (λ l4. alloc1 ! (λ l5. alloc1 ! (λ l6. alloc1 ! (λ l7. alloc1 ! (λ l8. alloc0 ! $ params1 ! $
-      pass1 ! (init ! 14 refl (lawful 𝓤 H A W .typed (a .0) _ (are .0) .0)) $ pass1 ! (init ! 12 refl (typed .0)) $ pass1 ! (init ! 10 refl (typed .1 .0)) $ pass1 ! (init ! 8 refl (typed .1 .1 .0)) $ pass0 ! $
+      pass1 ! (init ! 14 refl (lawful 𝓤 H A W .typed (a .0) _ (are .0) .0)) $ pass1 ! (init ! 12 refl (typed .0)) $ pass1 ! (init ! 10 refl (typed .1 .0)) $
+      pass1 ! (init ! 8 refl (typed .1 .1 .0)) $ pass0 ! $
       assigns ! (of-opd ! (load ! (from ! (stop !)) (look ! 14 refl))) (from ! (stop !)) (init ! 6 refl (lawful 𝓤 H A W .typed (a .0) _ (are .0) .0)) $
       assigns ! (addr ! (from ! (stop !))) (from ! (stop !)) (init ! 2 refl (tt, tt)) $
       move ! (6 ∷ 18 ∷ 19 ∷ []) $ lends ! tt (a .0) l5 (are .0) (λ ν δ.
       -- [the tokens; the reference; the other parameters'; the lender's part; the locals, but for the cell that is lent]
       calls ! (fmOf 𝓤 H (W .laws) 𝓣) g.ended (g.clauses 𝓤 H A at-mem run) known (to l5 ν δ) κs others (a .1) (fsep (Here (ν ∷ []) (a .0) l5 0 δ) (Own κs others (a .1)))
       (id⊢ 𝓤 (sem 𝓤 H A (fsep (Here (ν ∷ []) (a .0) l5 0 δ) (Own κs others (a .1))))) (id⊢ 𝓤 (Callee 𝓤 H A g.ended (g.clauses 𝓤 H A at-mem run) .pre (to l5 ν δ)))
-      (and-then ! (load ! (from ! (stop !)) (look ! 5 refl)) (and-then ! (load ! (from ! (stop !)) (look ! 14 refl)) (and-then ! (load ! (from ! (stop !)) (look ! 12 refl)) (and-then ! (load ! (from ! (stop !)) (look ! 10 refl)) (no-more !)))))
+      (and-then ! (load ! (from ! (stop !)) (look ! 5 refl)) (and-then ! (load ! (from ! (stop !)) (look ! 14 refl)) (and-then ! (load ! (from ! (stop !)) (look ! 12 refl))
+      (and-then ! (load ! (from ! (stop !)) (look ! 10 refl)) (no-more !)))))
       (λ r ws. Said (out (ws .0) r)) (λ r ws. id⊢ 𝓤 (fact 𝓤 (Said (out (ws .0) r)))) (λ u r ws e isr.
       comes-back ! tt (alive 𝓤 H A f.signature κs qs) (ws .0) l5 ν δ (λ is.
       -- [the cell that was lent; the tokens; the other parameters'; the other locals]
@@ -80,10 +82,12 @@ module _ {M : Type 1} (𝓤 : URA M) (H : Heap 𝓤) (A : Atoms 𝓤) (W : Given
       assigns ! (of-opd ! (load ! (from ! (stop !)) (look ! 0 refl))) (from ! (stop !)) (init ! 3 refl (lawful 𝓤 H A W .typed (ws .0) _ is .0)) $
       assigns ! (agg ! (and-then ! (load ! (from ! (stop !)) (look ! 3 refl)) (and-then ! (load ! (from ! (stop !)) (look ! 7 refl)) (no-more !)))) (from ! (stop !))
       (init ! 18 refl (LL.lawful P.the-type P′.the-laws 𝓤 H A W .typed (out (ws .0) r) _ (made (ws .0) r is (subst (Is Q.the-row r) (LL.tells Q.the-type Q′.the-laws r _ isr) isr)) .0)) $
-      returns ! (look ! 18 refl) $ lets ! 18 18 refl refl $ lets ! 16 16 refl refl $ lets ! 14 14 refl refl $ lets ! 12 12 refl refl $ lets ! 10 10 refl refl $ lets ! 0 8 refl refl $ lets ! 6 6 refl refl $ lets ! 4 4 refl refl $ lets ! 2 2 refl refl $ free0 ! $
+      returns ! (look ! 18 refl) $ lets ! 18 18 refl refl $ lets ! 16 16 refl refl $ lets ! 14 14 refl refl $ lets ! 12 12 refl refl $ lets ! 10 10 refl refl $ lets ! 0 8 refl refl $
+      lets ! 6 6 refl refl $ lets ! 4 4 refl refl $ lets ! 2 2 refl refl $ free0 ! $
       hands-back ! (a .0) (P.the-row .own (out (ws .0) r) (LL.vals P.the-type P′.the-laws (out (ws .0) r))) (are .0) e
       (LL.makes P.the-type P′.the-plain 𝓤 H A (out (ws .0) r) _ (made (ws .0) r is (subst (Is Q.the-row r) (LL.tells Q.the-type Q′.the-laws r _ isr) isr)))
-      (ends-at 𝓤 H A f.ended stayed (f.clauses 𝓤 H A at-mem run) W ((κs, qs, outlive, a, passed f.signature κs (spelled κs) a), tt) _ (out (ws .0) r) (tt, (tt, (tt, (tt, tt)))) (tt, (tt, (tt, (tt, tt)))))))))))))))))
+      (ends-at 𝓤 H A f.ended stayed (f.clauses 𝓤 H A at-mem run) W ((κs, qs, outlive, a, passed f.signature κs (spelled κs) a), tt)
+      _ (out (ws .0) r) (tt, (tt, (tt, (tt, tt)))) (tt, (tt, (tt, (tt, tt)))))))))))))))))
 
 pub asked-spec : {M : Type 1} → stated.statement M
 unfolding code.routine tablesOf
