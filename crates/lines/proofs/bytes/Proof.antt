@@ -13,26 +13,8 @@ Inv-loop line out₀ n₀ at₀ out n at = (n ≤ length out) × (length out ≡
 abbrev μ-loop : tie.MeasureT-loop
 μ-loop line out₀ n₀ at₀ out n at = length out - n
 
-loop-holds : tie.Need-loop-holds Inv-loop μ-loop
-loop-holds c = search needs
-
-pair-requires : tie.Need-pair-requires Inv-loop μ-loop
-pair-requires c κs = search needs
-
-same-length : tie.Need-same-length Inv-loop μ-loop
-same-length c = omega arith
-
 returns : tie.Need-returns Inv-loop μ-loop
 returns c = (search needs, simp length-take (omega arith))
-
-cast-out : tie.Need-cast-out Inv-loop μ-loop
-cast-out c = omega arith
-
-slice-write-out : tie.Need-slice-write-out Inv-loop μ-loop
-slice-write-out c = omega arith
-
-add-n : tie.Need-add-n Inv-loop μ-loop
-add-n c = omega arith
 
 add-at : tie.Need-add-at Inv-loop μ-loop
 add-at c = omega (arith, c .before .pair .ensures (c .if1 .left))
@@ -43,9 +25,6 @@ loop-less c = simp length-set (omega arith)
 loop-again : tie.Need-loop-again Inv-loop μ-loop
 loop-again c = simp length-set (omega arith)
 
-same-length-2 : tie.Need-same-length-2 Inv-loop μ-loop
-same-length-2 c = omega arith
-
 returns-2 : tie.Need-returns-2 Inv-loop μ-loop
 returns-2 c = (search needs, simp length-take (omega arith))
 
@@ -55,15 +34,15 @@ bytes-spec =
     (tie.spec
     Inv-loop
     μ-loop
-    loop-holds
-    pair-requires
-    same-length
+    (λ c. search needs)
+    (λ c κs. search needs)
+    (λ c. omega arith)
     returns
-    cast-out
-    slice-write-out
-    add-n
+    (λ c. omega arith)
+    (λ c. omega arith)
+    (λ c. omega arith)
     add-at
     loop-less
     loop-again
-    same-length-2
+    (λ c. omega arith)
     returns-2)

@@ -7,12 +7,6 @@ use lib.Seq.{drop-drop}
 use Rattle.lines.proofs.next.Statement.{statement}
 use Rattle.lines.proofs.next.Tie as tie
 
-find-requires : tie.Need-find-requires
-find-requires c κs = search needs
-
-add-result : tie.Need-add-result
-add-result c = omega arith
-
 returns : tie.Need-returns
 returns c =
     let found = c .before .find in
@@ -25,4 +19,4 @@ returns-2 c =
     (search needs, nothing ∙ ap (drop 1) (sym nothing ∙ found .ensures .1))
 
 pub next-spec : {M : Type 1} → statement M
-next-spec = tie.close (tie.spec find-requires add-result returns returns-2)
+next-spec = tie.close (tie.spec (λ c κs. search needs) (λ c. omega arith) returns returns-2)

@@ -19,17 +19,8 @@ abbrev μ-loop : tie.MeasureT-loop
 abbrev line : tie.At-loop Inv-loop μ-loop → List ℕ
 line turn = turn .before .before .before .args .line .now
 
-word-requires : tie.Need-word-requires Inv-loop μ-loop
-word-requires c κs = search needs
-
 loop-holds : tie.Need-loop-holds Inv-loop μ-loop
 loop-holds c = (search needs, search needs, ap (λ (l : List ℕ). capped (decimal 0 l)) (sym (c .word .ensures .1)))
-
-shared-slice-read-digit : tie.Need-shared-slice-read-digit Inv-loop μ-loop
-shared-slice-read-digit c = omega arith
-
-digit-requires : tie.Need-digit-requires Inv-loop μ-loop
-digit-requires c κs = search needs
 
 returns : tie.Need-returns Inv-loop μ-loop
 returns c =
@@ -37,24 +28,6 @@ returns c =
     let digit = c .before .digit .ensures .1 .0 in
     let end = digits-end (line turn) (turn .loop .at) (turn .loop .value) (omega arith) (λ low high. omega (arith, digit low high)) in
     omega (arith, turn .loop .inv .2, ap capped end)
-
-cast-capped : tie.Need-cast-capped Inv-loop μ-loop
-cast-capped c = omega arith
-
-mul-capped : tie.Need-mul-capped Inv-loop μ-loop
-mul-capped c = omega arith
-
-add-capped : tie.Need-add-capped Inv-loop μ-loop
-add-capped c = omega arith
-
-capped-requires : tie.Need-capped-requires Inv-loop μ-loop
-capped-requires c κs = search needs
-
-add-at : tie.Need-add-at Inv-loop μ-loop
-add-at c = omega arith
-
-loop-less : tie.Need-loop-less Inv-loop μ-loop
-loop-less c = omega arith
 
 loop-again : tie.Need-loop-again Inv-loop μ-loop
 loop-again c =
@@ -79,16 +52,16 @@ number-spec =
     (tie.spec
     Inv-loop
     μ-loop
-    word-requires
+    (λ c κs. search needs)
     loop-holds
-    shared-slice-read-digit
-    digit-requires
+    (λ c. omega arith)
+    (λ c κs. search needs)
     returns
-    cast-capped
-    mul-capped
-    add-capped
-    capped-requires
-    add-at
-    loop-less
+    (λ c. omega arith)
+    (λ c. omega arith)
+    (λ c. omega arith)
+    (λ c κs. search needs)
+    (λ c. omega arith)
+    (λ c. omega arith)
     loop-again
     returns-2)

@@ -18,29 +18,14 @@ abbrev μ-loop : tie.MeasureT-loop
 loop-holds : tie.Need-loop-holds Inv-loop μ-loop
 loop-holds c = (omega arith, omega arith, search needs)
 
-shared-slice-read-put-position : tie.Need-shared-slice-read-put-position Inv-loop μ-loop
-shared-slice-read-put-position c = omega arith
-
 put-position-requires : tie.Need-put-position-requires Inv-loop μ-loop
 put-position-requires c κs =
     let x = c .before .before .before .before .before .before .args in
     let fits = stride-fits (c .before .before .before .loop .i) (x .n) (x .levels) (omega arith) in
     (search needs, omega arith, omega arith, omega arith)
 
-add-i : tie.Need-add-i Inv-loop μ-loop
-add-i c = omega arith
-
-loop-less : tie.Need-loop-less Inv-loop μ-loop
-loop-less c = omega arith
-
 loop-again : tie.Need-loop-again Inv-loop μ-loop
 loop-again c = (omega arith, omega arith, search needs)
-
-same-length : tie.Need-same-length Inv-loop μ-loop
-same-length c = omega arith
-
-returns : tie.Need-returns Inv-loop μ-loop
-returns c = search needs
 
 pub put-positions-spec : {M : Type 1} → statement M
 put-positions-spec =
@@ -49,10 +34,10 @@ put-positions-spec =
     Inv-loop
     μ-loop
     loop-holds
-    shared-slice-read-put-position
+    (λ c. omega arith)
     put-position-requires
-    add-i
-    loop-less
+    (λ c. omega arith)
+    (λ c. omega arith)
     loop-again
-    same-length
-    returns)
+    (λ c. omega arith)
+    (λ c. search needs))

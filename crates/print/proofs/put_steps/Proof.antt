@@ -17,32 +17,8 @@ abbrev μ-loop : tie.MeasureT-loop
 loop-holds : tie.Need-loop-holds Inv-loop μ-loop
 loop-holds c = (omega arith, omega arith, search needs)
 
-shared-slice-read-put-step : tie.Need-shared-slice-read-put-step Inv-loop μ-loop
-shared-slice-read-put-step c = omega arith
-
-shared-slice-read-put-step-2 : tie.Need-shared-slice-read-put-step-2 Inv-loop μ-loop
-shared-slice-read-put-step-2 c = omega arith
-
-shared-slice-read-put-step-3 : tie.Need-shared-slice-read-put-step-3 Inv-loop μ-loop
-shared-slice-read-put-step-3 c = omega arith
-
-put-step-requires : tie.Need-put-step-requires Inv-loop μ-loop
-put-step-requires c κs = search needs
-
-add-i : tie.Need-add-i Inv-loop μ-loop
-add-i c = omega arith
-
-loop-less : tie.Need-loop-less Inv-loop μ-loop
-loop-less c = omega arith
-
 loop-again : tie.Need-loop-again Inv-loop μ-loop
 loop-again c = (omega arith, omega arith, search needs)
-
-same-length : tie.Need-same-length Inv-loop μ-loop
-same-length c = omega arith
-
-returns : tie.Need-returns Inv-loop μ-loop
-returns c = search needs
 
 pub put-steps-spec : {M : Type 1} → statement M
 put-steps-spec =
@@ -51,12 +27,12 @@ put-steps-spec =
     Inv-loop
     μ-loop
     loop-holds
-    shared-slice-read-put-step
-    shared-slice-read-put-step-2
-    shared-slice-read-put-step-3
-    put-step-requires
-    add-i
-    loop-less
+    (λ c. omega arith)
+    (λ c. omega arith)
+    (λ c. omega arith)
+    (λ c κs. search needs)
+    (λ c. omega arith)
+    (λ c. omega arith)
     loop-again
-    same-length
-    returns)
+    (λ c. omega arith)
+    (λ c. search needs))

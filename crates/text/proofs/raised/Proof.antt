@@ -49,8 +49,5 @@ cast-result-2 c =
     rw (toZ-ofZ (in32 c), toZ-ofZ (in64 c), toZ-ofZ (sum c))
     (high c .sign, record { fits = omega (arith, high c .whole) })
 
-returns : tie.Need-returns
-returns c = search needs
-
 pub raised-spec : {M : Type 1} → statement M
-raised-spec = tie.close (tie.spec cast-result add-result cast-result-2 returns)
+raised-spec = tie.close (tie.spec cast-result add-result cast-result-2 (λ c. search needs))
