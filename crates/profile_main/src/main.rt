@@ -17,6 +17,7 @@ fn main() {
     let mut tight = [0u32; 5];
     let mut enough = [0u32; 6];
     say(17, read_into(&mut tight), read_into(&mut enough));
+    writes();
 }
 
 // A line on a refusal: the number wanted, what an image got, and what its neighbour got.
@@ -136,4 +137,96 @@ fn rows_of(times: &[u32; 6], low: u32, high: u32) -> bool {
         & (times[3] == high)
         & (times[4] == low)
         & (times[5] == high)
+}
+
+// ---- writing one action at one level
+
+const MOST: u32 = 16_777_215;
+
+// The first is at every edge of what is accepted, and each other is one step from it; 64 actions have less room than they need, 65 are no count.
+fn writes() {
+    write_one(1, 1, MOST, 0, MOST, MOST, MOST, 24);
+    write_one(1, 1, MOST, 0, MOST, MOST, MOST, 25);
+    write_one(0, 1, MOST, 0, MOST, MOST, MOST, 24);
+    write_one(64, 1, MOST, 0, MOST, MOST, MOST, 24);
+    write_one(65, 1, MOST, 0, MOST, MOST, MOST, 24);
+    write_one(1, 0, MOST, 0, MOST, MOST, MOST, 24);
+    write_one(1, 8, MOST, 0, MOST, MOST, MOST, 24);
+    write_one(1, 9, MOST, 0, MOST, MOST, MOST, 24);
+    write_one(1, 1, 0, 0, MOST, MOST, MOST, 24);
+    write_one(1, 1, 1_073_741_823, 0, MOST, MOST, MOST, 24);
+    write_one(1, 1, 1_073_741_824, 0, MOST, MOST, MOST, 24);
+    write_one(1, 1, MOST, 0, MOST, MOST, MOST, 23);
+    write_one(1, 1, MOST, 2, MOST, MOST, MOST, 24);
+    write_one(1, 1, MOST, 0, MOST + 1, MOST, MOST, 24);
+    write_one(1, 1, MOST, 0, MOST, MOST, MOST + 1, 24);
+    write_one(1, 1, MOST, 0, MOST, MOST, MOST - 1, 24);
+    write_one(1, 1, MOST, 1, MOST, MOST, MOST, 24);
+    write_one(1, 1, MOST, 0, MOST - 1, MOST, MOST, 24);
+}
+
+// A line on a writing: what was handed over, and what came of it.
+fn write_one(
+    n: u32,
+    levels: u32,
+    cycle: u32,
+    mask: u32,
+    deadline: u32,
+    average: u32,
+    worst: u32,
+    room: u32,
+)
+    requires { ⌜ room ≤ 25 ⌝ }
+{
+    say::numbers(
+        b"n _, levels _, cycle _, mask _, deadline _, average _, worst _, room _: ",
+        &[n, levels, cycle, mask, deadline, average, worst, room],
+    );
+    let masks = [mask as u64];
+    say_written(
+        n as usize,
+        levels as usize,
+        cycle,
+        &masks,
+        &[deadline],
+        &[average],
+        &[worst],
+        room as usize,
+    );
+}
+
+fn say_written(
+    n: usize,
+    levels: usize,
+    cycle: u32,
+    masks: &[u64],
+    deadlines: &[u32],
+    averages: &[u32],
+    worst: &[u32],
+    room: usize,
+)
+    requires { ⌜ room ≤ 25 ⌝ }
+{
+    let mut image = [0xa5u8; 25];
+    let written = profile::write(
+        n,
+        levels,
+        cycle,
+        masks,
+        deadlines,
+        averages,
+        worst,
+        &mut image[0..room],
+    );
+    say_image(written.refusal.number, &image);
+}
+
+// A refusal leaves the image untouched, and one that is accepted keeps its tail.
+fn say_image(number: u32, image: &[u8; 25]) {
+    let kept = if number == 0 {
+        image[24] == 0xa5
+    } else {
+        check::same(image, &[0xa5; 25])
+    };
+    say::numbers(b"refusal _, kept _\n", &[number, kept as u32]);
 }
