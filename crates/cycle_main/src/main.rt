@@ -21,25 +21,16 @@ fn main() {
 
 // ---- Three: a chain 0, 1, 2; cycle 20; 2 and 4 at level 0, 6 and 8 at level 1
 
-fn three() -> [u8; 78] {
-    let masks = [0u64, 1, 2];
-    let deadlines = [0u32; 3];
-    let averages = [2u32, 6, 2, 6, 2, 6];
-    let worst = [4u32, 8, 4, 8, 4, 8];
-    let mut image = [0u8; 78];
-    profile::write(3, 2, 20, &masks, &deadlines, &averages, &worst, &mut image);
-    image
-}
-
 // Cases 1 to 3.
 fn threes() {
-    let image = three();
-    io::write_all(1, b"three 6 8 4\n");
-    both(&image, 3, 2, &[6, 8, 4]);
-    io::write_all(1, b"three 0 8 8\n");
-    both(&image, 3, 2, &[0, 8, 8]);
-    io::write_all(1, b"three 8 4 8\n");
-    both(&image, 3, 2, &[8, 4, 8]);
+    three([6, 8, 4]);
+    three([0, 8, 8]);
+    three([8, 4, 8]);
+}
+
+fn three(durations: [u32; 3]) {
+    say::numbers(b"three _ _ _\n", &durations);
+    both(&samples::three(), 3, 2, &durations);
 }
 
 // Cases 4 and 5: the first action ends at a time, and the second is asked for.
@@ -55,12 +46,21 @@ fn time(t: u32) {
     let mut limits = [0i32; 6];
     let mut worst = [0u32; 6];
     let mut bounds = [0i32; 96];
-    planner::plan(&three(), &mut order, &mut limits, &mut worst, &mut bounds);
-    let first = Run::start(3, 2).run.ask(&order, &limits, &bounds).run;
-    let asked = first.report(t, &worst).run.ask(&order, &limits, &bounds);
+    planner::plan(
+        &samples::three(),
+        &mut order,
+        &mut limits,
+        &mut worst,
+        &mut bounds,
+    );
+    say::numbers(b"three at position 1, time _:", &[t]);
+    second(&order, &limits, &worst, &bounds, t);
+}
+
+fn second(order: &[u8], limits: &[i32], worst: &[u32], bounds: &[i32], t: u32) {
+    let first = Run::start(3, 2).run.ask(order, limits, bounds).run;
+    let asked = first.report(t, worst).run.ask(order, limits, bounds);
     let answer = asked.answer;
-    say::number(b"three at position 1, time ", t);
-    io::write_all(1, b":");
     say_answer(answer, 0);
     io::write_all(1, b"\n");
 }
@@ -70,8 +70,8 @@ fn time(t: u32) {
 fn long() -> [u8; 606] {
     let masks = [0u64; 20];
     let deadlines = [0u32; 20];
-    let averages = by_level(1, 5, 60);
-    let worst = by_level(2, 9, 80);
+    let averages = spread(&[1, 5, 60], 1);
+    let worst = spread(&[2, 9, 80], 1);
     let mut image = [0u8; 606];
     profile::write(
         20,
@@ -86,41 +86,30 @@ fn long() -> [u8; 606] {
     image
 }
 
-fn by_level(a: u32, b: u32, c: u32) -> [u32; 60] {
-    let mut table = [a; 60];
-    let mut k = 0;
-    while k < 20 {
-        table[k * 3 + 1] = b;
-        table[k * 3 + 2] = c;
-        k += 1;
-    }
-    table
+fn longs() {
+    long_with(b"long, each 2\n", 2, 5, 2);
+    long_with(b"long, each 2, position 5 at its worst time\n", 2, 5, 9);
+    long_with(b"long, each 2, position 5 one above it\n", 2, 5, 10);
+    long_with(b"long, each 2, position 9 takes 100\n", 2, 9, 100);
+    late_longs();
 }
 
-fn longs() {
-    io::write_all(1, b"long, each 2\n");
-    long_with(2, 5, 2);
-    io::write_all(1, b"long, each 2, position 5 at its worst time\n");
-    long_with(2, 5, 9);
-    io::write_all(1, b"long, each 2, position 5 one above it\n");
-    long_with(2, 5, 10);
-    io::write_all(1, b"long, each 2, position 9 takes 100\n");
-    long_with(2, 9, 100);
-    io::write_all(
-        1,
+fn late_longs() {
+    long_with(
         b"long, each 2, position 9 ends at 130, the next one's limit at level 0\n",
+        2,
+        9,
+        112,
     );
-    long_with(2, 9, 112);
-    io::write_all(1, b"long, each 2, position 9 ends at 131\n");
-    long_with(2, 9, 113);
-    io::write_all(1, b"long, each 0, position 9 takes 138\n");
-    long_with(0, 9, 138);
+    long_with(b"long, each 2, position 9 ends at 131\n", 2, 9, 113);
+    long_with(b"long, each 0, position 9 takes 138\n", 0, 9, 138);
 }
 
 // Each action takes the same time but for the one at a position.
-fn long_with(each: u32, at: usize, duration: u32)
+fn long_with(words: &[u8], each: u32, at: usize, duration: u32)
     requires { ⌜ at < 20 ⌝ }
 {
+    io::write_all(1, words);
     let mut durations = [each; 20];
     durations[at] = duration;
     both(&long(), 20, 3, &durations);
@@ -237,11 +226,10 @@ fn say_marks(before: Run, after: Run) {
 }
 
 fn say_end(decisions: u32, end: u32, overrun: bool, late: bool) {
-    say::number(b", decisions ", decisions);
-    say::number(b", end ", end);
-    say::mark(b", overrun ", overrun);
-    say::mark(b", late ", late);
-    io::write_all(1, b"\n");
+    say::numbers(
+        b", decisions _, end _, overrun _, late _\n",
+        &[decisions, end, overrun as u32, late as u32],
+    );
 }
 
 // ---- the dry run
@@ -250,7 +238,7 @@ fn say_end(decisions: u32, end: u32, overrun: bool, late: bool) {
 fn dried(n: u32, levels: u32, limits: &[i32], worst: &[u32], bounds: &[i32], durations: &[u32])
     requires { ⌜ n ≤ 64 ⌝ }
 {
-    let table = repeated(levels as usize, durations);
+    let table = spread(durations, levels as usize);
     let mut given = [9u8; 64];
     let mut marks = [9u8; 64];
     let answer = dry::dry_run(
@@ -268,14 +256,18 @@ fn dried(n: u32, levels: u32, limits: &[i32], worst: &[u32], bounds: &[i32], dur
     say_dried(answer);
 }
 
-fn repeated(levels: usize, durations: &[u32]) -> [u32; 512] {
+// A table that has each number of the row `each` times, and then the row again.
+fn spread(row: &[u32], each: usize) -> [u32; 512] {
     let mut table = [0u32; 512];
-    if levels == 0 {
+    if each == 0 {
+        return table;
+    }
+    if row.len() == 0 {
         return table;
     }
     let mut k = 0;
     while k < 512 {
-        table[k] = entry(durations, k / levels);
+        table[k] = entry(row, k / each % row.len());
         k += 1;
     }
     table
@@ -354,126 +346,139 @@ fn refusals() {
 }
 
 fn counts() {
-    let exact = [6, 6, 96, 6, 3, 3];
-    room(0, 2, exact);
-    room(65, 2, exact);
-    room(MOST, 2, exact);
-    room(3, 0, exact);
-    room(3, 9, exact);
-    room(3, MOST, exact);
-    room(64, 8, exact);
-    room(1, 1, exact);
+    tried(0, 2, 6, 6, 96, 6, 3, 3, 0, 1);
+    tried(65, 2, 6, 6, 96, 6, 3, 3, 0, 1);
+    tried(MOST, 2, 6, 6, 96, 6, 3, 3, 0, 1);
+    tried(3, 0, 6, 6, 96, 6, 3, 3, 0, 1);
+    tried(3, 9, 6, 6, 96, 6, 3, 3, 0, 1);
+    tried(3, MOST, 6, 6, 96, 6, 3, 3, 0, 1);
+    tried(64, 8, 6, 6, 96, 6, 3, 3, 0, 1);
+    tried(1, 1, 6, 6, 96, 6, 3, 3, 0, 1);
 }
 
 fn rooms() {
-    room(3, 2, [6, 6, 96, 6, 3, 3]);
-    room(3, 2, [7, 7, 97, 7, 4, 4]);
-    room(3, 2, [5, 6, 96, 6, 3, 3]);
-    room(3, 2, [6, 5, 96, 6, 3, 3]);
-    room(3, 2, [6, 6, 95, 6, 3, 3]);
-    room(3, 2, [6, 6, 96, 5, 3, 3]);
-    room(3, 2, [6, 6, 96, 6, 2, 3]);
-    room(3, 2, [6, 6, 96, 6, 3, 2]);
-    room(3, 2, [0, 6, 96, 6, 3, 3]);
-    room(3, 2, [6, 0, 96, 6, 3, 3]);
-    room(3, 2, [6, 6, 0, 6, 3, 3]);
-    room(3, 2, [6, 6, 96, 0, 3, 3]);
-    room(3, 2, [6, 6, 96, 6, 0, 3]);
-    room(3, 2, [6, 6, 96, 6, 3, 0]);
-}
-
-fn room(n: usize, levels: usize, room: [usize; 6]) {
-    entry_in(n, levels, 0, 1, room);
+    tried(3, 2, 6, 6, 96, 6, 3, 3, 0, 1);
+    tried(3, 2, 7, 7, 97, 7, 4, 4, 0, 1);
+    tried(3, 2, 5, 6, 96, 6, 3, 3, 0, 1);
+    tried(3, 2, 6, 5, 96, 6, 3, 3, 0, 1);
+    tried(3, 2, 6, 6, 95, 6, 3, 3, 0, 1);
+    tried(3, 2, 6, 6, 96, 5, 3, 3, 0, 1);
+    tried(3, 2, 6, 6, 96, 6, 2, 3, 0, 1);
+    tried(3, 2, 6, 6, 96, 6, 3, 2, 0, 1);
+    tried(3, 2, 0, 6, 96, 6, 3, 3, 0, 1);
+    tried(3, 2, 6, 0, 96, 6, 3, 3, 0, 1);
+    tried(3, 2, 6, 6, 0, 6, 3, 3, 0, 1);
+    tried(3, 2, 6, 6, 96, 0, 3, 3, 0, 1);
+    tried(3, 2, 6, 6, 96, 6, 0, 3, 0, 1);
+    tried(3, 2, 6, 6, 96, 6, 3, 0, 0, 1);
 }
 
 // Level 1 is given first, so that entry 0 is not used: it is judged all the same, and entry 6, behind the table, is not.
 fn entries() {
-    let exact = [6, 6, 96, 6, 3, 3];
-    entry_in(3, 2, 1, LONG - 1, exact);
-    entry_in(3, 2, 1, LONG, exact);
-    entry_in(3, 2, 0, LONG, exact);
-    entry_in(3, 2, 5, LONG, exact);
-    entry_in(3, 2, 0, 4_294_967_295, exact);
-    entry_in(3, 2, 6, LONG, [7, 7, 97, 7, 4, 4]);
+    tried(3, 2, 6, 6, 96, 6, 3, 3, 1, LONG - 1);
+    tried(3, 2, 6, 6, 96, 6, 3, 3, 1, LONG);
+    tried(3, 2, 6, 6, 96, 6, 3, 3, 0, LONG);
+    tried(3, 2, 6, 6, 96, 6, 3, 3, 5, LONG);
+    tried(3, 2, 6, 6, 96, 6, 3, 3, 0, 4_294_967_295);
+    tried(3, 2, 7, 7, 97, 7, 4, 4, 6, LONG);
     // counts before room, room before entries
-    entry_in(0, 2, 0, LONG, [0, 0, 0, 0, 0, 0]);
-    entry_in(3, 2, 0, LONG, [6, 6, 96, 6, 3, 2]);
+    tried(0, 2, 0, 0, 0, 0, 0, 0, 0, LONG);
+    tried(3, 2, 6, 6, 96, 6, 3, 2, 0, LONG);
 }
 
-// A line on the dry run with that much of each table, and durations of 1 but for one entry.
-fn entry_in(n: usize, levels: usize, at: usize, duration: u32, room: [usize; 6]) {
-    let tried = try_dry(n, levels, with(at, duration), room);
-    let answer = tried.answer;
-    let given = tried.given;
-    let marks = tried.marks;
-    say_room(n, levels, room);
-    say::count(b", entry ", at);
-    say::number(b" of ", duration);
-    say_refusal(answer.refusal);
-    say_four(b", levels ", given);
-    say_four(b", marks ", marks);
-    say_end(answer.decisions, answer.end, answer.overrun, answer.late);
-}
-
-fn with(at: usize, duration: u32) -> [u32; 7] {
-    let mut durations = [1u32; 7];
-    if at < 7 {
-        durations[at] = duration;
-    }
-    durations
+// A line on the dry run: n and L, then how much there is of limits, worst times, bounds, durations, levels and marks, then the entry of the
+// durations that is not 1, and what it is.
+fn tried(
+    n: usize,
+    levels: usize,
+    a: u32,
+    b: u32,
+    c: u32,
+    d: u32,
+    e: u32,
+    f: u32,
+    at: u32,
+    duration: u32,
+)
+    requires { ⌜ (a ≤ 7) × (b ≤ 7) × (c ≤ 97) × (d ≤ 7) × (e ≤ 4) × (f ≤ 4) ⌝ }
+{
+    say::count(b"dry ", n);
+    say::count(b" ", levels);
+    say::numbers(
+        b", room _ _ _ _ _ _, entry _ of _",
+        &[a, b, c, d, e, f, at, duration],
+    );
+    say_outcome(try_dry(
+        n,
+        levels,
+        a as usize,
+        b as usize,
+        c as usize,
+        d as usize,
+        e as usize,
+        f as usize,
+        with(at, duration),
+    ));
 }
 
 // What the dry run answers, and the two slices that it was lent, whole.
-struct Tried {
+struct Outcome {
     answer: Dried,
     given: [u8; 4],
     marks: [u8; 4],
 }
 
-fn try_dry(n: usize, levels: usize, durations: [u32; 7], room: [usize; 6]) -> Tried {
+fn try_dry(
+    n: usize,
+    levels: usize,
+    a: usize,
+    b: usize,
+    c: usize,
+    d: usize,
+    e: usize,
+    f: usize,
+    durations: [u32; 7],
+) -> Outcome
+    requires { ⌜ (a ≤ 7) × (b ≤ 7) × (c ≤ 97) × (d ≤ 7) × (e ≤ 4) × (f ≤ 4) ⌝ }
+{
     let limits = [100i32; 7];
     let worst = [1u32; 7];
     let bounds = [100i32; 97];
     let mut given = [9u8; 4];
     let mut marks = [9u8; 4];
-    let a = least(room[0], 7);
-    let b = least(room[1], 7);
-    let c = least(room[2], 97);
-    let d = least(room[3], 7);
-    let e = least(room[4], 4);
-    let f = least(room[5], 4);
     let answer = dry::dry_run(
         n,
         levels,
-        &limits[..a],
-        &worst[..b],
-        &bounds[..c],
-        &durations[..d],
-        &mut given[..e],
-        &mut marks[..f],
+        &limits[0..a],
+        &worst[0..b],
+        &bounds[0..c],
+        &durations[0..d],
+        &mut given[0..e],
+        &mut marks[0..f],
     );
-    Tried {
+    Outcome {
         answer,
         given,
         marks,
     }
 }
 
-fn least(a: usize, b: usize) -> usize
-    ensures { λ r. ⌜ r ≤ b ⌝ }
-{
-    if a < b { a } else { b }
+fn with(at: u32, duration: u32) -> [u32; 7] {
+    let mut durations = [1u32; 7];
+    if at < 7 {
+        durations[at as usize] = duration;
+    }
+    durations
 }
 
-fn say_room(n: usize, levels: usize, room: [usize; 6]) {
-    say::count(b"dry ", n);
-    say::count(b" ", levels);
-    say::count(b", room ", room[0]);
-    say::count(b" ", room[1]);
-    say::count(b" ", room[2]);
-    say::count(b" ", room[3]);
-    say::count(b" ", room[4]);
-    say::count(b" ", room[5]);
+fn say_outcome(outcome: Outcome) {
+    let answer = outcome.answer;
+    let given = outcome.given;
+    let marks = outcome.marks;
+    say_refusal(answer.refusal);
+    say_four(b", levels ____", given);
+    say_four(b", marks ____", marks);
+    say_end(answer.decisions, answer.end, answer.overrun, answer.late);
 }
 
 fn say_refusal(number: u32) {
@@ -485,8 +490,13 @@ fn say_refusal(number: u32) {
 }
 
 fn say_four(words: &[u8], row: [u8; 4]) {
-    say::number(words, fields::wide32(row[0]));
-    say::number(b"", fields::wide32(row[1]));
-    say::number(b"", fields::wide32(row[2]));
-    say::number(b"", fields::wide32(row[3]));
+    say::numbers(
+        words,
+        &[
+            fields::wide32(row[0]),
+            fields::wide32(row[1]),
+            fields::wide32(row[2]),
+            fields::wide32(row[3]),
+        ],
+    );
 }

@@ -21,12 +21,12 @@ fn main() {
 
 struct Record {
     open: bool,
-    action: u8,
-    level: u8,
+    action: u32,
+    level: u32,
     duration: u32,
 }
 
-fn open(action: u8, level: u8, duration: u32) -> Record {
+fn open(action: u32, level: u32, duration: u32) -> Record {
     Record {
         open: true,
         action,
@@ -35,7 +35,7 @@ fn open(action: u8, level: u8, duration: u32) -> Record {
     }
 }
 
-fn closed(action: u8, level: u8, duration: u32) -> Record {
+fn closed(action: u32, level: u32, duration: u32) -> Record {
     Record {
         open: false,
         action,
@@ -80,43 +80,23 @@ fn fill(trace: &mut [u8], record: Record) {
 
 fn say_record(record: Record) {
     if record.open {
-        io::write_all(1, b"open ");
+        io::write_all(1, b"open");
     } else {
-        io::write_all(1, b"closed ");
+        io::write_all(1, b"closed");
     }
-    io::print_decimal(1, record.action as u64);
-    io::write_all(1, b" ");
-    io::print_decimal(1, record.level as u64);
-    io::write_all(1, b" ");
-    io::print_decimal(1, record.duration as u64);
+    say::numbers(b" _ _ _", &[record.action, record.level, record.duration]);
 }
 
 // ---- what came of a refresh
 
 // The lent slice is as it was handed over.
 fn say_refused(number: u32, kept: bool) {
-    io::write_all(1, b"refused ");
-    io::print_decimal(1, number as u64);
+    say::number(b"refused ", number);
     if kept {
         io::write_all(1, b", slice kept\n");
     } else {
         io::write_all(1, b", slice CHANGED\n");
     }
-}
-
-fn say_averages(averages: &[u32; 6]) {
-    io::write_all(1, b"averages ");
-    say_row(averages[0], averages[1]);
-    io::write_all(1, b", ");
-    say_row(averages[2], averages[3]);
-    io::write_all(1, b", ");
-    say_row(averages[4], averages[5]);
-}
-
-fn say_row(low: u32, high: u32) {
-    io::print_decimal(1, low as u64);
-    io::write_all(1, b" ");
-    io::print_decimal(1, high as u64);
 }
 
 fn averages_of(image: &[u8]) -> [u32; 6] {
@@ -150,7 +130,7 @@ fn with_averages(image: &[u8], averages: &[u32; 6]) -> [u8; 78] {
 
 // The new image: its averages, and whether the old image comes back when they are replaced by the old ones.
 fn say_image(image: &[u8; 78], new: &[u8]) {
-    say_averages(&averages_of(new));
+    say::numbers(b"averages _ _, _ _, _ _", &averages_of(new));
     let back = with_averages(new, &averages_of(image));
     if check::same(image, &back) {
         io::write_all(1, b", rest kept");
@@ -169,8 +149,12 @@ fn say(image: &[u8; 78], trace: &[u8]) {
         say_refused(number, check::same(&out, &blank));
         return;
     }
-    say_image(image, &out[..78]);
-    if answer.bytes == 78 && check::same(&out[78..], &blank[78..]) {
+    say_image(image, &out[0..78]);
+    say_tail(answer.bytes, &out[78..]);
+}
+
+fn say_tail(bytes: usize, tail: &[u8]) {
+    if bytes == 78 && check::same(tail, b"\xa5\xa5") {
         io::write_all(1, b", tail kept\n");
     } else {
         io::write_all(1, b", tail CHANGED\n");
@@ -259,7 +243,7 @@ fn whole_traces() {
     let mut trace = [0u8; 6];
     put(&mut trace, 0, open(3, 0, 0));
     io::write_all(1, b"4 bytes: ");
-    say(&image, &trace[..4]);
+    say(&image, &trace[0..4]);
     io::write_all(1, b"6 bytes, open 3 0 0 first: ");
     say(&image, &trace);
 }
@@ -296,8 +280,7 @@ fn full(record: Record) -> [u8; 400000]
 
 fn say_times(record: Record, records: usize) {
     say_record(record);
-    io::write_all(1, b", times ");
-    io::print_decimal(1, records as u64);
+    say::count(b", times ", records);
     io::write_all(1, b": ");
 }
 
@@ -308,7 +291,7 @@ fn long_trace(record: Record, records: usize)
     let trace = full(record);
     let bytes = records * 5;
     say_times(record, records);
-    say(&image, &trace[..bytes]);
+    say(&image, &trace[0..bytes]);
 }
 
 // On Long, whose average is 16,777,214.
@@ -316,11 +299,10 @@ fn say_long(trace: &[u8]) {
     let image = samples::long();
     let mut out = [0u8; 24];
     let answer = refresh::refresh(&image, trace, &mut out);
-    io::write_all(1, b"average ");
-    io::print_decimal(1, fields::be24(&out, 18) as u64);
-    io::write_all(1, b", refusal ");
-    io::print_decimal(1, answer.refusal.number as u64);
-    io::write_all(1, b"\n");
+    say::numbers(
+        b"average _, refusal _\n",
+        &[fields::be24(&out, 18), answer.refusal.number],
+    );
 }
 
 // A sum that needs 40 bits.
@@ -331,7 +313,7 @@ fn large_sum(record: Record, records: usize)
     let bytes = records * 5;
     io::write_all(1, b"Long, ");
     say_times(record, records);
-    say_long(&trace[..bytes]);
+    say_long(&trace[0..bytes]);
 }
 
 // ---- little room, and damaged images
@@ -369,15 +351,19 @@ fn say_damaged(number: u32) {
     let image = samples::damaged(number);
     let bytes = samples::damaged_bytes(number);
     let mut out = [0xa5u8; 1];
-    let answer = refresh::refresh(&image[..bytes], b"\x00", &mut out);
+    let answer = refresh::refresh(&image[0..bytes], b"\x00", &mut out);
     io::write_all(1, b"One damaged, 1 byte of trace: ");
     say_refused(answer.refusal.number, out[0] == 0xa5);
 }
 
 fn image_refusals() {
-    let mut number = 1;
-    while number < 10 {
-        say_damaged(number);
-        number += 1;
-    }
+    say_damaged(1);
+    say_damaged(2);
+    say_damaged(3);
+    say_damaged(4);
+    say_damaged(5);
+    say_damaged(6);
+    say_damaged(7);
+    say_damaged(8);
+    say_damaged(9);
 }
