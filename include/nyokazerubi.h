@@ -183,7 +183,7 @@ struct nyokazerubi_given {
     bool late;
 };
 
-/* Starts a cycle in the record, which holds anything before. 3, with which it becomes a record of zero actions: each later call on it answers 11. */
+/* Starts a cycle in the record, whatever it held; zeroed memory is a record. 3, with which it becomes a record of zero actions: each later call on it answers 11. */
 uint32_t nyokazerubi_start(struct nyokazerubi_run *run, uint32_t n, uint32_t levels);
 
 /* The next action and its level; the record says that it runs. 11, 17, 11, 10. */

@@ -6,7 +6,7 @@ use run::Run;
 mod through;
 
 fn main() {
-    let image = three();
+    let image = samples::three();
     let mut order = [0u8; 3];
     let mut limits = [0i32; 6];
     let mut worst = [0u32; 6];
@@ -35,14 +35,6 @@ fn cycle(order: &[u8], limits: &[i32], worst: &[u32], bounds: &[i32]) {
     run = start(run, 65, 2);
     run = ask(run, order, limits, bounds);
     report(run, 18, worst);
-}
-
-// A chain 0, 1, 2; cycle 20; deadlines 0; 2 and 4 at level 0, 6 and 8 at level 1.
-fn three() -> [u8; 78] {
-    *b"\x10\x64\x00\x00\x00\xa0\
-\x00\x00\x00\x00\x00\x00\x00\x00\x00\x00\x00\x00\x00\x00\x02\x00\x00\x04\x00\x00\x06\x00\x00\x08\
-\x00\x00\x00\x00\x00\x00\x00\x01\x00\x00\x00\x00\x00\x00\x02\x00\x00\x04\x00\x00\x06\x00\x00\x08\
-\x00\x00\x00\x00\x00\x00\x00\x02\x00\x00\x00\x00\x00\x00\x02\x00\x00\x04\x00\x00\x06\x00\x00\x08"
 }
 
 // ---- each call over the lent record and by value
