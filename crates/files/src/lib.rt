@@ -38,7 +38,7 @@ pub fn tell(agrees: bool, what: &[u8], number: usize) -> u64
     0
 }
 
-// How many agree of how many.
+// How many agree of how many. It promises only that it ends: no contract of `io` can say which bytes a write takes.
 pub fn sum_up(agreed: u64, all: usize, what: &[u8]) {
     io::print_decimal(1, agreed);
     io::write_all(1, b" of ");

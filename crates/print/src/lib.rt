@@ -145,10 +145,6 @@ fn put_steps(out: &mut [u8], order: &[u8], given: &[u8], marks: &[u8], n: usize)
     to
 }
 
-fn one_if(b: bool) -> u32 {
-    if b { 1 } else { 0 }
-}
-
 // Decisions, end, overrun, late.
 fn put_end(out: &mut [u8], at: usize, framed: Framed) -> usize
     requires { ⌜ Counts at (now out) ⌝ }
@@ -156,8 +152,8 @@ fn put_end(out: &mut [u8], at: usize, framed: Framed) -> usize
 {
     let a = put_field(&mut *out, at, framed.decisions, b' ');
     let b = put_field(&mut *out, a, framed.end, b' ');
-    let c = put_field(&mut *out, b, one_if(framed.overrun), b' ');
-    put_field(out, c, one_if(framed.late), b'\n')
+    let c = put_field(&mut *out, b, framed.overrun as u32, b' ');
+    put_field(out, c, framed.late as u32, b'\n')
 }
 
 // Position, action, level and decided; then decisions, end, overrun, late. Answers how much of `out` it wrote.
