@@ -2,29 +2,25 @@
 use mathlib.Core.Path.{_≡_, _∙_}
 use mathlib.Core.List.{List}
 use mathlib.Core.Logic.{inr}
-use Prim.Native.Nat.{ℕ, _≤_}
-use native.Mathlib.Nat.{le-refl, le-of-suc-le-suc, mul-one}
+use Prim.Native.Nat.{ℕ}
+use native.Mathlib.Nat.{le-refl, mul-one}
 use native.Mathlib.Omega.{arith}
 use lib.ListN.{getD}
-use Rattle.rules.specs.Image.{due, worst-of, profile}
+use Rattle.rules.specs.Image.{due, profile}
 use Rattle.rules.specs.Refusals.{First}
 use Rattle.rules.proofs.Refusals.{first-none}
 use Rattle.rules.proofs.Order.Alike.{Alike, alike-back}
 use Rattle.sets.proofs.Laws.{below-exact}
-use Rattle.fields.proofs.Bytes.{Bytes, be-lt}
+use Rattle.fields.proofs.Bytes.{Bytes}
 use Rattle.order.specs.Lent.{lent, Masked, Timed}
 use Rattle.order.specs.Judged.{Verdict}
 use Rattle.order.proofs.Judging.{verdict-alike}
 use Rattle.records.specs.declared.Header.{Header}
 use Rattle.records.specs.Reading.{HeaderOf, Opened, Columns}
+use Rattle.records.proofs.Reading.{worst-short}
 use Rattle.image.specs.declared.Checked.{Checked}
 use Rattle.image.specs.Checks.{record-checks, Found}
 use Rattle.image.proofs.Checks.{record-numbered}
-
--- a worst time has 24 bits
-worst-short : (s : List ℕ) (a q : ℕ) → Bytes s → worst-of s a q ≤ 16777215
-unfolding worst-of
-worst-short s a q bytes = le-of-suc-le-suc (be-lt s _ 3 bytes)
 
 module _ {s : List ℕ} {h : Header} {m d w : List ℕ} (x : Opened s h) (y : Columns s (h .n) m d w) where
   -- with none of 5 to 7 a mask names actions only

@@ -53,14 +53,14 @@ module _ {s : List ℕ} {r : Checked} where
 -- ---- reading
 
 -- no slice is too short
-pub record Roomy (n L : ℕ) (m d a w : List ℕ) : Type 0 where
+pub record HasRoom (n L : ℕ) (m d a w : List ℕ) : Type 0 where
   pub masks : n ≤ length m
   pub deadlines : n ≤ length d
   pub averages : n * L ≤ length a
   pub worst : n * L ≤ length w
 
-pub roomy : (n L : ℕ) (m d a w : List ℕ) → (Tight (rooms n L m d a w) → ⊥) → Roomy n L m d a w
-roomy n L m d a w f = record {
+pub has-room : (n L : ℕ) (m d a w : List ℕ) → (Tight (rooms n L m d a w) → ⊥) → HasRoom n L m d a w
+has-room n L m d a w f = record {
   masks = not-less (λ l. f (inl l));
   deadlines = not-less (λ l. f (inr (inl l)));
   averages = not-less (λ l. f (inr (inr (inl l))));

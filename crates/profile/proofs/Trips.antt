@@ -23,14 +23,14 @@ use Rattle.trips.proofs.RoundTrip.{ReadFrom, read-lent}
 use Rattle.trips.proofs.Accepts.{written-accepted, accepted-formed, tables-accepted, accepted-again, written-back}
 use Rattle.profile.specs.declared.Unpacked.{Unpacked}
 use Rattle.profile.specs.Calls.{rooms, Reads}
-use Rattle.profile.proofs.Answers.{no-refusal, none-given, Roomy, roomy}
+use Rattle.profile.proofs.Answers.{no-refusal, none-given, HasRoom, has-room}
 
 -- ---- a reading without a refusal
 
 -- what it answers and leaves
 pub record Unpacks (s m d a w m′ d′ a′ w′ : List ℕ) (r : Unpacked) : Type 0 where
   pub accepted : Accepted s
-  pub room : Roomy (profile s .n) (profile s .levels) m d a w
+  pub room : HasRoom (profile s .n) (profile s .levels) m d a w
   pub n : r .n ≡ profile s .n
   pub levels : r .levels ≡ profile s .levels
   pub cycle : r .cycle ≡ profile s .cycle
@@ -44,7 +44,7 @@ pub unpacks : {s m d a w m′ d′ a′ w′ : List ℕ} {r : Unpacked} → Read
 unpacks {s} {m} {d} {a} {w} x none =
     let own = none-given s (17 when Tight (rooms (profile s .n) (profile s .levels) m d a w)) (lit< tt) (rw none at (x .given)) in record {
       accepted = own .0;
-      room = roomy (profile s .n) (profile s .levels) m d a w (own .1);
+      room = has-room (profile s .n) (profile s .levels) m d a w (own .1);
       n = rw none at (x .n);
       levels = rw none at (x .levels);
       cycle = rw none at (x .cycle);
@@ -108,7 +108,7 @@ module _ {n L cycle : ℕ} {masks deadlines averages worst before after : List �
       let count : bytes ≡ length s = (rw none at (y .count)) ∙ sym (length-image (of-tables n L cycle masks deadlines averages worst)) in
       rw (count, rw none at (y .written)) (part-holds (of-splice before 0 s zero-le))
 
-  pub read-back : {m d a w m′ d′ a′ w′ : List ℕ} {r : Unpacked} → Roomy n L m d a w → Reads (take bytes after) m d a w m′ d′ a′ w′ r
+  pub read-back : {m d a w m′ d′ a′ w′ : List ℕ} {r : Unpacked} → HasRoom n L m d a w → Reads (take bytes after) m d a w m′ d′ a′ w′ r
       → ReadsBack n L cycle masks deadlines averages worst m d a w m′ d′ a′ w′ r
   unfolding profile
   read-back {m} {d} {a} {w} {m′} {d′} {a′} {w′} {r} h x =
@@ -133,7 +133,7 @@ module _ {n L cycle : ℕ} {masks deadlines averages worst before after : List �
         worst-are = (rw (g .actions-are, g .levels-are) at (u .worst)) ∙ ap (splice w 0) (g .worst-are);
       }
     where
-      not-tight : Roomy n L m d a w → Tight (rooms n L m d a w) → ⊥
+      not-tight : HasRoom n L m d a w → Tight (rooms n L m d a w) → ⊥
       not-tight h (inl l) = omega arith
       not-tight h (inr (inl l)) = omega arith
       not-tight h (inr (inr (inl l))) = omega arith

@@ -3,14 +3,16 @@ use mathlib.Core.Path.{_≡_, subst, _∙_}
 use mathlib.Core.List.{List}
 use mathlib.Core.Logic.{inl, inr}
 use Prim.Native.Nat.{ℕ, _+_, _≤_, _<_, zero-le}
+use native.Mathlib.Nat.{le-of-suc-le-suc}
 use native.Mathlib.Decide.{ℕ-discrete}
 use native.Mathlib.Omega.{arith}
 use lib.ListN.{length, getD, set, length-set}
 use lib.Seq.{getD-set-same, getD-set-other}
 use borrow.Author.Count.{below-none, below-more}
-use Rattle.rules.specs.Image.{levels, record-bytes, record-at, image-bytes, profile}
+use Rattle.rules.specs.Image.{levels, record-bytes, record-at, image-bytes, worst-of, profile}
 use Rattle.rules.specs.Refusals.{Count, Length, Accepted}
 use Rattle.rules.proofs.Refusals.{accepted-sound}
+use Rattle.fields.proofs.Bytes.{Bytes, be-lt}
 use Rattle.fields.proofs.Strides.{stride-fits}
 use Rattle.records.specs.Reading.{HasRecord, HasRecords, Column}
 use Rattle.records.specs.Faults.{CountOut}
@@ -65,6 +67,13 @@ has-record {s} {L} {n} a h l = record {
   few-actions = omega (arith, h .few-actions);
   within = omega (arith, stride-fits a n (record-bytes L) l, h .long);
 }
+
+-- ---- the times
+
+-- in an image of bytes a worst time has 24 bits
+pub worst-short : (s : List ℕ) (a q : ℕ) → Bytes s → worst-of s a q ≤ 16777215
+unfolding worst-of
+worst-short s a q is-bytes = le-of-suc-le-suc (be-lt s _ 3 is-bytes)
 
 -- ---- a loop that fills a column: before it, a turn of it, after it
 

@@ -11,17 +11,11 @@ use lib.ListN.{length, getD, replicate}
 use Rattle.rules.specs.Words.{tab}
 use Rattle.rules.specs.Image.{worst-of, profile}
 use Rattle.fields.specs.Fields.{splice}
-use Rattle.fields.proofs.Bytes.{Bytes, be-lt}
 use Rattle.fields.proofs.Splice.{getD-splice, getD-splice-before, getD-splice-after, length-splice}
 use Rattle.fields.proofs.Tabs.{length-tab, getD-tab}
 use Rattle.measure.specs.Measure.{cell, Ceilings}
 use Rattle.measure.proofs.Tallies.{zeros}
 use Rattle.refresh.specs.Refresh.{Ceiled}
-
--- A worst time has 24 bits.
-pub worst-lt : (s : List ℕ) (a q : ℕ) {v : ℕ} → Bytes s → v ≡ worst-of s a q → v < 16777216
-unfolding worst-of
-worst-lt s a q is-bytes is = rw is (be-lt s _ 3 is-bytes)
 
 pub none-ceiled : (s : List ℕ) (L : ℕ) → Ceiled s 0 L (replicate 512 0)
 none-ceiled s L = record {

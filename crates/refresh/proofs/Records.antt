@@ -9,7 +9,6 @@ use Rattle.rules.specs.Image.{Profile, bytes, header-bytes, levels, record-byte
 use Rattle.rules.specs.Image.{profile, header-of, level-image, record-image, image}
 use Rattle.rules.specs.Refusals.{Accepted}
 use Rattle.rules.specs.Refresh.{new-average, refreshed, new-image}
-use Rattle.rules.proofs.Refusals.{accepted-sound}
 use Rattle.fields.specs.Fields.{splice}
 use Rattle.fields.proofs.Bytes.{Bytes}
 use Rattle.fields.proofs.Holds.{Holds, right}
@@ -17,16 +16,10 @@ use Rattle.fields.proofs.Splice.{of-splice}
 use Rattle.fields.proofs.Copies.{same-again, rest-stays, front-stays, written-over, behind}
 use Rattle.fields.proofs.Tabs.{tab-is}
 use Rattle.fields.proofs.Cats.{length-cat, nth, cat-more}
-use Rattle.records.specs.Reading.{HasRecords}
-use Rattle.records.proofs.Reading.{has-records}
 use Rattle.trips.proofs.Sizes.{length-level, length-record, length-image}
 use Rattle.trips.proofs.Again.{read-written}
 use Rattle.trips.proofs.Accepts.{accepted-formed}
 use Rattle.refresh.specs.Refresh.{Copied}
-
--- An accepted image has its records.
-pub accepted-records : (s : List ℕ) (n L : ℕ) → Accepted s → n ≡ profile s .n → L ≡ profile s .levels → HasRecords s L n
-accepted-records s n L a e f = let sound = accepted-sound s .0 a in has-records s e f (sound .not-count) (sound .not-length)
 
 -- ---- one record
 

@@ -7,10 +7,11 @@ use native.Mathlib.Omega.{arith}
 use native.Mathlib.Decide.{ℕ-discrete}
 use lib.Dec.{lit<}
 use lib.ListN.{length, take}
-use Rattle.rules.specs.Image.{Profile, be, actions, levels, cycle, image-bytes, average-of, worst-of, profile, of-tables, image}
+use Rattle.rules.specs.Image.{Profile, actions, levels, cycle, image-bytes, profile, of-tables, image}
 use Rattle.rules.specs.Refusals.{First, Count, Range, TimeOut, Table, Looped, Unfit, Accepted, Tight, write-call}
 use Rattle.rules.proofs.Refusals.{None, first-none, accepted-sound}
-use Rattle.fields.proofs.Bytes.{Bytes, be-lt}
+use Rattle.rules.proofs.Speed.Reading.{times-small}
+use Rattle.fields.proofs.Bytes.{Bytes}
 use Rattle.trips.proofs.Sizes.{length-image}
 use Rattle.trips.proofs.Same.{Same, same-back, count-to, range-to, time-out-to, table-to, looped-to, unfit-to}
 use Rattle.trips.proofs.Written.{InRange, in-range, version-back, header-spare-back, spare-back, written-read}
@@ -115,20 +116,15 @@ accepted-formed s a =
     is {x} {y} h = Dec·not-not (ℕ-discrete x y) .0 h
 
 accepted-writable : (s : List ℕ) → Bytes s → Accepted s → Writable (profile s)
-unfolding profile average-of worst-of
 accepted-writable s b a =
     let h = accepted-sound s .0 a in record {
       not-count = h .not-count;
       not-range = h .not-range;
-      not-time-out = λ t. ⊎-elim (short _) (short _) (t .2 .2);
+      not-time-out = times-small s b;
       not-table = h .not-table;
       not-looped = h .not-looped;
       not-unfit = h .not-unfit;
     }
-  where
-    -- 24 bits say no time above 16,777,215
-    short : (at : ℕ) → 16777215 < be s at 3 → ⊥
-    short at t = omega (arith, be-lt s at 3 b)
 
 pub tables-accepted : {s masks deadlines averages worst : List ℕ} → ReadFrom s masks deadlines averages worst → Bytes s → Accepted s
     → (rooms : List (ℕ × ℕ)) → (Tight rooms → ⊥)

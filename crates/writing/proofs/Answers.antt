@@ -1,6 +1,6 @@
 -- What a yes or a no says. Assumes nothing.
-use mathlib.Core.Path.{_≡_, refl}
-use mathlib.Core.Bool.{Bool, true, false, false≢true}
+use mathlib.Core.Path.{_≡_}
+use mathlib.Core.Bool.{Bool, true, false}
 use mathlib.Core.List.{List, [], _∷_, _++_}
 use mathlib.Core.Logic.{_⊎_, inl, inr, ⊎-elim, ⊎-map, _↔_}
 use Prim.Native.Nat.{ℕ, _<_}
@@ -8,12 +8,6 @@ use lib.Dec.{ltb}
 use borrow.Author.Tests.{ltb-true, lt-ltb}
 use Rattle.rules.specs.Refusals.{Tight}
 use Rattle.rules.proofs.Tests.{not-both}
-
-pub said-yes : {P : Type 0} → P → (true ≡ true) ↔ P
-said-yes p = ((λ e. p), (λ q. refl))
-
-pub said-no : {P : Type 0} → (P → ⊥) → (false ≡ true) ↔ P
-said-no f = ((λ e. absurd (false≢true e)), (λ p. absurd (f p)))
 
 pub refuted : {P : Type 0} {b : Bool} → (b ≡ true) ↔ P → b ≡ false → P → ⊥
 refuted says e p = not-both (says .1 p) e

@@ -1,29 +1,14 @@
--- The lowest action at fault, and what it says of them all. Assumes nothing.
+-- The actions at fault for refusal 6. Assumes nothing.
 use Prim.Native.Nat.{ℕ, _^_, _≤_, _<_}
 use mathlib.Core.Path.{_≡_}
 use mathlib.Core.Bool.{true}
 use mathlib.Core.Logic.{_⊎_, inl, inr, _↔_}
-use native.Mathlib.Nat.{le-refl, le-of-lt}
 use native.Mathlib.Omega.{arith}
 use Rattle.rules.specs.Image.{Profile, has}
 use Rattle.rules.specs.Refusals.{Range, TimeOut}
 use Rattle.sets.specs.Sets.{Below}
 use Rattle.sets.proofs.Laws.{below-or-not, below-exact}
-use Rattle.records.specs.Faults.{LowestFault}
 use Rattle.writing.specs.Faults.{LongTime, RangeFault}
-
-module _ {n : ℕ} {Fault : ℕ → Type 0} where
-  pub found : {a : ℕ} → a < n → Fault a → ((k : ℕ) → k < a → Fault k → ⊥) → LowestFault Fault n a
-  found h f none = record { most = le-of-lt h; fault = λ l. f; before = none }
-
-  pub none-found : ((k : ℕ) → k < n → Fault k → ⊥) → LowestFault Fault n n
-  none-found none = record { most = le-refl n; fault = λ l. absurd (omega arith); before = none }
-
-  pub some-at-fault : {a : ℕ} → LowestFault Fault n a → a < n → (b : ℕ) × (b < n) × Fault b
-  some-at-fault {a} x h = (a, h, x .fault h)
-
-  pub none-at-fault : {a : ℕ} → LowestFault Fault n a → n ≤ a → (b : ℕ) × (b < n) × Fault b → ⊥
-  none-at-fault x h f = x .before (f .0) (omega (arith, f .1)) (f .2)
 
 -- A mask that is not below n names an action that is absent.
 pub names-absent : (s n : ℕ) → s < 2 ^ 64 → (Below s n → ⊥) → (b : ℕ) × (n ≤ b) × (has s b ≡ true)

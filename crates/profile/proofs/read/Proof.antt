@@ -12,7 +12,7 @@ use Rattle.records.specs.Reading.{HasRecords}
 use Rattle.image.proofs.Answers.{accepted-records}
 use Rattle.writing.proofs.Answers.{refuted}
 use Rattle.profile.specs.Calls.{rooms}
-use Rattle.profile.proofs.Answers.{image-refusal, own-refusal, no-refusal, judged-accepted, found-rooms, roomy, refused-reads, accepted-reads}
+use Rattle.profile.proofs.Answers.{image-refusal, own-refusal, no-refusal, judged-accepted, found-rooms, has-room, refused-reads, accepted-reads}
 use Rattle.profile.proofs.read.Statement.{statement}
 use Rattle.profile.proofs.read.Tie as tie
 
@@ -116,7 +116,7 @@ unpack-requires c κs =
     let p = past (one (two .before)) in
     let x = start p .args in
     let r = p .checked .result in
-    let h = roomy (r .n) (r .levels) (x .masks .now) (x .deadlines .now) (x .averages .now) (x .worst .now) (not-tight two) in
+    let h = has-room (r .n) (r .levels) (x .masks .now) (x .deadlines .now) (x .averages .now) (x .worst .now) (not-tight two) in
     (records (one (two .before)), ((h .masks, h .deadlines), (h .averages, h .worst)))
 
 same-length-5 : tie.Need-same-length-5

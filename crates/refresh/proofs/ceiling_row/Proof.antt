@@ -10,7 +10,7 @@ use Rattle.fields.specs.Fields.{splice}
 use Rattle.fields.proofs.Bytes.{Bytes}
 use Rattle.fields.proofs.Cats.{cat-none, cat-done}
 use Rattle.fields.proofs.Tabs.{tab-more}
-use Rattle.refresh.proofs.Ceilings.{worst-lt}
+use Rattle.records.proofs.Reading.{worst-short}
 use Rattle.refresh.proofs.ceiling_row.Statement.{statement}
 use Rattle.refresh.proofs.ceiling_row.Tie as tie
 
@@ -31,7 +31,7 @@ add-ceilings : tie.Need-add-ceilings Inv-loop μ-loop
 add-ceilings c =
     let x = c .before .before .before .before .args in
     let bytes : Bytes (x .image .now) = λ k. c .before .before .before .shared-slice-known .given k .fits in
-    omega (arith, worst-lt (x .image .now) (x .a) _ bytes (c .worst-at .ensures))
+    omega (arith, worst-short (x .image .now) (x .a) (c .before .before .loop .q) bytes, c .worst-at .ensures)
 
 mul-ceilings : tie.Need-mul-ceilings Inv-loop μ-loop
 mul-ceilings c = search needs

@@ -11,16 +11,17 @@ use Rattle.rules.specs.Image.{profile}
 use Rattle.rules.specs.Refusals.{Ground, First}
 use Rattle.fields.proofs.Bytes.{Bytes}
 use Rattle.records.specs.Reading.{HasRecords}
+use Rattle.records.proofs.Reading.{has-accepted}
 use Rattle.measure.proofs.Tallies.{none-tallied}
 use Rattle.refresh.specs.Refresh.{own}
 use Rattle.refresh.proofs.Grounds.{gives-none, enough, after-image}
-use Rattle.refresh.proofs.Records.{accepted-records, copies, new-written}
+use Rattle.refresh.proofs.Records.{copies, new-written}
 use Rattle.refresh.proofs.Ceilings.{none-ceiled, ceilings}
 use Rattle.refresh.proofs.refresh_accepted.Statement.{statement}
 use Rattle.refresh.proofs.refresh_accepted.Tie as tie
 
 records : (c : tie.Start) → HasRecords (now (c .args .image)) (c .args .levels) (c .args .n)
-records c = accepted-records (now (c .args .image)) (c .args .n) (c .args .levels) (c .pre .0) (c .pre .1) (c .pre .2)
+records c = has-accepted (now (c .args .image)) (c .pre .0) (c .pre .1) (c .pre .2)
 
 take-ceilings-requires : tie.Need-take-ceilings-requires
 take-ceilings-requires c κs =

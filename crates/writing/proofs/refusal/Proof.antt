@@ -8,11 +8,12 @@ use borrow.Author.Needs.{needs}
 use borrow.Author.Tests.{leb-true}
 use Rattle.rules.specs.Image.{Profile, image-bytes, of-tables}
 use Rattle.rules.specs.Refusals.{_when_, First, Count, Range, TimeOut, Table, Looped, Unfit, Tight, write-call}
+use Rattle.records.proofs.Faults.{denied, some-fault, no-fault}
 use Rattle.pack.specs.Packing.{Roomy}
 use Rattle.writing.specs.Faults.{RangeFault}
 use Rattle.writing.specs.Writing.{table-rooms, rooms}
-use Rattle.writing.proofs.Answers.{refuted, tight-and}
-use Rattle.writing.proofs.Faults.{some-at-fault, none-at-fault, range-faults}
+use Rattle.writing.proofs.Answers.{tight-and}
+use Rattle.writing.proofs.Faults.{range-faults}
 use Rattle.writing.proofs.Accepting.{counted, roomy}
 use Rattle.writing.proofs.Judging.{masked, timed, judged}
 use Rattle.writing.proofs.refusal.Statement.{statement}
@@ -58,10 +59,10 @@ past-6 c = past-17 (c .before .before .before)
 
 not-3 : (c : tie.Else1) → Count (F (past-3 c)) → ⊥
 unfolding of-tables
-not-3 c = refuted (c .before .count-out .ensures) (c .if1 .left)
+not-3 c = denied (c .before .count-out .ensures) (c .if1 .left)
 
 tables-fit : (c : tie.Else2) → Tight (Tables (past-3 (c .before .before))) → ⊥
-tables-fit c = refuted (c .before .tight .ensures) (c .if2 .left)
+tables-fit c = denied (c .before .tight .ensures) (c .if2 .left)
 
 not-17 : (c : tie.Else3) → Tight (Rooms (past-17 c)) → ⊥
 not-17 c t =
@@ -69,7 +70,7 @@ not-17 c t =
     ⊎-elim (tables-fit (c .before .before)) fits (tight-says (past-17 c) .1 t)
 
 in-range : (c : tie.Else4) (a : ℕ) → a < past-6 c .args .n → RangeFault (F (past-6 c)) a → ⊥
-in-range c a h f = none-at-fault (c .before .range .ensures) (c .if4 .left) (a, h, f)
+in-range c a h f = no-fault (some-fault (c .before .range .ensures)) (c .if4 .left) (a, h, f)
 
 not-6 : (c : tie.Else4) → Range (F (past-6 c)) ⊎ TimeOut (F (past-6 c)) → ⊥
 unfolding of-tables
@@ -79,7 +80,7 @@ not-6 c f =
 
 not-7 : (c : tie.Else5) → Table (F (past-6 (c .before))) → ⊥
 unfolding of-tables
-not-7 c = none-at-fault (c .before .before .before .table .ensures) (c .if5 .left)
+not-7 c = no-fault (some-fault (c .before .before .before .table .ensures)) (c .if5 .left)
 
 rest : (c : tie.Else3) (k : ℕ) → Rest (past-17 c) k → First (write-call (F (past-17 c)) (Rooms (past-17 c))) k
 rest c k p = inr (not-3 (c .before .before .before .before), inr (not-17 c, p))
@@ -127,19 +128,19 @@ table-requires c κs =
 range-requires : tie.Need-range-requires
 range-requires c κs =
     let k = counts (c .before .before .before .before .before) in
-    ((room (c .before), k .1), λ e a h f. none-at-fault (c .table .ensures) (leb-true _ _ e) (a, h, f))
+    ((room (c .before), k .1), λ e a h f. no-fault (some-fault (c .table .ensures)) (leb-true _ _ e) (a, h, f))
 
 returns-4 : tie.Need-returns-4
 unfolding of-tables
 returns-4 c =
     let e = c .before .before .before in
-    rest e 6 (inl (range-faults (F (past-17 e)) .0 (some-at-fault (c .before .range .ensures) (c .if4 .taken)), refl))
+    rest e 6 (inl (range-faults (F (past-17 e)) .0 (some-fault (c .before .range .ensures) .0 (c .if4 .taken)), refl))
 
 returns-5 : tie.Need-returns-5
 unfolding of-tables
 returns-5 c =
     rest (c .before .before .before .before) 7
-    (inr (not-6 (c .before), inl (some-at-fault (c .before .before .before .table .ensures) (c .if5 .taken), refl)))
+    (inr (not-6 (c .before), inl (some-fault (c .before .before .before .table .ensures) .0 (c .if5 .taken), refl)))
 
 judge-requires : tie.Need-judge-requires
 judge-requires c κs =

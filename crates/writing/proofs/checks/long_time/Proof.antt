@@ -1,18 +1,19 @@
 -- In order the top level tells; else the loop has found no time above the longest below level q. Assumes nothing.
-use Prim.Native.Nat.{ℕ, _-_, _≤_, _<_}
+use Prim.Native.Nat.{_-_, _≤_}
 use mathlib.Core.Logic.{inl, inr, ⊎-elim}
 use native.Mathlib.Omega.{arith}
 use borrow.Author.Needs.{needs}
 use borrow.Author.Count.{below-none, below-more}
+use Rattle.records.proofs.Faults.{said-yes, said-no, Faultless}
 use Rattle.writing.specs.Faults.{times}
-use Rattle.writing.proofs.Answers.{said-yes, said-no, less-says}
+use Rattle.writing.proofs.Answers.{less-says}
 use Rattle.writing.proofs.Levels.{LongAt, longest-top}
 use Rattle.writing.proofs.checks.long_time.Statement.{statement}
 use Rattle.writing.proofs.checks.long_time.Tie as tie
 
 abbrev Inv-loop : tie.InvT-loop
 Inv-loop averages worst levels a ordered row q₀ q =
-    (q ≤ levels) × ((k : ℕ) → k < q → LongAt (times levels averages a) (times levels worst a) k → ⊥)
+    (q ≤ levels) × Faultless (LongAt (times levels averages a) (times levels worst a)) q
 
 abbrev μ-loop : tie.MeasureT-loop
 μ-loop averages worst levels a ordered row q₀ q = levels - q

@@ -1,5 +1,5 @@
 -- The loop has found no action below a at fault. Assumes nothing.
-use Prim.Native.Nat.{ℕ, _-_, _≤_, _<_}
+use Prim.Native.Nat.{_-_, _≤_}
 use mathlib.Core.Logic.{inl, inr}
 use native.Mathlib.Omega.{arith}
 use borrow.Author.Needs.{needs}
@@ -7,15 +7,15 @@ use borrow.Author.Count.{below-none, below-more}
 use borrow.Author.Tests.{not-true, not-false}
 use Rattle.rules.specs.Image.{of-tables}
 use Rattle.fields.proofs.Strides.{stride-fits}
+use Rattle.records.proofs.Faults.{denied, Faultless, lowest-here, lowest-none}
 use Rattle.writing.specs.Faults.{RangeFault}
-use Rattle.writing.proofs.Answers.{refuted}
-use Rattle.writing.proofs.Faults.{found, none-found, names-absent, in-range}
+use Rattle.writing.proofs.Faults.{names-absent, in-range}
 use Rattle.writing.proofs.checks.range.Statement.{statement}
 use Rattle.writing.proofs.checks.range.Tie as tie
 
 abbrev Inv-loop : tie.InvT-loop
 Inv-loop n levels cycle masks deadlines averages worst ordered a₀ a =
-    (a ≤ n) × ((k : ℕ) → k < a → RangeFault (of-tables n levels cycle masks deadlines averages worst) k → ⊥)
+    (a ≤ n) × Faultless (RangeFault (of-tables n levels cycle masks deadlines averages worst)) a
 
 abbrev μ-loop : tie.MeasureT-loop
 μ-loop n levels cycle masks deadlines averages worst ordered a₀ a = n - a
@@ -33,7 +33,7 @@ returns : tie.Need-returns Inv-loop μ-loop
 unfolding of-tables
 returns c =
     let p = c .before .before in
-    found (p .loop-test .taken) (inl (c .if1 .taken)) (p .before .loop .inv .1)
+    lowest-here (p .loop-test .taken) (p .before .loop .inv .1) (inl (c .if1 .taken))
 
 mul-below : tie.Need-mul-below Inv-loop μ-loop
 mul-below c = search needs
@@ -49,8 +49,8 @@ unfolding of-tables
 returns-2 c =
     let p = c .before .before .before .before .before in
     let fits = c .before .before .shared-slice-known6 .given (p .before .loop .a) .fits in
-    let absent = names-absent _ _ fits (refuted (c .before .below .ensures) (not-true _ (c .if2 .taken))) in
-    found (p .loop-test .taken) (inr (inl absent)) (p .before .loop .inv .1)
+    let absent = names-absent _ _ fits (denied (c .before .below .ensures) (not-true _ (c .if2 .taken))) in
+    lowest-here (p .loop-test .taken) (p .before .loop .inv .1) (inr (inl absent))
 
 long-time-requires : tie.Need-long-time-requires Inv-loop μ-loop
 long-time-requires c κs =
@@ -64,7 +64,7 @@ returns-3 : tie.Need-returns-3 Inv-loop μ-loop
 unfolding of-tables
 returns-3 c =
     let p = c .before .before .before .before .before .before .before in
-    found (p .loop-test .taken) (inr (inr (c .before .long-time .ensures .0 (c .if3 .taken)))) (p .before .loop .inv .1)
+    lowest-here (p .loop-test .taken) (p .before .loop .inv .1) (inr (inr (c .before .long-time .ensures .0 (c .if3 .taken))))
 
 add-a : tie.Need-add-a Inv-loop μ-loop
 add-a c = search needs
@@ -85,11 +85,11 @@ loop-again c =
           (t .loop .a)
           (p .before .before .if1 .left)
           (p .below .ensures .0 (not-false _ (c .before .before .if2 .left)))
-          (refuted (c .before .long-time .ensures) (c .if3 .left))),
+          (denied (c .before .long-time .ensures) (c .if3 .left))),
     )
 
 returns-4 : tie.Need-returns-4 Inv-loop μ-loop
-returns-4 c = none-found (λ k h. c .before .loop .inv .1 k (omega arith))
+returns-4 c = lowest-none (omega arith) (c .before .loop .inv .1)
 
 pub range-spec : {M : Type 1} → statement M
 range-spec =

@@ -1,19 +1,18 @@
 -- The loop has found no action below a at fault. Assumes nothing.
-use Prim.Native.Nat.{ℕ, _-_, _≤_, _<_}
+use Prim.Native.Nat.{_-_, _≤_}
 use native.Mathlib.Omega.{arith}
 use borrow.Author.Needs.{needs}
 use borrow.Author.Count.{below-none, below-more}
 use Rattle.fields.proofs.Strides.{stride-fits}
 use Rattle.records.specs.Faults.{RowBreaks}
+use Rattle.records.proofs.Faults.{denied, Faultless, lowest-here, lowest-none}
 use Rattle.writing.specs.Faults.{times}
-use Rattle.writing.proofs.Answers.{refuted}
-use Rattle.writing.proofs.Faults.{found, none-found}
 use Rattle.writing.proofs.checks.table.Statement.{statement}
 use Rattle.writing.proofs.checks.table.Tie as tie
 
 abbrev Inv-loop : tie.InvT-loop
 Inv-loop n levels averages worst a₀ a =
-    (a ≤ n) × ((k : ℕ) → k < a → RowBreaks levels (times levels averages k) (times levels worst k) → ⊥)
+    (a ≤ n) × Faultless (λ k. RowBreaks levels (times levels averages k) (times levels worst k)) a
 
 abbrev μ-loop : tie.MeasureT-loop
 μ-loop n levels averages worst a₀ a = n - a
@@ -29,7 +28,7 @@ disordered-requires c κs =
 returns : tie.Need-returns Inv-loop μ-loop
 returns c =
     let p = c .before .before in
-    found (p .loop-test .taken) (c .before .disordered .ensures .0 (c .if1 .taken)) (p .before .loop .inv .1)
+    lowest-here (p .loop-test .taken) (p .before .loop .inv .1) (c .before .disordered .ensures .0 (c .if1 .taken))
 
 add-a : tie.Need-add-a Inv-loop μ-loop
 add-a c = search needs
@@ -40,11 +39,11 @@ loop-less c = search needs
 loop-again : tie.Need-loop-again Inv-loop μ-loop
 loop-again c = (
   search needs,
-  below-more _ _ (c .before .before .before .loop .inv .1) (refuted (c .before .disordered .ensures) (c .if1 .left)),
+  below-more _ _ (c .before .before .before .loop .inv .1) (denied (c .before .disordered .ensures) (c .if1 .left)),
 )
 
 returns-2 : tie.Need-returns-2 Inv-loop μ-loop
-returns-2 c = none-found (λ k h. c .before .loop .inv .1 k (omega arith))
+returns-2 c = lowest-none (omega arith) (c .before .loop .inv .1)
 
 pub table-spec : {M : Type 1} → statement M
 table-spec =

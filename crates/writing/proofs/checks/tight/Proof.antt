@@ -2,7 +2,8 @@
 use mathlib.Core.Logic.{inl, inr}
 use native.Mathlib.Nat.{mul-le-mul}
 use native.Mathlib.Omega.{arith}
-use Rattle.writing.proofs.Answers.{said-yes, less-says, or-else, or-nothing}
+use Rattle.records.proofs.Faults.{said-yes}
+use Rattle.writing.proofs.Answers.{less-says, or-else, or-nothing}
 use Rattle.writing.proofs.checks.tight.Statement.{statement}
 use Rattle.writing.proofs.checks.tight.Tie as tie
 
