@@ -1,16 +1,12 @@
 -- What a yes or a no says. Assumes nothing.
 use mathlib.Core.Path.{_≡_}
-use mathlib.Core.Bool.{Bool, true, false}
+use mathlib.Core.Bool.{Bool, true}
 use mathlib.Core.List.{List, [], _∷_, _++_}
 use mathlib.Core.Logic.{_⊎_, inl, inr, ⊎-elim, ⊎-map, _↔_}
 use Prim.Native.Nat.{ℕ, _<_}
 use lib.Dec.{ltb}
 use borrow.Author.Tests.{ltb-true, lt-ltb}
 use Rattle.rules.specs.Refusals.{Tight}
-use Rattle.rules.proofs.Tests.{not-both}
-
-pub refuted : {P : Type 0} {b : Bool} → (b ≡ true) ↔ P → b ≡ false → P → ⊥
-refuted says e p = not-both (says .1 p) e
 
 pub less-says : (a b : ℕ) → (ltb a b ≡ true) ↔ (a < b)
 less-says a b = (ltb-true a b, lt-ltb a b)

@@ -10,7 +10,7 @@ use Rattle.rules.specs.Refusals.{Ground, _when_, First, Tight, Accepted, image-
 use Rattle.image.specs.Checks.{Found}
 use Rattle.records.specs.Reading.{HasRecords}
 use Rattle.image.proofs.Answers.{accepted-records}
-use Rattle.writing.proofs.Answers.{refuted}
+use Rattle.records.proofs.Faults.{denied}
 use Rattle.profile.specs.Calls.{rooms}
 use Rattle.profile.proofs.Answers.{image-refusal, own-refusal, no-refusal, judged-accepted, found-rooms, has-room, refused-reads, accepted-reads}
 use Rattle.profile.proofs.read.Statement.{statement}
@@ -58,7 +58,7 @@ abbrev one : tie.After-tight → tie.Else1
 one c = c .before .before .before .before .before
 
 not-tight : (c : tie.Else2) → let p = past (one (c .before)) in Short p (p .checked .result .n) (p .checked .result .levels) → ⊥
-not-tight c = refuted (c .before .tight .ensures) (c .if2 .left)
+not-tight c = denied (c .before .tight .ensures) (c .if2 .left)
 
 given : (c : tie.Else2)
     → let p = past (one (c .before)) in
