@@ -1,5 +1,5 @@
 -- Writing the encoder's profile is refused only for want of room: 17 where the image is shorter than its 546 bytes, else nothing. Assumes nothing.
-use Prim.Native.Nat.{ℕ, zero, suc, _≤_, _<_}
+use Prim.Native.Nat.{ℕ, zero, suc}
 use mathlib.Core.Path.{_≡_, refl}
 use mathlib.Core.Bool.{Bool, true, cond, _&&_}
 use mathlib.Core.List.{List, [], _∷_}
@@ -10,6 +10,7 @@ use lib.Dec.{ltb, ltb→lt}
 use Rattle.rules.specs.Words.{cat}
 use Rattle.rules.specs.Image.{header, actions, levels, cycle, record-bytes, record-at, image-bytes, mask-of, deadline-of, average-of, worst-of, of-tables, header-of, level-image, record-image, image}
 use Rattle.rules.specs.Refusals.{First}
+use Rattle.rules.proofs.Differences.{not-above}
 use Rattle.rules.proofs.Tests.{pass, and-true}
 use Rattle.fields.proofs.Bytes.{Bytes}
 use Rattle.fields.proofs.Holds.{whole}
@@ -55,7 +56,4 @@ only-room room k (inr (_, inr (_, inr (_, inl (h, e))))) = absurd (sure .not-tab
 only-room room k (inr (_, inr (_, inr (_, inr (_, inl (h, e)))))) = absurd (sure .not-looped h)
 only-room room k (inr (_, inr (_, inr (_, inr (_, inr (_, inl (h, e))))))) = absurd (sure .not-unfit h)
 only-room room k (inr (_, inr (roomy, inr (_, inr (_, inr (_, inr (_, e))))))) =
-    rw (le-ltb room 546 (not-out (λ l. roomy (inr (inr (inr (inr (inl l)))))))) e
-  where
-    not-out : {x y : ℕ} → (y < x → ⊥) → x ≤ y
-    not-out n = omega arith
+    rw (le-ltb room 546 (not-above (λ l. roomy (inr (inr (inr (inr (inl l)))))))) e

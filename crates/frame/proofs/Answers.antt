@@ -14,6 +14,7 @@ use Rattle.rules.specs.Limits.{tables as by-position}
 use Rattle.rules.specs.Refusals.{Ground, _when_, First, CountsOut, Tight, image-checks}
 use Rattle.rules.specs.Run.{Run}
 use Rattle.rules.specs.Dry.{LongEntry, dry-call, frame-call}
+use Rattle.rules.proofs.Differences.{not-above}
 use Rattle.rules.proofs.Refusals.{Sound, accepted-sound, accepted-parts, first-stops, first-goes-on, image-numbered}
 use Rattle.rules.proofs.Accepted.{some-level}
 use Rattle.fields.specs.Fields.{splice}
@@ -28,9 +29,6 @@ use Rattle.dry.specs.Dry.{tables, needed, Dries}
 use Rattle.frame.specs.declared.Framed.{Framed}
 use Rattle.frame.specs.Frame.{rooms, run-at, Frames}
 use Rattle.frame.proofs.Cycle.{Held, After, same-levels, same-marks, same-end, count-is, promise}
-
-not-out : {x y : ℕ} → (y < x → ⊥) → x ≤ y
-not-out n = omega arith
 
 -- ---- the refusal of the whole
 
@@ -111,8 +109,8 @@ pub record Planning (s actions worst : List ℕ) (limits bounds : List ℤ) (p :
 -- what a sound image has at most
 pub few : {s : List ℕ} → Sound s → (profile s .n ≤ 64) × (profile s .n * profile s .levels ≤ 512)
 few {s} h =
-    let n : profile s .n ≤ 64 = not-out (λ l. h .not-count (inl (inr (inl l)))) in
-    let levels : profile s .levels ≤ 8 = not-out (λ l. h .not-count (inl (inr (inr (inr l))))) in
+    let n : profile s .n ≤ 64 = not-above (λ l. h .not-count (inl (inr (inl l)))) in
+    let levels : profile s .levels ≤ 8 = not-above (λ l. h .not-count (inl (inr (inr (inr l))))) in
     (n, mul-le-mul n levels)
 
 module _ {s actions worst : List ℕ} {limits bounds : List ℤ} {p : Planned} (P : Planning s actions worst limits bounds p) where

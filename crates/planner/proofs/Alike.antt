@@ -5,9 +5,10 @@ use native.Mathlib.Nat.{le-refl}
 use native.Mathlib.Decide.{decLt}
 use native.Mathlib.Omega.{arith}
 use lib.IntN.{ℤ, pos, _-ℤ_}
-use Rattle.rules.specs.Words.{sum, greatest-of, least-of, rows}
-use Rattle.rules.specs.Limits.{Tables, safe, average, margin, mixed, limit, coast-bound}
-use Rattle.rules.proofs.Sums.{sum-same}
+use Rattle.rules.specs.Words.{least-of, rows}
+use Rattle.rules.specs.Limits.{Tables, margin, mixed, limit, coast-bound}
+use Rattle.rules.proofs.Sums.{span-same}
+use Rattle.rules.proofs.Limits.Alike.{Same, mixed-same}
 use Rattle.fields.proofs.Cats.{cat-ext}
 use Rattle.fields.proofs.Rows.{rows-ext}
 use Rattle.rows.proofs.Coast.{term, bound-within, bound-past}
@@ -21,11 +22,6 @@ pub record Alike (S T : Tables) (n L : ℕ) : Type 0 where
   pub average : (k q : ℕ) → k < n → q < L → S .average k q ≡ T .average k q
   pub worst : (k q : ℕ) → k < n → q < L → S .worst k q ≡ T .worst k q
 
-greatest-same : (f g : ℕ → ℕ) (i m : ℕ) → ((j : ℕ) → i ≤ j → j ≤ i + m → f j ≡ g j) → greatest-of f i m ≡ greatest-of g i m
-unfolding greatest-of
-greatest-same f g i zero h = h i (le-refl i) (omega arith)
-greatest-same f g i (suc m) h = rw (greatest-same f g i m (λ j a b. h j a (omega arith)), h (i + suc m) (omega arith) (le-refl _))
-
 least-same : (f g : ℕ → ℤ) (i m : ℕ) → ((j : ℕ) → i ≤ j → j ≤ i + m → f j ≡ g j) → least-of f i m ≡ least-of g i m
 unfolding least-of
 least-same f g i zero h = h i (le-refl i) (omega arith)
@@ -33,31 +29,20 @@ least-same f g i (suc m) h = rw (least-same f g i m (λ j a b. h j a (omega arit
 
 module _ {S T : Tables} {n L : ℕ} (same : Alike S T n L) where
   module _ (q : ℕ) (l : q < L) where
-    average-sum : (k : ℕ) → k ≤ n → sum k (λ p. S .average p q) ≡ sum k (λ p. T .average p q)
-    average-sum k h = sum-same k (λ p. S .average p q) (λ p. T .average p q) (λ p b. same .average p q (omega arith) l)
-
-    worst-sum : (k : ℕ) → k ≤ n → sum k (λ p. S .worst p 0) ≡ sum k (λ p. T .worst p 0)
-    worst-sum k h = sum-same k (λ p. S .worst p 0) (λ p. T .worst p 0) (λ p b. same .worst p 0 (omega arith) (same .some-level))
-
-    average-alike : (i k : ℕ) → i ≤ k → k < n → average S i k q ≡ average T i k q
-    average-alike i k a h = rw (average-sum (suc k) h, average-sum i (omega arith))
-
-    safe-alike : (i k : ℕ) → i ≤ k → k < n → safe S i k q ≡ safe T i k q
-    safe-alike i k a h = rw (same .worst i q (omega arith) l, worst-sum (suc k) h, worst-sum (suc i) (omega arith))
-
-    mixed-alike : (i k : ℕ) → i ≤ k → k < n → mixed S i k q ≡ mixed T i k q
-    unfolding mixed margin
-    mixed-alike i k a h =
-        let greatest = greatest-same (λ j. safe S j k q - average S j k q) (λ j. safe T j k q - average T j k q) i (k - i)
-        (λ j b c. rw (safe-alike j k (omega arith) h, average-alike j k (omega arith) h)) in
-        rw (average-alike i k a h, greatest)
+    up-to : (k : ℕ) → k < n → Same S T k q
+    up-to k h = record {
+      deadline = same .deadline k h;
+      average = λ p b. same .average p q (omega arith) l;
+      worst = λ p b. same .worst p q (omega arith) l;
+      worst0 = λ p b. same .worst p 0 (omega arith) (same .some-level);
+    }
 
     pub limit-alike : (i : ℕ) → i < n → limit S i q ≡ limit T i q
     unfolding limit mixed margin
     limit-alike i h =
         rw (same .n-left, same .n-right)
         (least-same (λ k. pos (S .deadline k) -ℤ pos (mixed S i k q)) (λ k. pos (T .deadline k) -ℤ pos (mixed T i k q)) i (n - 1 - i)
-        (λ k a b. rw (same .deadline k (omega arith), mixed-alike i k a (omega arith))))
+        (λ k a b. let alike = up-to k (omega arith) in rw (alike .deadline, mixed-same alike i a)))
 
   pub limits-alike : rows (limit S) n L ≡ rows (limit T) n L
   limits-alike = rows-ext (limit S) (limit T) n L (λ i q h l. limit-alike q l i h)
@@ -68,14 +53,14 @@ module _ {S T : Tables} {n L : ℕ} (same : Alike S T n L) where
   bound-alike : (i q r : ℕ) → i < n → q < L → coast-bound S (limit S) i q (suc r) ≡ coast-bound T (limit T) i q (suc r)
   bound-alike i q r h l = go (decLt (i + r) n)
     where
-      sums : (k : ℕ) → k ≤ n → sum k (λ p. S .worst p q) ≡ sum k (λ p. T .worst p q)
-      sums k m = sum-same k (λ p. S .worst p q) (λ p. T .worst p q) (λ p b. same .worst p q (omega arith) l)
-
       go : Dec (i + r < n) → coast-bound S (limit S) i q (suc r) ≡ coast-bound T (limit T) i q (suc r)
       go (yes m) =
           bound-within S (limit S) i q r (omega (arith, same .n-left))
           ∙ least-same (term S (limit S) i q) (term T (limit T) i q) i r
-          (λ j a b. rw (limit-alike q l j (omega arith), sums j (omega arith), sums i (omega arith)))
+          (λ j a b. rw (
+            limit-alike q l j (omega arith),
+            span-same (λ p. S .worst p q) (λ p. T .worst p q) i j a (λ p c. same .worst p q (omega arith) l),
+          ))
           ∙ sym (bound-within T (limit T) i q r (omega (arith, same .n-right)))
       go (no m) =
           bound-past S (limit S) i q r (omega (arith, same .n-left)) ∙ sym (bound-past T (limit T) i q r (omega (arith, same .n-right)))

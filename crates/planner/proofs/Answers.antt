@@ -1,5 +1,5 @@
 -- What planning answers: refused, and not. Assumes nothing.
-use Prim.Native.Nat.{ℕ, _*_, _≤_, _<_}
+use Prim.Native.Nat.{ℕ, _*_, _≤_}
 use mathlib.Core.Path.{_≡_, refl}
 use mathlib.Core.List.{List, [], _∷_}
 use mathlib.Core.Logic.{inl, inr, _≢_}
@@ -10,6 +10,7 @@ use lib.ListN.{length}
 use Rattle.rules.specs.Image.{profile}
 use Rattle.rules.specs.Order.{Order}
 use Rattle.rules.specs.Refusals.{Ground, _when_, First, Tight, Accepted, kept, image-checks}
+use Rattle.rules.proofs.Differences.{not-above}
 use Rattle.rules.proofs.Refusals.{first-stops, first-goes-on, first-parts, image-numbered}
 use Rattle.image.specs.declared.Checked.{Checked}
 use Rattle.image.specs.Checks.{Judged}
@@ -45,14 +46,11 @@ module _ (n L : ℕ) (order : List ℕ) (limits : List ℤ) (worst : List ℕ) (
   pub roomy : First (17 when Tight (rooms n L order limits worst bounds) ∷ []) 0 → Roomy
   roomy (inl p) = absurd (omega arith)
   roomy (inr p) = record {
-    order-room = not-out (λ h. p .0 (inl h));
-    limits-room = not-out (λ h. p .0 (inr (inl h)));
-    worst-room = not-out (λ h. p .0 (inr (inr (inl h))));
-    bounds-room = not-out (λ h. p .0 (inr (inr (inr (inl h)))));
+    order-room = not-above (λ h. p .0 (inl h));
+    limits-room = not-above (λ h. p .0 (inr (inl h)));
+    worst-room = not-above (λ h. p .0 (inr (inr (inl h))));
+    bounds-room = not-above (λ h. p .0 (inr (inr (inr (inl h)))));
   }
-    where
-      not-out : {x y : ℕ} → (y < x → ⊥) → x ≤ y
-      not-out n = omega arith
 
 -- ---- by what the check of the image answers: refused with 1 to 9, or judged for 17
 

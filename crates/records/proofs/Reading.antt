@@ -11,6 +11,7 @@ use lib.Seq.{getD-set-same, getD-set-other}
 use borrow.Author.Count.{below-none, below-more}
 use Rattle.rules.specs.Image.{levels, record-bytes, record-at, image-bytes, worst-of, profile}
 use Rattle.rules.specs.Refusals.{Count, Length, Accepted}
+use Rattle.rules.proofs.Differences.{not-above}
 use Rattle.rules.proofs.Refusals.{accepted-sound}
 use Rattle.fields.proofs.Bytes.{Bytes, be-lt}
 use Rattle.fields.proofs.Strides.{stride-fits}
@@ -26,13 +27,10 @@ pub record InRange (n L : ℕ) : Type 0 where
 
 pub in-range : {n L cycle : ℕ} → (CountOut n L cycle → ⊥) → InRange n L
 in-range h = record {
-  few-actions = not-out (λ l. h (inl (inr (inl l))));
-  some-level = not-out (λ l. h (inl (inr (inr (inl l)))));
-  few-levels = not-out (λ l. h (inl (inr (inr (inr l)))));
+  few-actions = not-above (λ l. h (inl (inr (inl l))));
+  some-level = not-above (λ l. h (inl (inr (inr (inl l)))));
+  few-levels = not-above (λ l. h (inl (inr (inr (inr l)))));
 }
-  where
-    not-out : {x y : ℕ} → (y < x → ⊥) → x ≤ y
-    not-out n = omega arith
 
 -- ---- 3 and 4: without them the records are there
 

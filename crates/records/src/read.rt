@@ -3,7 +3,7 @@ use crate::Header;
 ghost use mathlib.Core.Path.{_≡_};
 ghost use Prim.Native.Nat.{_≤_, _<_};
 ghost use lib.ListN.{length};
-ghost use Rattle.rules.specs.Image.{record-at, mask-of, deadline-of, spare-of, average-of, worst-of};
+ghost use Rattle.rules.specs.Image.{due, profile, record-at, mask-of, deadline-of, spare-of, average-of, worst-of};
 ghost use Rattle.records.specs.Reading.{HeaderOf, HasRecord};
 
 pub fn header(image: &[u8]) -> Header
@@ -43,6 +43,15 @@ pub fn deadline_at(image: &[u8], levels: usize, a: usize) -> u32
     ensures { λ r. ⌜ r ≡ deadline-of (now (image .entry)) a ⌝ }
 {
     fields::be32(image, record_at(levels, a) + 8) / 4
+}
+
+// The deadline as it counts: 0 stands for the cycle.
+pub fn due_at(image: &[u8], levels: usize, a: usize, cycle: u32) -> u32
+    requires { ⌜ HasRecord (now image) levels a × (cycle ≡ profile (now image) .cycle) ⌝ }
+    ensures { λ r. ⌜ r ≡ due (profile (now (image .entry))) a ⌝ }
+{
+    let deadline = deadline_at(image, levels, a);
+    if deadline == 0 { cycle } else { deadline }
 }
 
 pub fn spare_at(image: &[u8], levels: usize, a: usize) -> u32

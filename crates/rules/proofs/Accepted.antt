@@ -17,6 +17,7 @@ use Rattle.rules.specs.Limits.{Tables, tables, limit}
 use Rattle.rules.specs.Refusals.{Count, Range, TimeOut, Falls, Table, Unfit, Accepted}
 use Rattle.rules.specs.Demand.{Safe, Policy, WithinWorst, DemandThree}
 use Rattle.rules.proofs.Sums.{sum-longer}
+use Rattle.rules.proofs.Differences.{not-above}
 use Rattle.rules.proofs.Refusals.{accepted-sound}
 use Rattle.rules.proofs.Order.OfProfile.{fit-exact, fit?}
 use Rattle.rules.proofs.Limits.Mixed.{Sound, mixed-passes, mixed-safe}
@@ -31,26 +32,20 @@ pub rises : (time : ℕ → ℕ) (L : ℕ) → (Falls time L → ⊥) → (q r :
 rises time L never q r l = le-ind (λ (m : ℕ). m < L → time q ≤ time m) (λ h. le-refl _)
     (λ m k ih h. le-trans (ih (omega arith)) (up m h)) r l
   where
-    not-below : {x y : ℕ} → (y < x → ⊥) → x ≤ y
-    not-below n = omega arith
-
     up : (m : ℕ) → suc m < L → time m ≤ time (suc m)
-    up m h = not-below (λ e. never (m, h, e))
+    up m h = not-above (λ e. never (m, h, e))
 
 module _ (F : Profile) (o : Order (F .n)) (counts : Count F → ⊥) where
-  not-out : {x y : ℕ} → (y < x → ⊥) → x ≤ y
-  not-out n = omega arith
-
   pub some-level : 0 < F .levels
-  some-level = not-out (λ h. counts (inl (inr (inr (inl h)))))
+  some-level = not-above (λ h. counts (inl (inr (inr (inl h)))))
 
   pub some-action : 0 < F .n
-  some-action = not-out (λ h. counts (inl (inl h)))
+  some-action = not-above (λ h. counts (inl (inl h)))
 
   pub tables-sound : (Table F → ⊥) → Sound (tables F o)
   tables-sound table = record {
     some-level = some-level;
-    ordered = λ p q l m. not-out (λ h. table (o .at p, o .at-lt p l, inl (q, m, h)));
+    ordered = λ p q l m. not-above (λ h. table (o .at p, o .at-lt p l, inl (q, m, h)));
     average-rises = λ p q r l a m. rises (F .average (o .at p)) (F .levels) (λ f. table (o .at p, o .at-lt p l, inr (inl f))) q r a m;
     worst-rises = λ p q r l a m. rises (F .worst (o .at p)) (F .levels) (λ f. table (o .at p, o .at-lt p l, inr (inr f))) q r a m;
   }
@@ -58,13 +53,13 @@ module _ (F : Profile) (o : Order (F .n)) (counts : Count F → ⊥) where
   pub tables-small : (Range F → ⊥) → (TimeOut F → ⊥) → Small (tables F o)
   unfolding due
   tables-small range time = record {
-    few = not-out (λ h. counts (inl (inr (inl h))));
-    time = λ p q l m. not-out (λ h. time (o .at p, o .at-lt p l, (q, m, inr h)));
-    due = λ k l. by (eqb (F .deadline (o .at k)) 0) (not-out (λ h. range (o .at k, o .at-lt k l, inl h)));
+    few = not-above (λ h. counts (inl (inr (inl h))));
+    time = λ p q l m. not-above (λ h. time (o .at p, o .at-lt p l, (q, m, inr h)));
+    due = λ k l. by (eqb (F .deadline (o .at k)) 0) (not-above (λ h. range (o .at k, o .at-lt k l, inl h)));
   }
     where
       cycle-in : F .cycle ≤ 1073741823
-      cycle-in = not-out (λ h. counts (inr (inr h)))
+      cycle-in = not-above (λ h. counts (inr (inr h)))
 
       by : (b : Bool) {x : ℕ} → x ≤ F .cycle → cond b (F .cycle) x ≤ 1073741823
       by true h = cycle-in

@@ -3,3 +3,4 @@ pub mod Mixed
 pub mod Rows
 pub mod Shape
 pub mod Range
+pub mod Alike

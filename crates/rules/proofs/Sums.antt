@@ -1,6 +1,6 @@
 -- Laws of sums, and the searches and deciders that computed definitions use.
-use Prim.Native.Nat.{ℕ, zero, suc, _+_, _≤_, _<_, zero-le}
-use mathlib.Core.Path.{_≡_, refl, ap, subst}
+use Prim.Native.Nat.{ℕ, zero, suc, _+_, _-_, _≤_, _<_, zero-le}
+use mathlib.Core.Path.{_≡_, refl, ap, ap₂, subst}
 use mathlib.Core.Logic.{_≢_, _⊎_, inl, inr}
 use native.Mathlib.Nat.{le-refl, le-trans, le-of-eq, le-antisymm}
 use native.Mathlib.Decide.{decLe, decLt, ℕ-discrete, le-ind}
@@ -52,6 +52,9 @@ sum-one (suc n) b f l h = go (ℕ-discrete b n) (λ m. sum-one n b f m (λ a k. 
 pub sum-longer : (f : ℕ → ℕ) (k m : ℕ) → k ≤ m → sum k f ≤ sum m f
 unfolding sum
 sum-longer f k = le-ind (λ (m : ℕ). sum k f ≤ sum m f) (le-refl _) (λ m l shorter. omega arith)
+
+pub span-same : (f g : ℕ → ℕ) (i j : ℕ) → i ≤ j → ((p : ℕ) → p < j → f p ≡ g p) → span f i j ≡ span g i j
+span-same f g i j l h = ap₂ (λ (x y : ℕ). x - y) (sum-same j f g h) (sum-same i f g (λ p b. h p (omega arith)))
 
 pub span-less : (f g : ℕ → ℕ) (i j : ℕ) → i ≤ j → ((p : ℕ) → i ≤ p → p < j → f p ≤ g p) → span f i j ≤ span g i j
 unfolding sum

@@ -12,6 +12,7 @@ use lib.ListN.{getD}
 use Rattle.rules.specs.Image.{due, profile}
 use Rattle.rules.specs.Refusals.{First, image-checks}
 use Rattle.rules.specs.Speed.{reading-by, speed-call}
+use Rattle.rules.proofs.Differences.{not-above}
 use Rattle.rules.proofs.Refusals.{Sound, first-one, first-none, first-stops, first-goes-on, image-numbered, accepted-parts}
 use Rattle.rules.proofs.Order.OfProfile.{order-settled}
 use Rattle.image.specs.declared.Checked.{Checked}
@@ -41,14 +42,11 @@ pub in-range : (n levels i k q t : ℕ) → First (own-checks n levels i k q t) 
 in-range n levels i k q t none =
     let (not-reading, (not-clock, _)) = first-none (own-checks n levels i k q t) (lit< tt, (lit< tt, tt)) .0 none in
     record {
-      ordered = not-out (λ l. not-reading (inl l));
+      ordered = not-above (λ l. not-reading (inl l));
       position = lt-of-not-le (λ l. not-reading (inr (inl l)));
       level = lt-of-not-le (λ l. not-reading (inr (inr l)));
-      clock = not-out not-clock;
+      clock = not-above not-clock;
     }
-  where
-    not-out : {x y : ℕ} → (y < x → ⊥) → x ≤ y
-    not-out h = omega arith
 
 -- with no refusal the image is sound too
 pub read-range : (s : List ℕ) (i k q t : ℕ) → First (speed-call s i k q t) 0 → Sound s × InRange (profile s .n) (profile s .levels) i k q t

@@ -6,9 +6,7 @@ use records::read;
 ghost use mathlib.Core.Path.{_≡_};
 ghost use mathlib.Core.Bool.{true};
 ghost use mathlib.Core.Logic.{_↔_};
-ghost use Rattle.rules.specs.Image.{due, profile};
 ghost use Rattle.rules.specs.Refusals.{First};
-ghost use Rattle.records.specs.Reading.{HasRecord};
 ghost use Rattle.ratio.specs.Stretch.{Of, Small};
 ghost use Rattle.speed.specs.Speed.{Reads, Tells, Absent, own-checks, listed, Readable};
 
@@ -40,15 +38,6 @@ fn own_refusal(n: usize, levels: usize, first: usize, last: usize, level: usize,
         return 13;
     }
     0
-}
-
-// The deadline of an action as it counts: 0 stands for the cycle.
-fn due_at(image: &[u8], levels: usize, a: usize, cycle: u32) -> u32
-    requires { ⌜ HasRecord (now image) levels a × (cycle ≡ profile (now image) .cycle) ⌝ }
-    ensures { λ r. ⌜ r ≡ due (profile (now (image .entry))) a ⌝ }
-{
-    let deadline = read::deadline_at(image, levels, a);
-    if deadline == 0 { cycle } else { deadline }
 }
 
 // Average and margin of the positions, from the last one back.
@@ -92,7 +81,7 @@ pub fn speed_reading(image: &[u8], first: usize, last: usize, level: usize, t: u
     }
     let actions = checked.order;
     let s = stretch(image, levels, &actions, first, last, level);
-    let deadline = due_at(image, levels, actions[last] as usize, checked.cycle);
+    let deadline = read::due_at(image, levels, actions[last] as usize, checked.cycle);
     ratio::read(s.average, deadline, s.margin, t)
 }
 

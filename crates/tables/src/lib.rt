@@ -1,21 +1,10 @@
 // The tables of an accepted image: the order, the limits, the worst times by position and the coast bounds, written to lent slices.
 use records::read;
-ghost use mathlib.Core.Path.{_≡_};
 ghost use Prim.Native.Nat.{_*_, _≤_};
 ghost use lib.ListN.{length};
-ghost use Rattle.rules.specs.Image.{due, profile};
+ghost use Rattle.rules.specs.Image.{profile};
 ghost use Rattle.rules.specs.Order.{Order};
-ghost use Rattle.records.specs.Reading.{HasRecord};
 ghost use Rattle.tables.specs.Filling.{Given, SomeGiven, CanWork, Works, Filled, Written};
-
-// An action's deadline as it counts: 0 stands for the cycle.
-fn due_at(image: &[u8], levels: usize, a: usize, cycle: u32) -> u32
-    requires { ⌜ HasRecord (now image) levels a × (cycle ≡ profile (now image) .cycle) ⌝ }
-    ensures { λ r. ⌜ r ≡ due (profile (now (image .entry))) a ⌝ }
-{
-    let deadline = read::deadline_at(image, levels, a);
-    if deadline == 0 { cycle } else { deadline }
-}
 
 // The row of limits at the position from entry `from` on, for action a, from the row after it; the finished row goes to the lent table, and
 // so do the worst times and the coast bounds.
@@ -74,7 +63,7 @@ fn work(
         i -= 1;
         let a = actions[i] as usize;
         let from = i * levels;
-        let due = due_at(image, levels, a, cycle);
+        let due = read::due_at(image, levels, a, cycle);
         let here = work_row(
             image,
             levels,

@@ -1,9 +1,8 @@
--- Assumes nothing.
 use borrow.Author.Needs.{needs}
 use borrow.Author.Tests.{eq-eqb, ne-eqb}
 use Rattle.rules.specs.Image.{due, profile}
-use Rattle.tables.proofs.due_at.Statement.{statement}
-use Rattle.tables.proofs.due_at.Tie as tie
+use Rattle.records.proofs.read.due_at.Statement.{statement}
+use Rattle.records.proofs.read.due_at.Tie as tie
 
 deadline-at-requires : tie.Need-deadline-at-requires
 deadline-at-requires c κs = search needs
