@@ -11,6 +11,7 @@ use borrow.Author.Tests.{eq-eqb, ne-eqb}
 use Rattle.rules.specs.Words.{tab, rows}
 use Rattle.rules.specs.Image.{mask-of, deadline-of, average-of, worst-of, profile}
 use Rattle.rules.specs.Refusals.{Ground, First, Tight, Accepted, image-checks, image-call}
+use Rattle.rules.proofs.Differences.{not-above}
 use Rattle.rules.proofs.Refusals.{image-numbered, first-stops, first-goes-on, first-parts}
 use Rattle.fields.specs.Fields.{splice}
 use Rattle.image.specs.declared.Refusal.{Refusal}
@@ -61,14 +62,11 @@ pub record HasRoom (n L : ℕ) (m d a w : List ℕ) : Type 0 where
 
 pub has-room : (n L : ℕ) (m d a w : List ℕ) → (Tight (rooms n L m d a w) → ⊥) → HasRoom n L m d a w
 has-room n L m d a w f = record {
-  masks = not-less (λ l. f (inl l));
-  deadlines = not-less (λ l. f (inr (inl l)));
-  averages = not-less (λ l. f (inr (inr (inl l))));
-  worst = not-less (λ l. f (inr (inr (inr (inl l)))));
+  masks = not-above (λ l. f (inl l));
+  deadlines = not-above (λ l. f (inr (inl l)));
+  averages = not-above (λ l. f (inr (inr (inl l))));
+  worst = not-above (λ l. f (inr (inr (inr (inl l)))));
 }
-  where
-    not-less : {x y : ℕ} → (x < y → ⊥) → y ≤ x
-    not-less h = omega arith
 
 module _ {s m d a w : List ℕ} where
   pub refused-reads : {r : Unpacked} (f : Refusal) → First (image-call s (rooms (profile s .n) (profile s .levels) m d a w)) (f .number)

@@ -14,6 +14,7 @@ use lib.ListN.{length}
 use lib.Signed.{mag}
 use Rattle.rules.specs.Words.{cat, tab}
 use Rattle.rules.specs.Limits.{Tables, absent, limit, coast-bound}
+use Rattle.rules.proofs.Differences.{not-above}
 use Rattle.fields.specs.Fields.{splice}
 use Rattle.fields.proofs.Strides.{stride-more, stride-fits, cell-fits, block-start}
 use Rattle.fields.proofs.Splice.{getD-splice, getD-splice-after}
@@ -56,11 +57,8 @@ module _ {S : Tables} {n levels : ℕ} (lawful : Lawful S n levels) (out₀ : Li
           ∙ getD-blocks f levels 16 (n - i) 0 q k (pos 0) (omega arith) c m
           ∙ ap (λ (j : ℕ). coast-bound S (limit S) j q (suc k)) (add-zero i)
       go (no l) =
-          rw (le-ltb (i * levels + q) (n * levels) (omega (arith, mul-le-mul-right levels (ge l))))
+          rw (le-ltb (i * levels + q) (n * levels) (omega (arith, mul-le-mul-right levels (not-above l))))
           (sym (bound-past S (limit S) i q k (omega (arith, lawful .positions))))
-        where
-          ge : (i < n → ⊥) → n ≤ i
-          ge f = omega arith
 
   -- position i from position j, which is after it
   module _ {out : List ℤ} (i j : ℕ) (e : j ≡ i + 1) (h : j ≤ n) (was : Bounded S n levels out₀ j out) where

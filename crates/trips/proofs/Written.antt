@@ -13,6 +13,7 @@ use Rattle.rules.specs.Words.{cat}
 use Rattle.rules.specs.Image.{Profile, has, bytes, be, header, version, actions, levels, cycle, header-spare, record-bytes, record-at}
 use Rattle.rules.specs.Image.{mask-of, deadline-of, spare-of, average-of, worst-of, profile, header-of, level-image, record-image, image}
 use Rattle.rules.specs.Refusals.{Count, Range, TimeOut}
+use Rattle.rules.proofs.Differences.{not-above}
 use Rattle.fields.proofs.Holds.{Holds, whole, left, right, reads-lt}
 use Rattle.fields.proofs.Cats.{nth}
 use Rattle.trips.proofs.Sizes.{length-level, length-record}
@@ -58,9 +59,6 @@ in-range {F} count range time-out = record {
   worst = λ a q l m. below (not-above (λ h. time-out (a, l, (q, m, inr h)))) (lit< tt);
 }
   where
-    not-above : {x y : ℕ} → (y < x → ⊥) → x ≤ y
-    not-above h = omega arith
-
     few : 64 < F .n → ⊥
     few h = count (inl (inr (inl h)))
 

@@ -25,24 +25,12 @@ abbrev μ-loop : tie.MeasureT-loop
 loop-holds : tie.Need-loop-holds Inv-loop μ-loop
 loop-holds c = (search needs, refl)
 
-sub-k : tie.Need-sub-k Inv-loop μ-loop
-sub-k c = search needs
-
-add-within : tie.Need-add-within Inv-loop μ-loop
-add-within c = search needs
-
-within-requires : tie.Need-within-requires Inv-loop μ-loop
-within-requires c κs = search needs
-
 returns : tie.Need-returns Inv-loop μ-loop
 returns c =
     let a = c .before .before .before .before .args in
     let k = c .before .before .before .loop .k in
     let h = sym (c .before .within .ensures) ∙ c .if1 .taken in
     sym (c .before .before .before .loop .inv .1 ∙ last-here (passes (a .table .now) (a .from) (a .t)) (k - 1) k (omega arith) h)
-
-loop-less : tie.Need-loop-less Inv-loop μ-loop
-loop-less c = search needs
 
 loop-again : tie.Need-loop-again Inv-loop μ-loop
 loop-again c =
@@ -58,4 +46,4 @@ returns-2 c =
     sym (c .before .loop .inv .1 ∙ rw e)
 
 pub last-within-spec : {M : Type 1} → statement M
-last-within-spec = tie.close (tie.spec Inv-loop μ-loop loop-holds sub-k add-within within-requires returns loop-less loop-again returns-2)
+last-within-spec = tie.close (tie.spec Inv-loop μ-loop loop-holds (λ c. search needs) (λ c. search needs) (λ c κs. search needs) returns (λ c. search needs) loop-again returns-2)

@@ -21,12 +21,6 @@ Inv-loop limits bounds n levels position level t end from above left₀ x₀ lef
 abbrev μ-loop : tie.MeasureT-loop
 μ-loop limits bounds n levels position level t end from above left₀ x₀ left x = end - x
 
-sub-most : tie.Need-sub-most Inv-loop μ-loop
-sub-most c = search needs
-
-most-requires : tie.Need-most-requires Inv-loop μ-loop
-most-requires c κs = search needs
-
 mul-from : tie.Need-mul-from Inv-loop μ-loop
 mul-from c = omega (arith, placed (c .before .pre .0))
 
@@ -35,9 +29,6 @@ add-from c = omega (arith, placed (c .before .pre .0))
 
 mul-from-2 : tie.Need-mul-from-2 Inv-loop μ-loop
 mul-from-2 c = omega (arith, placed (c .before .pre .0))
-
-add-above : tie.Need-add-above Inv-loop μ-loop
-add-above c = search needs
 
 last-within-requires : tie.Need-last-within-requires Inv-loop μ-loop
 last-within-requires c κs = omega (arith, placed (c .before .before .pre .0), c .before .before .pre .0)
@@ -57,9 +48,6 @@ loop-holds : tie.Need-loop-holds Inv-loop μ-loop
 loop-holds c =
     let pre = c .before .before .pre in
     (omega (arith, pre .0), going-one _ _ _ _ _ _ _ (pre .1 (omega (arith, pre .0))))
-
-add-within : tie.Need-add-within Inv-loop μ-loop
-add-within c = search needs
 
 -- the row x positions on ends within the table
 row-on : (c : tie.In-loop Inv-loop μ-loop) → let a = c .before .before .before .before .args in
@@ -93,15 +81,6 @@ add-within-3 c = let pre = c .before .before .before .before .before .before .pr
 within-requires-2 : tie.Need-within-requires-2 Inv-loop μ-loop
 within-requires-2 c κs = let pre = c .before .before .before .before .before .before .pre .0 in omega (arith, placed pre, pre)
 
-cast-left : tie.Need-cast-left Inv-loop μ-loop
-cast-left c = search needs
-
-add-x : tie.Need-add-x Inv-loop μ-loop
-add-x c = search needs
-
-loop-less : tie.Need-loop-less Inv-loop μ-loop
-loop-less c = search needs
-
 loop-again : tie.Need-loop-again Inv-loop μ-loop
 loop-again c =
     let a = c .before .before .before .before .before .before .before .before .args in
@@ -126,25 +105,25 @@ left-granted-spec =
     (tie.spec
     Inv-loop
     μ-loop
-    sub-most
-    most-requires
+    (λ c. search needs)
+    (λ c κs. search needs)
     mul-from
     add-from
     mul-from-2
-    add-above
+    (λ c. search needs)
     last-within-requires
     cast-result
     returns
     loop-holds
-    add-within
+    (λ c. search needs)
     mul-within
     add-within-2
     within-requires
     returns-2
     add-within-3
     within-requires-2
-    cast-left
-    add-x
-    loop-less
+    (λ c. search needs)
+    (λ c. search needs)
+    (λ c. search needs)
     loop-again
     returns-3)

@@ -15,15 +15,6 @@ in32 c = record { sfits = c .result .given }
 in64 : (c : tie.After-result) → SFits w64 (getD (c .before .args .table .now) (c .before .args .at) (pos 0))
 in64 c = sfits-widen tt (in32 c)
 
-cast-result : tie.Need-cast-result
-cast-result c = search needs
-
-mul-result : tie.Need-mul-result
-mul-result c = search needs
-
-shared-slice-copy-out-result : tie.Need-shared-slice-copy-out-result
-shared-slice-copy-out-result c = search needs
-
 cast-result-2 : tie.Need-cast-result-2
 cast-result-2 c = rw (toZ-ofZ (in32 c)) (in64 c)
 
@@ -31,4 +22,4 @@ returns : tie.Need-returns
 returns c = rw (toZ-ofZ (in32 c), toZ-ofZ (in64 c), toZ-pos w64 {n = c .before .args .t} (omega arith))
 
 pub within-spec : {M : Type 1} → statement M
-within-spec = tie.close (tie.spec cast-result mul-result shared-slice-copy-out-result cast-result-2 returns)
+within-spec = tie.close (tie.spec (λ c. search needs) (λ c. search needs) (λ c. search needs) cast-result-2 returns)

@@ -19,18 +19,6 @@ loop-holds : tie.Need-loop-holds Inv-loop μ-loop
 unfolding all-pass
 loop-holds c = (search needs, refl)
 
-mul-all : tie.Need-mul-all Inv-loop μ-loop
-mul-all c = search needs
-
-shared-slice-read-all : tie.Need-shared-slice-read-all Inv-loop μ-loop
-shared-slice-read-all c = search needs
-
-add-k : tie.Need-add-k Inv-loop μ-loop
-add-k c = search needs
-
-loop-less : tie.Need-loop-less Inv-loop μ-loop
-loop-less c = search needs
-
 loop-again : tie.Need-loop-again Inv-loop μ-loop
 loop-again c = let at = c .before .before in (search needs, all-short-more (at .before .args .durations .now) (at .loop .k) (at .loop .all) (at .loop .inv .1))
 
@@ -40,4 +28,4 @@ returns c =
     sym (rw e at (c .before .loop .inv .1))
 
 pub all-short-spec : {M : Type 1} → statement M
-all-short-spec = tie.close (tie.spec Inv-loop μ-loop loop-holds mul-all shared-slice-read-all add-k loop-less loop-again returns)
+all-short-spec = tie.close (tie.spec Inv-loop μ-loop loop-holds (λ c. search needs) (λ c. search needs) (λ c. search needs) (λ c. search needs) loop-again returns)

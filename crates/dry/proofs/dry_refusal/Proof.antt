@@ -22,9 +22,6 @@ roomy : (c : tie.Else2) → let a = c .before .before .before .before .before .a
     Tight (rooms (a .n) (a .levels) (lent (c .before)) (a .given) (a .marks)) → ⊥
 roomy c = tested-roomy _ _ (lent (c .before)) _ _ (c .if2 .left)
 
-counts-fit-requires : tie.Need-counts-fit-requires
-counts-fit-requires c κs = search needs
-
 returns : tie.Need-returns
 returns c = inl (unfit-counts-out _ _ (sym (not-true _ (c .if1 .taken)) ∙ c .before .counts-fit .ensures), refl)
 
@@ -57,4 +54,4 @@ returns-4 c =
     )
 
 pub dry-refusal-spec : {M : Type 1} → statement M
-dry-refusal-spec = tie.close (tie.spec counts-fit-requires returns mul-cells mul-if2 returns-2 all-short-requires returns-3 returns-4)
+dry-refusal-spec = tie.close (tie.spec (λ c κs. search needs) returns mul-cells mul-if2 returns-2 all-short-requires returns-3 returns-4)

@@ -24,9 +24,6 @@ counted c =
     let a = c .before .before .before .before .before .before .args in
     is-counted _ _ (tables (a .limits .now) (a .worst .now) (a .bounds .now) (a .durations .now)) _ _ (none c)
 
-dry-refusal-requires : tie.Need-dry-refusal-requires
-dry-refusal-requires c κs = search needs
-
 returns : tie.Need-returns
 unfolding made
 returns c = dries-not _ _ _ _ _ _ (c .before .dry-refusal .ensures) (c .if1 .taken)
@@ -36,9 +33,6 @@ cast-begun c = omega (arith, counted c)
 
 cast-begun-2 : tie.Need-cast-begun-2
 cast-begun-2 c = omega (arith, counted c)
-
-begun-requires : tie.Need-begun-requires
-begun-requires c κs = search needs
 
 decide-requires : tie.Need-decide-requires
 unfolding begun
@@ -65,4 +59,4 @@ returns-2 c =
 
 pub dry-run-spec : {M : Type 1} → statement M
 dry-run-spec =
-    tie.close (tie.spec dry-refusal-requires returns cast-begun cast-begun-2 begun-requires decide-requires same-length same-length-2 returns-2)
+    tie.close (tie.spec (λ c κs. search needs) returns cast-begun cast-begun-2 (λ c κs. search needs) decide-requires same-length same-length-2 returns-2)

@@ -32,9 +32,6 @@ add-ended c = let run = c .before .before .before .before .before .before .befor
 ended-requires : tie.Need-ended-requires
 ended-requires c κs = let run = c .before .before .before .before .before .before .before .pre in omega (arith, place run, place run .ranges, run)
 
-returns : tie.Need-returns
-returns c = search needs
-
 pub passed-spec : {M : Type 1} → statement M
 passed-spec =
     tie.close
@@ -48,4 +45,4 @@ passed-spec =
     shared-slice-read-ended-2
     add-ended
     ended-requires
-    returns)
+    (λ c. search needs))

@@ -56,21 +56,6 @@ abbrev μ-loop : tie.MeasureT-loop
 loop-holds : tie.Need-loop-holds Inv-loop μ-loop
 loop-holds c = (search needs, search needs, none _ _ (c .args .w) (c .args .v), all-left (c .args .w) _)
 
-sub-j : tie.Need-sub-j Inv-loop μ-loop
-sub-j c = search needs
-
-cast-out : tie.Need-cast-out Inv-loop μ-loop
-cast-out c = search needs
-
-add-out : tie.Need-add-out Inv-loop μ-loop
-add-out c = search needs
-
-slice-write-out : tie.Need-slice-write-out Inv-loop μ-loop
-slice-write-out c = search needs
-
-loop-less : tie.Need-loop-less Inv-loop μ-loop
-loop-less c = search needs
-
 loop-again : tie.Need-loop-again Inv-loop μ-loop
 loop-again c =
     let x = c .before .before .args in
@@ -80,9 +65,6 @@ loop-again c =
       byte-more _ _ (x .w) (x .v) (t .j - 1) (t .j) (omega arith) (omega arith) (omega arith) (omega arith) (t .inv .2) (t .inv .3),
       omega (arith, left-more (x .w) (x .v) (t .j - 1) (t .j) (omega arith) (omega arith) (t .inv .3)),
     )
-
-same-length : tie.Need-same-length Inv-loop μ-loop
-same-length c = search needs
 
 returns : tie.Need-returns Inv-loop μ-loop
 returns c =
@@ -96,11 +78,11 @@ put-be-spec =
     Inv-loop
     μ-loop
     loop-holds
-    sub-j
-    cast-out
-    add-out
-    slice-write-out
-    loop-less
+    (λ c. search needs)
+    (λ c. search needs)
+    (λ c. search needs)
+    (λ c. search needs)
+    (λ c. search needs)
     loop-again
-    same-length
+    (λ c. search needs)
     returns)

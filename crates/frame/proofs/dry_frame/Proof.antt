@@ -19,55 +19,13 @@ planning c =
       sized = record { actions-room = search needs; limits-room = search needs; worst-room = search needs; bounds-room = search needs };
     }
 
-slice-aggregate-plan : tie.Need-slice-aggregate-plan
-slice-aggregate-plan c = search needs
-
-slice-aggregate-plan-2 : tie.Need-slice-aggregate-plan-2
-slice-aggregate-plan-2 c = search needs
-
-slice-aggregate-plan-3 : tie.Need-slice-aggregate-plan-3
-slice-aggregate-plan-3 c = search needs
-
-slice-aggregate-plan-4 : tie.Need-slice-aggregate-plan-4
-slice-aggregate-plan-4 c = search needs
-
-plan-requires : tie.Need-plan-requires
-plan-requires c κs = search needs
-
-refused-requires : tie.Need-refused-requires
-refused-requires c κs = search needs
-
 returns : tie.Need-returns
 returns c = image-refused (planning (c .before .before .before .before .before .before .before .before)) _ _ _ _ (c .before .if1 .taken) (c .refused .ensures)
-
-refused-requires-2 : tie.Need-refused-requires-2
-refused-requires-2 c κs = search needs
 
 returns-2 : tie.Need-returns-2
 returns-2 c =
     let e = c .before .before in
     order-refused (planning (e .before .before .before .before .before .before .before)) _ _ _ _ (e .if1 .left) (c .before .if2 .taken) (c .refused2 .ensures)
-
-slice-aggregate-dry-run : tie.Need-slice-aggregate-dry-run
-slice-aggregate-dry-run c = search needs
-
-slice-aggregate-dry-run-2 : tie.Need-slice-aggregate-dry-run-2
-slice-aggregate-dry-run-2 c = search needs
-
-slice-aggregate-dry-run-3 : tie.Need-slice-aggregate-dry-run-3
-slice-aggregate-dry-run-3 c = search needs
-
-dry-run-requires : tie.Need-dry-run-requires
-dry-run-requires c κs = search needs
-
-refused-requires-3 : tie.Need-refused-requires-3
-refused-requires-3 c κs = search needs
-
-same-length : tie.Need-same-length
-same-length c = search needs
-
-same-length-2 : tie.Need-same-length-2
-same-length-2 c = search needs
 
 returns-3 : tie.Need-returns-3
 returns-3 c =
@@ -76,23 +34,11 @@ returns-3 c =
     dry-refused (planning (e .before .before .before .before .before .before .before)) _ _ _ _ (e .if1 .left) (dried .before .before .before .before .before .before .if2 .left) (dried .dry-run .ensures) (c .before .if3 .taken)
     (c .refused3 .ensures)
 
-slice-aggregate-copy-front : tie.Need-slice-aggregate-copy-front
-slice-aggregate-copy-front c = search needs
-
 copy-front-requires : tie.Need-copy-front-requires
 copy-front-requires c κs =
     let e = c .before .before .before .before .before .before .before .before .before .before .before .before .before .before .before in
     let p = planning (e .before .before .before .before .before .before .before) in
     (omega (arith, few (sound p (e .if1 .left)) .0, n-is p (e .if1 .left), p .sized .actions-room), c .before .before .before .before .before .before .before .before .before .before .before .before .before .before .if2 .left)
-
-same-length-3 : tie.Need-same-length-3
-same-length-3 c = search needs
-
-same-length-4 : tie.Need-same-length-4
-same-length-4 c = search needs
-
-same-length-5 : tie.Need-same-length-5
-same-length-5 c = search needs
 
 returns-4 : tie.Need-returns-4
 returns-4 c =
@@ -105,26 +51,26 @@ pub dry-frame-spec : {M : Type 1} → statement M
 dry-frame-spec =
     tie.close
     (tie.spec
-    slice-aggregate-plan
-    slice-aggregate-plan-2
-    slice-aggregate-plan-3
-    slice-aggregate-plan-4
-    plan-requires
-    refused-requires
+    (λ c. search needs)
+    (λ c. search needs)
+    (λ c. search needs)
+    (λ c. search needs)
+    (λ c κs. search needs)
+    (λ c κs. search needs)
     returns
-    refused-requires-2
+    (λ c κs. search needs)
     returns-2
-    slice-aggregate-dry-run
-    slice-aggregate-dry-run-2
-    slice-aggregate-dry-run-3
-    dry-run-requires
-    refused-requires-3
-    same-length
-    same-length-2
+    (λ c. search needs)
+    (λ c. search needs)
+    (λ c. search needs)
+    (λ c κs. search needs)
+    (λ c κs. search needs)
+    (λ c. search needs)
+    (λ c. search needs)
     returns-3
-    slice-aggregate-copy-front
+    (λ c. search needs)
     copy-front-requires
-    same-length-3
-    same-length-4
-    same-length-5
+    (λ c. search needs)
+    (λ c. search needs)
+    (λ c. search needs)
     returns-4)

@@ -13,20 +13,8 @@ Inv-loop masks n all₀ k₀ all k = (k ≤ n) × Rows masks n k all
 abbrev μ-loop : tie.MeasureT-loop
 μ-loop masks n all₀ k₀ all k = n - k
 
-copied-requires : tie.Need-copied-requires Inv-loop μ-loop
-copied-requires c κs = search needs
-
 loop-holds : tie.Need-loop-holds Inv-loop μ-loop
 loop-holds c = (omega arith, rows-start _ (c .copied .ensures .0) (c .copied .ensures .1))
-
-through-requires : tie.Need-through-requires Inv-loop μ-loop
-through-requires c κs = search needs
-
-add-k : tie.Need-add-k Inv-loop μ-loop
-add-k c = search needs
-
-loop-less : tie.Need-loop-less Inv-loop μ-loop
-loop-less c = omega arith
 
 loop-again : tie.Need-loop-again Inv-loop μ-loop
 loop-again c = (omega arith, c .through .ensures _ (c .before .before .before .loop .inv .1))
@@ -40,10 +28,10 @@ closed-spec =
     (tie.spec
     Inv-loop
     μ-loop
-    copied-requires
+    (λ c κs. search needs)
     loop-holds
-    through-requires
-    add-k
-    loop-less
+    (λ c κs. search needs)
+    (λ c. search needs)
+    (λ c. omega arith)
     loop-again
     returns)

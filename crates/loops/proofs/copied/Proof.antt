@@ -19,20 +19,8 @@ loop-holds c = (omega arith, refl, λ j l. absurd (omega arith))
 mul-all : tie.Need-mul-all Inv-loop μ-loop
 mul-all c = record { fits = omega arith }
 
-shared-slice-read-all : tie.Need-shared-slice-read-all Inv-loop μ-loop
-shared-slice-read-all c = omega arith
-
 mul-all-2 : tie.Need-mul-all-2 Inv-loop μ-loop
 mul-all-2 c = record { fits = omega arith }
-
-array-write-all : tie.Need-array-write-all Inv-loop μ-loop
-array-write-all c = omega arith
-
-add-a : tie.Need-add-a Inv-loop μ-loop
-add-a c = search needs
-
-loop-less : tie.Need-loop-less Inv-loop μ-loop
-loop-less c = omega arith
 
 loop-again : tie.Need-loop-again Inv-loop μ-loop
 loop-again c =
@@ -53,10 +41,10 @@ copied-spec =
     μ-loop
     loop-holds
     mul-all
-    shared-slice-read-all
+    (λ c. omega arith)
     mul-all-2
-    array-write-all
-    add-a
-    loop-less
+    (λ c. omega arith)
+    (λ c. search needs)
+    (λ c. omega arith)
     loop-again
     returns)

@@ -16,20 +16,11 @@ Inv-loop masks n all a₀ a = (a ≤ n) × ((j : ℕ) → j < a → MustFollow n
 abbrev μ-loop : tie.MeasureT-loop
 μ-loop masks n all a₀ a = n - a
 
-closed-requires : tie.Need-closed-requires Inv-loop μ-loop
-closed-requires c κs = search needs
-
 loop-holds : tie.Need-loop-holds Inv-loop μ-loop
 loop-holds c = (omega arith, λ j l. absurd (omega arith))
 
 mul-member : tie.Need-mul-member Inv-loop μ-loop
 mul-member c = record { fits = omega arith }
-
-array-read-member : tie.Need-array-read-member Inv-loop μ-loop
-array-read-member c = omega arith
-
-member-requires : tie.Need-member-requires Inv-loop μ-loop
-member-requires c κs = omega arith
 
 returns : tie.Need-returns Inv-loop μ-loop
 returns c =
@@ -39,12 +30,6 @@ returns c =
       loops = λ l. looped-yes _ (at .before .closed .ensures) l (sym (c .before .member .ensures) ∙ c .if1 .taken);
       lowest = at .loop .inv .1;
     }
-
-add-a : tie.Need-add-a Inv-loop μ-loop
-add-a c = search needs
-
-loop-less : tie.Need-loop-less Inv-loop μ-loop
-loop-less c = omega arith
 
 loop-again : tie.Need-loop-again Inv-loop μ-loop
 loop-again c =
@@ -63,13 +48,13 @@ first-looped-spec =
     (tie.spec
     Inv-loop
     μ-loop
-    closed-requires
+    (λ c κs. search needs)
     loop-holds
     mul-member
-    array-read-member
-    member-requires
+    (λ c. omega arith)
+    (λ c κs. omega arith)
     returns
-    add-a
-    loop-less
+    (λ c. search needs)
+    (λ c. omega arith)
     loop-again
     returns-2)

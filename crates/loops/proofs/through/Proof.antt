@@ -18,32 +18,14 @@ abbrev μ-loop : tie.MeasureT-loop
 mul-far : tie.Need-mul-far Inv-loop μ-loop
 mul-far c = record { fits = omega arith }
 
-element-copy-out-far : tie.Need-element-copy-out-far Inv-loop μ-loop
-element-copy-out-far c = omega arith
-
 loop-holds : tie.Need-loop-holds Inv-loop μ-loop
 loop-holds c = (omega arith, λ masks rows. mixed-start masks rows)
 
 mul-near : tie.Need-mul-near Inv-loop μ-loop
 mul-near c = record { fits = omega arith }
 
-element-copy-out-near : tie.Need-element-copy-out-near Inv-loop μ-loop
-element-copy-out-near c = omega arith
-
-member-requires : tie.Need-member-requires Inv-loop μ-loop
-member-requires c κs = omega arith
-
 mul-all : tie.Need-mul-all Inv-loop μ-loop
 mul-all c = record { fits = omega arith }
-
-element-write-all : tie.Need-element-write-all Inv-loop μ-loop
-element-write-all c = omega arith
-
-add-b : tie.Need-add-b Inv-loop μ-loop
-add-b c = search needs
-
-loop-less : tie.Need-loop-less Inv-loop μ-loop
-loop-less c = omega arith
 
 loop-again : tie.Need-loop-again Inv-loop μ-loop
 loop-again c =
@@ -69,14 +51,14 @@ through-spec =
     Inv-loop
     μ-loop
     mul-far
-    element-copy-out-far
+    (λ c. omega arith)
     loop-holds
     mul-near
-    element-copy-out-near
-    member-requires
+    (λ c. omega arith)
+    (λ c κs. omega arith)
     mul-all
-    element-write-all
-    add-b
-    loop-less
+    (λ c. omega arith)
+    (λ c. search needs)
+    (λ c. omega arith)
     loop-again
     returns)

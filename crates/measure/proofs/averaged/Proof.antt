@@ -7,21 +7,12 @@ use Rattle.measure.proofs.Averages.{none-measured}
 use Rattle.measure.proofs.averaged.Statement.{statement}
 use Rattle.measure.proofs.averaged.Tie as tie
 
-unmeasured-requires : tie.Need-unmeasured-requires
-unmeasured-requires c κs = search needs
-
-cast-result : tie.Need-cast-result
-cast-result c = search needs
-
 returns : tie.Need-returns
 returns c = λ F trace a q old is.
     c .unmeasured .ensures F a q old ∙ sym (none-measured F trace a q (sym (is .count) ∙ c .before .if1 .taken))
-
-div-result : tie.Need-div-result
-div-result c = search needs
 
 returns-2 : tie.Need-returns-2
 returns-2 c = λ F trace a q old is. rw (is .count, is .sum) (sym (measured-some F trace a q (omega (arith, is .count, c .if1 .left))))
 
 pub averaged-spec : {M : Type 1} → statement M
-averaged-spec = tie.close (tie.spec unmeasured-requires cast-result returns div-result returns-2)
+averaged-spec = tie.close (tie.spec (λ c κs. search needs) (λ c. search needs) returns (λ c. search needs) returns-2)

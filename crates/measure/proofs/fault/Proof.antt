@@ -5,12 +5,6 @@ use Rattle.measure.proofs.Faults.{no-fault, no-name, too-long}
 use Rattle.measure.proofs.fault.Statement.{statement}
 use Rattle.measure.proofs.fault.Tie as tie
 
-mul-ceiling : tie.Need-mul-ceiling
-mul-ceiling c = search needs
-
-element-copy-out-ceiling : tie.Need-element-copy-out-ceiling
-element-copy-out-ceiling c = search needs
-
 returns : tie.Need-returns
 returns c = λ F trace r has is. no-fault F trace r has is refl (c .if1 .taken)
 
@@ -21,4 +15,4 @@ returns-3 : tie.Need-returns-3
 returns-3 c = λ F trace r has is. too-long F trace r has is refl (c .if2 .left) (c .before .if1 .left)
 
 pub fault-spec : {M : Type 1} → statement M
-fault-spec = tie.close (tie.spec mul-ceiling element-copy-out-ceiling returns returns-2 returns-3)
+fault-spec = tie.close (tie.spec (λ c. search needs) (λ c. search needs) returns returns-2 returns-3)

@@ -4,15 +4,6 @@ use borrow.Author.Needs.{needs}
 use Rattle.measure.proofs.gain.Statement.{statement}
 use Rattle.measure.proofs.gain.Tie as tie
 
-measures-requires : tie.Need-measures-requires
-measures-requires c κs = search needs
-
-cast-result : tie.Need-cast-result
-cast-result c = search needs
-
-add-result : tie.Need-add-result
-add-result c = search needs
-
 returns : tie.Need-returns
 returns c = (
   (λ trace r is. rw (sym (c .before .before .measures .ensures trace r is) ∙ c .before .if1 .taken, is .duration)),
@@ -23,4 +14,4 @@ returns-2 : tie.Need-returns-2
 returns-2 c = ((λ trace r is. rw (sym (c .before .measures .ensures trace r is) ∙ c .if1 .left)), search needs)
 
 pub gain-spec : {M : Type 1} → statement M
-gain-spec = tie.close (tie.spec measures-requires cast-result add-result returns returns-2)
+gain-spec = tie.close (tie.spec (λ c κs. search needs) (λ c. search needs) (λ c. search needs) returns returns-2)

@@ -34,9 +34,6 @@ loop-holds c = record {
   tallied = c .before .pre .1;
 }
 
-record-at-requires : tie.Need-record-at-requires Inv-loop μ-loop
-record-at-requires c κs = search needs
-
 fault-requires : tie.Need-fault-requires Inv-loop μ-loop
 fault-requires c κs = cell-lt (c .record-at .ensures)
 
@@ -58,9 +55,6 @@ add-requires c κs =
     let was = turn .before .loop in
     let few : was .r ≤ 65535 = omega (arith, was .inv .within, turn .before .before .before .pre .0) in
     room _ (was .r) _ (c .before .before .before .record-at .ensures) _ few (was .inv .tallied)
-
-add-r : tie.Need-add-r Inv-loop μ-loop
-add-r c = omega arith
 
 loop-less : tie.Need-loop-less Inv-loop μ-loop
 unfolding records
@@ -96,11 +90,11 @@ pass-spec =
     Inv-loop
     μ-loop
     loop-holds
-    record-at-requires
+    (λ c κs. search needs)
     fault-requires
     returns
     add-requires
-    add-r
+    (λ c. omega arith)
     loop-less
     loop-again
     returns-2)

@@ -6,16 +6,10 @@ use Rattle.measure.proofs.Averages.{raised-at}
 use Rattle.measure.proofs.raised.Statement.{statement}
 use Rattle.measure.proofs.raised.Tie as tie
 
-averaged-requires : tie.Need-averaged-requires
-averaged-requires c κs = search needs
-
-greater-requires : tie.Need-greater-requires
-greater-requires c κs = search needs
-
 returns : tie.Need-returns
 unfolding new-average
 returns c = λ F trace a q old is below.
     c .greater .ensures ∙ rw (below, c .before .averaged .ensures F trace a q old is) (raised-at (measured F trace a) q)
 
 pub raised-spec : {M : Type 1} → statement M
-raised-spec = tie.close (tie.spec averaged-requires greater-requires returns)
+raised-spec = tie.close (tie.spec (λ c κs. search needs) (λ c κs. search needs) returns)

@@ -52,9 +52,6 @@ returns c =
     let at = c .before .before in
     placing-stuck _ _ _ (at .before .before .before .before .before .pre) (at .loop .inv) (c .if1 .taken) (c .before .loop-test .taken)
 
-next-requires : tie.Need-next-requires Inv-loop μ-loop
-next-requires c κs = omega arith
-
 cast-order : tie.Need-cast-order Inv-loop μ-loop
 cast-order c = record { fits = omega (arith, next-small c) }
 
@@ -75,9 +72,6 @@ without-requires c κs = next-small (c .before)
 
 release-requires-2 : tie.Need-release-requires-2 Inv-loop μ-loop
 release-requires-2 c κs = λ j p. omega (arith, one-done c .left j p .0, c .before .before .before .before .before .before .before .before .before .before .before .pre .long)
-
-count-requires : tie.Need-count-requires Inv-loop μ-loop
-count-requires c κs = search needs
 
 cast-k : tie.Need-cast-k Inv-loop μ-loop
 cast-k c = record { fits = omega (arith, c .count .ensures, members-le 64 (c .before .before .before .before .with .result)) }
@@ -113,7 +107,7 @@ arrange-spec =
     release-requires
     loop-holds
     returns
-    next-requires
+    (λ c κs. omega arith)
     cast-order
     array-write-order
     with-requires
@@ -121,7 +115,7 @@ arrange-spec =
     array-read-release
     without-requires
     release-requires-2
-    count-requires
+    (λ c κs. search needs)
     cast-k
     loop-less
     loop-again

@@ -26,9 +26,6 @@ returns c = by-number-none (said (c .before .before .before)) (c .if1 .taken)
 shared-slice-read-due : tie.Need-shared-slice-read-due Inv-loop μ-loop
 shared-slice-read-due c = omega (arith, c .before .before .before .before .pre .2)
 
-due-requires : tie.Need-due-requires Inv-loop μ-loop
-due-requires c κs = search needs
-
 loop-holds : tie.Need-loop-holds Inv-loop μ-loop
 loop-holds c = (omega arith, tested-none (said (c .before .before .before .before .before)) _)
 
@@ -37,9 +34,6 @@ mul-due c = record { fits = omega (arith, c .before .before .before .before .bef
 
 shared-slice-read-due-2 : tie.Need-shared-slice-read-due-2 Inv-loop μ-loop
 shared-slice-read-due-2 c = omega (arith, c .before .before .before .before .before .before .before .before .pre .2)
-
-due-requires-2 : tie.Need-due-requires-2 Inv-loop μ-loop
-due-requires-2 c κs = search needs
 
 cast-odd : tie.Need-cast-odd Inv-loop μ-loop
 cast-odd c = record { fits = lt-of-lt-of-le (xor-lt 32 _ _ (c .due2 .ok) (c .before .before .before .before .due .ok)) (omega arith) }
@@ -52,12 +46,6 @@ shared-slice-read-odd c = omega (arith, c .before .before .before .before .befor
 
 shr-odd : tie.Need-shr-odd Inv-loop μ-loop
 shr-odd c = omega (arith, c .before .before .before .before .before .before .before .before .before .before .pre .0)
-
-add-a : tie.Need-add-a Inv-loop μ-loop
-add-a c = search needs
-
-loop-less : tie.Need-loop-less Inv-loop μ-loop
-loop-less c = omega arith
 
 loop-again : tie.Need-loop-again Inv-loop μ-loop
 unfolding due
@@ -79,16 +67,16 @@ by-number-spec =
     μ-loop
     returns
     shared-slice-read-due
-    due-requires
+    (λ c κs. search needs)
     loop-holds
     mul-due
     shared-slice-read-due-2
-    due-requires-2
+    (λ c κs. search needs)
     cast-odd
     mul-odd
     shared-slice-read-odd
     shr-odd
-    add-a
-    loop-less
+    (λ c. search needs)
+    (λ c. omega arith)
     loop-again
     returns-2)

@@ -62,9 +62,6 @@ shared-slice-read-due : tie.Need-shared-slice-read-due Inv-loop μ-loop
 shared-slice-read-due c =
     omega (arith, present (c .before .before .before), c .before .before .before .before .before .before .before .pre .1 .dues)
 
-due-requires : tie.Need-due-requires Inv-loop μ-loop
-due-requires c κs = search needs
-
 returns : tie.Need-returns Inv-loop μ-loop
 unfolding due
 returns c masks =
@@ -74,9 +71,6 @@ returns c masks =
 
 add-k : tie.Need-add-k Inv-loop μ-loop
 add-k c = omega (arith, c .before .before .before .before .before .before .before .before .before .pre .0)
-
-loop-less : tie.Need-loop-less Inv-loop μ-loop
-loop-less c = omega arith
 
 loop-again : tie.Need-loop-again Inv-loop μ-loop
 unfolding due
@@ -109,9 +103,9 @@ fit-spec =
     add-end
     mul-due
     shared-slice-read-due
-    due-requires
+    (λ c κs. search needs)
     returns
     add-k
-    loop-less
+    (λ c. omega arith)
     loop-again
     returns-2)

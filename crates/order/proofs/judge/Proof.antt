@@ -15,9 +15,6 @@ known c =
     let s = c .before .before .before .before .args in
     ordered-timed (s .n) (s .cycle) (s .masks .now) (s .deadlines .now) (s .worst .now) (s .stride) (c .ordered .ensures)
 
-ordered-requires : tie.Need-ordered-requires
-ordered-requires c κs = search needs
-
 returns : tie.Need-returns
 returns c = verdict-loop (known (c .before .before .before)) (c .if1 .taken)
 
@@ -41,4 +38,4 @@ returns-3 c =
     verdict-unfit (known placed) (at .if1 .left) (c .before .fit .ensures masks) (c .if2 .left)
 
 pub judge-spec : {M : Type 1} → statement M
-judge-spec = tie.close (tie.spec ordered-requires returns fit-requires returns-2 returns-3)
+judge-spec = tie.close (tie.spec (λ c κs. search needs) returns fit-requires returns-2 returns-3)

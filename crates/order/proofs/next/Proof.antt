@@ -25,9 +25,6 @@ above-lowest-requires c κs = c .before .pre
 loop-holds : tie.Need-loop-holds Inv-loop μ-loop
 loop-holds c = let low = c .before .lowest .ensures in best-start _ low (c .above-lowest .ensures _ low)
 
-lowest-requires-2 : tie.Need-lowest-requires-2 Inv-loop μ-loop
-lowest-requires-2 c κs = search needs
-
 mul-if1 : tie.Need-mul-if1 Inv-loop μ-loop
 mul-if1 c = record { fits = omega (arith, c .lowest2 .ensures .small) }
 
@@ -39,9 +36,6 @@ mul-if1-2 c = record { fits = omega (arith, best-small (c .before .before .befor
 
 element-copy-out-if1-2 : tie.Need-element-copy-out-if1-2 Inv-loop μ-loop
 element-copy-out-if1-2 c = best-small (c .before .before .before)
-
-above-lowest-requires-2 : tie.Need-above-lowest-requires-2 Inv-loop μ-loop
-above-lowest-requires-2 c κs = search needs
 
 loop-less : tie.Need-loop-less Inv-loop μ-loop
 loop-less c =
@@ -69,12 +63,12 @@ next-spec =
     lowest-requires
     above-lowest-requires
     loop-holds
-    lowest-requires-2
+    (λ c κs. search needs)
     mul-if1
     element-copy-out-if1
     mul-if1-2
     element-copy-out-if1-2
-    above-lowest-requires-2
+    (λ c κs. search needs)
     loop-less
     loop-again
     returns)

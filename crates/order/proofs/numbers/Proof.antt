@@ -19,15 +19,6 @@ loop-holds c = (omega arith, refl, λ j l. absurd (omega arith))
 cast-order : tie.Need-cast-order Inv-loop μ-loop
 cast-order c = record { fits = omega arith }
 
-array-write-order : tie.Need-array-write-order Inv-loop μ-loop
-array-write-order c = omega arith
-
-add-k : tie.Need-add-k Inv-loop μ-loop
-add-k c = search needs
-
-loop-less : tie.Need-loop-less Inv-loop μ-loop
-loop-less c = omega arith
-
 loop-again : tie.Need-loop-again Inv-loop μ-loop
 loop-again c =
     let at = c .before in (
@@ -47,8 +38,8 @@ numbers-spec =
     μ-loop
     loop-holds
     cast-order
-    array-write-order
-    add-k
-    loop-less
+    (λ c. omega arith)
+    (λ c. search needs)
+    (λ c. omega arith)
     loop-again
     returns)

@@ -5,23 +5,11 @@ use Rattle.order.proofs.Numbering.{ordered-numbers}
 use Rattle.order.proofs.ordered.Statement.{statement}
 use Rattle.order.proofs.ordered.Tie as tie
 
-by-number-requires : tie.Need-by-number-requires
-by-number-requires c κs = search needs
-
-numbers-requires : tie.Need-numbers-requires
-numbers-requires c κs = search needs
-
 returns : tie.Need-returns
 returns c =
     let told = c .before .before in
     let few = told .before .before .before .pre .0 .few in
     ordered-numbers (told .by-number .ensures .0 (c .before .if1 .taken)) (λ k l. c .numbers .ensures k (omega arith))
-
-urgencies-requires : tie.Need-urgencies-requires
-urgencies-requires c κs = search needs
-
-arrange-requires : tie.Need-arrange-requires
-arrange-requires c κs = search needs
 
 returns-2 : tie.Need-returns-2
 returns-2 c =
@@ -32,9 +20,9 @@ pub ordered-spec : {M : Type 1} → statement M
 ordered-spec =
     tie.close
     (tie.spec
-    by-number-requires
-    numbers-requires
+    (λ c κs. search needs)
+    (λ c κs. search needs)
     returns
-    urgencies-requires
-    arrange-requires
+    (λ c κs. search needs)
+    (λ c κs. search needs)
     returns-2)

@@ -29,17 +29,11 @@ all-done c = c .before .subset .ensures .0 (c .if1 .taken)
 loop-holds : tie.Need-loop-holds Inv-loop μ-loop
 loop-holds c = (c .before .pre, λ n x g. g)
 
-lowest-requires : tie.Need-lowest-requires Inv-loop μ-loop
-lowest-requires c κs = search needs
-
 mul-mask : tie.Need-mul-mask Inv-loop μ-loop
 mul-mask c = record { fits = omega (arith, c .lowest .ensures .small) }
 
 shared-slice-read-mask : tie.Need-shared-slice-read-mask Inv-loop μ-loop
 shared-slice-read-mask c = c .before .before .before .loop .inv .0 _ (c .before .lowest .ensures .member)
-
-subset-requires : tie.Need-subset-requires Inv-loop μ-loop
-subset-requires c κs = search needs
 
 with-requires : tie.Need-with-requires Inv-loop μ-loop
 with-requires c κs = c .before .before .before .lowest .ensures .small
@@ -64,9 +58,6 @@ mul-waiting c = record { fits = omega (arith, c .before .before .highest .ensure
 
 element-write-waiting : tie.Need-element-write-waiting Inv-loop μ-loop
 element-write-waiting c = c .before .before .highest .ensures .small
-
-above-lowest-requires : tie.Need-above-lowest-requires Inv-loop μ-loop
-above-lowest-requires c κs = search needs
 
 loop-less : tie.Need-loop-less Inv-loop μ-loop
 loop-less c =
@@ -97,10 +88,10 @@ release-spec =
     Inv-loop
     μ-loop
     loop-holds
-    lowest-requires
+    (λ c κs. search needs)
     mul-mask
     shared-slice-read-mask
-    subset-requires
+    (λ c κs. search needs)
     with-requires
     highest-requires
     mul-with
@@ -108,7 +99,7 @@ release-spec =
     with-requires-2
     mul-waiting
     element-write-waiting
-    above-lowest-requires
+    (λ c κs. search needs)
     loop-less
     loop-again
     returns)

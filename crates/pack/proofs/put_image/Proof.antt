@@ -10,12 +10,6 @@ put-header-requires : tie.Need-put-header-requires
 unfolding image-bytes
 put-header-requires c κs = omega arith
 
-put-records-requires : tie.Need-put-records-requires
-put-records-requires c κs = search needs
-
-same-length : tie.Need-same-length
-same-length c = search needs
-
 returns : tie.Need-returns
 unfolding of-tables header-of record-image level-image image-bytes
 returns c =
@@ -24,4 +18,4 @@ returns c =
     (c .before .before .before .before .before .before .put-header .ensures) (c .before .before .put-records .ensures)
 
 pub put-image-spec : {M : Type 1} → statement M
-put-image-spec = tie.close (tie.spec put-header-requires put-records-requires same-length returns)
+put-image-spec = tie.close (tie.spec put-header-requires (λ c κs. search needs) (λ c. search needs) returns)

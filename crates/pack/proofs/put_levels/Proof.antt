@@ -21,44 +21,8 @@ Inv-loop image₀ at levels averages worst a row q₀ image q =
 abbrev μ-loop : tie.MeasureT-loop
 μ-loop image₀ at levels averages worst a row q₀ image q = levels - q
 
-mul-row : tie.Need-mul-row Inv-loop μ-loop
-mul-row c = search needs
-
 loop-holds : tie.Need-loop-holds Inv-loop μ-loop
 loop-holds c = (search needs, search needs, cat-none _ _ _)
-
-mul-put-level : tie.Need-mul-put-level Inv-loop μ-loop
-mul-put-level c = search needs
-
-add-put-level : tie.Need-add-put-level Inv-loop μ-loop
-add-put-level c = search needs
-
-add-put-level-2 : tie.Need-add-put-level-2 Inv-loop μ-loop
-add-put-level-2 c = search needs
-
-mul-put-level-2 : tie.Need-mul-put-level-2 Inv-loop μ-loop
-mul-put-level-2 c = search needs
-
-shared-slice-read-put-level : tie.Need-shared-slice-read-put-level Inv-loop μ-loop
-shared-slice-read-put-level c = search needs
-
-add-put-level-3 : tie.Need-add-put-level-3 Inv-loop μ-loop
-add-put-level-3 c = search needs
-
-mul-put-level-3 : tie.Need-mul-put-level-3 Inv-loop μ-loop
-mul-put-level-3 c = search needs
-
-shared-slice-read-put-level-2 : tie.Need-shared-slice-read-put-level-2 Inv-loop μ-loop
-shared-slice-read-put-level-2 c = search needs
-
-put-level-requires : tie.Need-put-level-requires Inv-loop μ-loop
-put-level-requires c κs = search needs
-
-add-q : tie.Need-add-q Inv-loop μ-loop
-add-q c = search needs
-
-loop-less : tie.Need-loop-less Inv-loop μ-loop
-loop-less c = search needs
 
 loop-again : tie.Need-loop-again Inv-loop μ-loop
 unfolding of-tables level-image
@@ -71,9 +35,6 @@ loop-again c =
       cat-more (level-image F (x .a)) 6 (length-level F (x .a)) _ _ _ _ (omega arith) refl (t .loop .inv .2) (c .before .before .put-level .ensures),
     )
 
-same-length : tie.Need-same-length Inv-loop μ-loop
-same-length c = search needs
-
 returns : tie.Need-returns Inv-loop μ-loop
 returns c = cat-done _ _ _ _ _ (omega arith) (c .before .loop .inv .2)
 
@@ -83,19 +44,19 @@ put-levels-spec =
     (tie.spec
     Inv-loop
     μ-loop
-    mul-row
+    (λ c. search needs)
     loop-holds
-    mul-put-level
-    add-put-level
-    add-put-level-2
-    mul-put-level-2
-    shared-slice-read-put-level
-    add-put-level-3
-    mul-put-level-3
-    shared-slice-read-put-level-2
-    put-level-requires
-    add-q
-    loop-less
+    (λ c. search needs)
+    (λ c. search needs)
+    (λ c. search needs)
+    (λ c. search needs)
+    (λ c. search needs)
+    (λ c. search needs)
+    (λ c. search needs)
+    (λ c. search needs)
+    (λ c κs. search needs)
+    (λ c. search needs)
+    (λ c. search needs)
     loop-again
-    same-length
+    (λ c. search needs)
     returns)

@@ -20,29 +20,11 @@ end c =
     let x = past c .args in
     omega (arith, record-end (x .levels) (x .a))
 
-record-at-requires : tie.Need-record-at-requires
-record-at-requires c κs = search needs
-
-mul-put64 : tie.Need-mul-put64
-mul-put64 c = search needs
-
-shared-slice-read-put64 : tie.Need-shared-slice-read-put64
-shared-slice-read-put64 c = search needs
-
 put64-requires : tie.Need-put64-requires
 put64-requires c κs = omega (arith, end (c .before .before))
 
 add-put32 : tie.Need-add-put32
 add-put32 c = omega (arith, end (c .before .before .before .before .before .before))
-
-mul-put32 : tie.Need-mul-put32
-mul-put32 c = search needs
-
-shared-slice-read-put32 : tie.Need-shared-slice-read-put32
-shared-slice-read-put32 c = search needs
-
-mul-put32-2 : tie.Need-mul-put32-2
-mul-put32-2 c = search needs
 
 put32-requires : tie.Need-put32-requires
 put32-requires c κs = omega (arith, end (c .before .before .before .before .before .before .before))
@@ -55,9 +37,6 @@ put-levels-requires c κs =
     let p = c .before .before .before .before .before .before .before .before .before .before .before in
     let x = past p .args in
     omega (arith, end p, stride-more (x .a) (x .levels))
-
-same-length : tie.Need-same-length
-same-length c = search needs
 
 returns : tie.Need-returns
 unfolding of-tables level-image
@@ -73,16 +52,16 @@ pub put-record-spec : {M : Type 1} → statement M
 put-record-spec =
     tie.close
     (tie.spec
-    record-at-requires
-    mul-put64
-    shared-slice-read-put64
+    (λ c κs. search needs)
+    (λ c. search needs)
+    (λ c. search needs)
     put64-requires
     add-put32
-    mul-put32
-    shared-slice-read-put32
-    mul-put32-2
+    (λ c. search needs)
+    (λ c. search needs)
+    (λ c. search needs)
     put32-requires
     add-put-levels
     put-levels-requires
-    same-length
+    (λ c. search needs)
     returns)

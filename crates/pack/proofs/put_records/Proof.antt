@@ -34,12 +34,6 @@ put-record-requires c κs =
       (omega (arith, image-first (a + 1) (p .args .n) (p .args .levels) (omega arith)), p .pre .1 .1 a (omega arith)),
     )
 
-add-a : tie.Need-add-a Inv-loop μ-loop
-add-a c = search needs
-
-loop-less : tie.Need-loop-less Inv-loop μ-loop
-loop-less c = search needs
-
 loop-again : tie.Need-loop-again Inv-loop μ-loop
 unfolding of-tables record-at
 loop-again c =
@@ -54,9 +48,6 @@ loop-again c =
           refl (t .loop .inv .2) (c .before .before .put-record .ensures),
     )
 
-same-length : tie.Need-same-length Inv-loop μ-loop
-same-length c = search needs
-
 returns : tie.Need-returns Inv-loop μ-loop
 returns c = cat-done _ _ _ _ _ (omega arith) (c .before .loop .inv .2)
 
@@ -68,8 +59,8 @@ put-records-spec =
     μ-loop
     loop-holds
     put-record-requires
-    add-a
-    loop-less
+    (λ c. search needs)
+    (λ c. search needs)
     loop-again
-    same-length
+    (λ c. search needs)
     returns)

@@ -5,9 +5,6 @@ use Rattle.planner.proofs.Answers.{image-refused, room-judged}
 use Rattle.planner.proofs.with_room.Statement.{statement}
 use Rattle.planner.proofs.with_room.Tie as tie
 
-checked-requires : tie.Need-checked-requires
-checked-requires c κs = search needs
-
 returns : tie.Need-returns
 returns c = image-refused (c .before .before .checked .ensures) _ _ _ _ (c .if1 .taken)
 
@@ -22,4 +19,4 @@ returns-2 c =
     room-judged (else1 .before .before .checked .ensures) _ _ _ _ (else1 .if1 .left) (c .tight .ensures)
 
 pub with-room-spec : {M : Type 1} → statement M
-with-room-spec = tie.close (tie.spec checked-requires returns tight-requires returns-2)
+with-room-spec = tie.close (tie.spec (λ c κs. search needs) returns tight-requires returns-2)

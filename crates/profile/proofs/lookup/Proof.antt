@@ -16,19 +16,10 @@ within c = placed-within _ (c .before .before .args .action) (c .lookup-place .e
 
 -- ---- the needs
 
-lookup-place-requires : tie.Need-lookup-place-requires
-lookup-place-requires c κs = search needs
-
 add-end : tie.Need-add-end
 add-end c =
     let w = within (c .before) in
     search (needs, w)
-
-sub-result : tie.Need-sub-result
-sub-result c = search needs
-
-part-result-start : tie.Need-part-result-start
-part-result-start c = search needs
 
 part-result-end : tie.Need-part-result-end
 part-result-end c =
@@ -42,4 +33,4 @@ returns c =
     record { refusal = at .result .refusal .number; given = at .ensures .given; is = rw size (placed-part _ _ (at .ensures)) }
 
 pub lookup-spec : {M : Type 1} → statement M
-lookup-spec = tie.close (tie.spec lookup-place-requires add-end sub-result part-result-start part-result-end returns)
+lookup-spec = tie.close (tie.spec (λ c κs. search needs) add-end (λ c. search needs) (λ c. search needs) part-result-end returns)

@@ -33,9 +33,6 @@ has c = rw (c .header .ensures .levels) (has-named (there (c .before)))
 
 -- ---- the needs
 
-lookup-refusal-requires : tie.Need-lookup-refusal-requires
-lookup-refusal-requires c κs = search needs
-
 returns : tie.Need-returns
 returns c =
     let r = c .before .before .lookup-refusal in
@@ -84,7 +81,7 @@ pub lookup-place-spec : {M : Type 1} → statement M
 lookup-place-spec =
     tie.close
     (tie.spec
-    lookup-refusal-requires
+    (λ c κs. search needs)
     returns
     header-requires
     add-next

@@ -28,9 +28,6 @@ accepted c = judged-accepted (past c .checked .ensures) (c .if1 .left)
 
 -- ---- the needs
 
-checked-requires : tie.Need-checked-requires
-checked-requires c κs = search needs
-
 returns : tie.Need-returns
 returns c =
     let p = c .before .before .before in
@@ -50,4 +47,4 @@ returns-3 c =
     rw (one .if1 .left) (no-refusal (image p) (absent p) (accepted one) (λ h. omega arith))
 
 pub lookup-refusal-spec : {M : Type 1} → statement M
-lookup-refusal-spec = tie.close (tie.spec checked-requires returns returns-2 returns-3)
+lookup-refusal-spec = tie.close (tie.spec (λ c κs. search needs) returns returns-2 returns-3)

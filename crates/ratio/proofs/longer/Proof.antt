@@ -5,21 +5,6 @@ use Rattle.ratio.proofs.Stretches.{lengthened}
 use Rattle.ratio.proofs.longer.Statement.{statement}
 use Rattle.ratio.proofs.longer.Tie as tie
 
-add-sum : tie.Need-add-sum
-add-sum c = search needs
-
-add-safe : tie.Need-add-safe
-add-safe c = search needs
-
-add-rest : tie.Need-add-rest
-add-rest c = search needs
-
-add-if1 : tie.Need-add-if1
-add-if1 c = search needs
-
-sub-margin : tie.Need-sub-margin
-sub-margin c = search needs
-
 returns : tie.Need-returns
 returns c = λ S j i k q after l a w z of. lengthened S j k q l _ _ (rw after at of) (omega arith) (omega arith) (omega arith)
 
@@ -27,4 +12,4 @@ returns-2 : tie.Need-returns-2
 returns-2 c = λ S j i k q after l a w z of. lengthened S j k q l _ _ (rw after at of) (omega arith) (omega arith) (omega arith)
 
 pub longer-spec : {M : Type 1} → statement M
-longer-spec = tie.close (tie.spec add-sum add-safe add-rest add-if1 sub-margin returns returns-2)
+longer-spec = tie.close (tie.spec (λ c. search needs) (λ c. search needs) (λ c. search needs) (λ c. search needs) (λ c. search needs) returns returns-2)

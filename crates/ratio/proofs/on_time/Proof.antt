@@ -7,18 +7,6 @@ use Rattle.rules.proofs.Speed.Reading.{unsigned-test}
 use Rattle.ratio.proofs.on_time.Statement.{statement}
 use Rattle.ratio.proofs.on_time.Tie as tie
 
-add-quotient : tie.Need-add-quotient
-add-quotient c = search needs
-
-sub-quotient : tie.Need-sub-quotient
-sub-quotient c = search needs
-
-quotient-requires : tie.Need-quotient-requires
-quotient-requires c κs = search needs
-
-at-most-one-requires : tie.Need-at-most-one-requires
-at-most-one-requires c κs = search needs
-
 returns : tie.Need-returns
 returns c =
     let s = c .before .before in
@@ -28,4 +16,4 @@ returns c =
     ∙ unsigned-test (a .average) (a .deadline) (a .margin) (a .t) (omega (arith, s .fits .average)) (omega (arith, s .fits .deadline)) (s .pre)
 
 pub on-time-spec : {M : Type 1} → statement M
-on-time-spec = tie.close (tie.spec add-quotient sub-quotient quotient-requires at-most-one-requires returns)
+on-time-spec = tie.close (tie.spec (λ c. search needs) (λ c. search needs) (λ c κs. search needs) (λ c κs. search needs) returns)

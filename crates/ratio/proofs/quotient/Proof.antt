@@ -5,15 +5,9 @@ use Rattle.rules.specs.Speed.{quotient}
 use Rattle.ratio.proofs.quotient.Statement.{statement}
 use Rattle.ratio.proofs.quotient.Tie as tie
 
-int-to-float-result : tie.Need-int-to-float-result
-int-to-float-result c = search needs
-
-int-to-float-result-2 : tie.Need-int-to-float-result-2
-int-to-float-result-2 c = search needs
-
 returns : tie.Need-returns
 unfolding div quotient
 returns c = search needs
 
 pub quotient-spec : {M : Type 1} → statement M
-quotient-spec = tie.close (tie.spec int-to-float-result int-to-float-result-2 returns)
+quotient-spec = tie.close (tie.spec (λ c. search needs) (λ c. search needs) returns)

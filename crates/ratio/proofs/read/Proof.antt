@@ -10,18 +10,6 @@ use Rattle.ratio.specs.Ratio.{gives}
 use Rattle.ratio.proofs.read.Statement.{statement}
 use Rattle.ratio.proofs.read.Tie as tie
 
-add-if1 : tie.Need-add-if1
-add-if1 c = search needs
-
-add-quotient : tie.Need-add-quotient
-add-quotient c = search needs
-
-sub-quotient : tie.Need-sub-quotient
-sub-quotient c = search needs
-
-quotient-requires : tie.Need-quotient-requires
-quotient-requires c κs = search needs
-
 returns : tie.Need-returns
 returns c =
     let a = c .before .before .args in
@@ -35,4 +23,4 @@ returns-2 c =
     ap gives (sym (reading-unsigned (a .average) (a .deadline) (a .margin) (a .t) ∙ rw (le-ltb (a .margin + a .t) (a .deadline) (omega arith))))
 
 pub read-spec : {M : Type 1} → statement M
-read-spec = tie.close (tie.spec add-if1 add-quotient sub-quotient quotient-requires returns returns-2)
+read-spec = tie.close (tie.spec (λ c. search needs) (λ c. search needs) (λ c. search needs) (λ c κs. search needs) returns returns-2)

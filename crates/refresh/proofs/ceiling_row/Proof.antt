@@ -24,32 +24,11 @@ abbrev μ-loop : tie.MeasureT-loop
 loop-holds : tie.Need-loop-holds Inv-loop μ-loop
 loop-holds c = (search needs, search needs, cat-none _ _ _)
 
-worst-at-requires : tie.Need-worst-at-requires Inv-loop μ-loop
-worst-at-requires c κs = search needs
-
 add-ceilings : tie.Need-add-ceilings Inv-loop μ-loop
 add-ceilings c =
     let x = c .before .before .before .before .args in
     let bytes : Bytes (x .image .now) = λ k. c .before .before .before .shared-slice-known .given k .fits in
     omega (arith, worst-short (x .image .now) (x .a) (c .before .before .loop .q) bytes, c .worst-at .ensures)
-
-mul-ceilings : tie.Need-mul-ceilings Inv-loop μ-loop
-mul-ceilings c = search needs
-
-add-ceilings-2 : tie.Need-add-ceilings-2 Inv-loop μ-loop
-add-ceilings-2 c = search needs
-
-mul-ceilings-2 : tie.Need-mul-ceilings-2 Inv-loop μ-loop
-mul-ceilings-2 c = search needs
-
-element-write-ceilings : tie.Need-element-write-ceilings Inv-loop μ-loop
-element-write-ceilings c = search needs
-
-add-q : tie.Need-add-q Inv-loop μ-loop
-add-q c = search needs
-
-loop-less : tie.Need-loop-less Inv-loop μ-loop
-loop-less c = search needs
 
 loop-again : tie.Need-loop-again Inv-loop μ-loop
 loop-again c =
@@ -69,13 +48,13 @@ ceiling-row-spec =
     Inv-loop
     μ-loop
     loop-holds
-    worst-at-requires
+    (λ c κs. search needs)
     add-ceilings
-    mul-ceilings
-    add-ceilings-2
-    mul-ceilings-2
-    element-write-ceilings
-    add-q
-    loop-less
+    (λ c. search needs)
+    (λ c. search needs)
+    (λ c. search needs)
+    (λ c. search needs)
+    (λ c. search needs)
+    (λ c. search needs)
     loop-again
     returns)

@@ -28,9 +28,6 @@ rest c F k has r =
     after-trace F (now (x .trace)) (x .needed) (x .room) k (whole (c .before .before .before))
     (after-faults F (now (x .trace)) (x .needed) (x .room) k (c .before .pass .ensures .number F has) (c .if2 .left) r)
 
-trace-refusal-requires : tie.Need-trace-refusal-requires
-trace-refusal-requires c κs = search needs
-
 returns : tie.Need-returns
 returns c =
     let x = c .before .before .before .args in record {
@@ -68,4 +65,4 @@ returns-4 c = record {
 
 pub own-refusal-spec : {M : Type 1} → statement M
 own-refusal-spec =
-    tie.close (tie.spec trace-refusal-requires returns pass-requires returns-2 returns-3 returns-4)
+    tie.close (tie.spec (λ c κs. search needs) returns pass-requires returns-2 returns-3 returns-4)

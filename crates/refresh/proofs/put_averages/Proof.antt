@@ -38,49 +38,13 @@ inside : (c : tie.Start Inv-loop μ-loop) → record-at (levels (c .args .image 
 unfolding record-bytes
 inside c = omega (arith, starts c)
 
-record-at-requires : tie.Need-record-at-requires Inv-loop μ-loop
-record-at-requires c κs = search needs
-
-add-start : tie.Need-add-start Inv-loop μ-loop
-add-start c = search needs
-
 loop-holds : tie.Need-loop-holds Inv-loop μ-loop
 unfolding raised-below
 loop-holds c = record { within = search needs; size = search needs; made = λ trace w copied. (refl, cat-none _ _ _) }
 
-average-at-requires : tie.Need-average-at-requires Inv-loop μ-loop
-average-at-requires c κs = search needs
-
-mul-raised : tie.Need-mul-raised Inv-loop μ-loop
-mul-raised c = search needs
-
-add-raised : tie.Need-add-raised Inv-loop μ-loop
-add-raised c = search needs
-
-mul-raised-2 : tie.Need-mul-raised-2 Inv-loop μ-loop
-mul-raised-2 c = search needs
-
-element-copy-out-raised : tie.Need-element-copy-out-raised Inv-loop μ-loop
-element-copy-out-raised c = search needs
-
-raised-requires : tie.Need-raised-requires Inv-loop μ-loop
-raised-requires c κs = search needs
-
-mul-put-be : tie.Need-mul-put-be Inv-loop μ-loop
-mul-put-be c = search needs
-
-add-put-be : tie.Need-add-put-be Inv-loop μ-loop
-add-put-be c = search needs
-
 put-be-requires : tie.Need-put-be-requires Inv-loop μ-loop
 unfolding record-bytes
 put-be-requires c κs = search needs
-
-add-q : tie.Need-add-q Inv-loop μ-loop
-add-q c = search needs
-
-loop-less : tie.Need-loop-less Inv-loop μ-loop
-loop-less c = search needs
 
 loop-again : tie.Need-loop-again Inv-loop μ-loop
 unfolding profile new-average
@@ -107,9 +71,6 @@ loop-again c =
           );
     }
 
-same-length : tie.Need-same-length Inv-loop μ-loop
-same-length c = search needs
-
 returns : tie.Need-returns Inv-loop μ-loop
 unfolding profile
 returns c trace w copied =
@@ -127,20 +88,20 @@ put-averages-spec =
     (tie.spec
     Inv-loop
     μ-loop
-    record-at-requires
-    add-start
+    (λ c κs. search needs)
+    (λ c. search needs)
     loop-holds
-    average-at-requires
-    mul-raised
-    add-raised
-    mul-raised-2
-    element-copy-out-raised
-    raised-requires
-    mul-put-be
-    add-put-be
+    (λ c κs. search needs)
+    (λ c. search needs)
+    (λ c. search needs)
+    (λ c. search needs)
+    (λ c. search needs)
+    (λ c κs. search needs)
+    (λ c. search needs)
+    (λ c. search needs)
     put-be-requires
-    add-q
-    loop-less
+    (λ c. search needs)
+    (λ c. search needs)
     loop-again
-    same-length
+    (λ c. search needs)
     returns)

@@ -10,9 +10,6 @@ use Rattle.refresh.specs.Refresh.{own}
 use Rattle.refresh.proofs.refresh.Statement.{statement}
 use Rattle.refresh.proofs.refresh.Tie as tie
 
-checked-requires : tie.Need-checked-requires
-checked-requires c κs = search needs
-
 returns : tie.Need-returns
 returns c =
     let x = c .before .before .before .before .before .before .before .args in
@@ -29,12 +26,6 @@ refresh-accepted-requires c κs =
     let found = r .ensures .accepted none in
     (rw none at (r .ensures .number), found .n, found .levels)
 
-same-length : tie.Need-same-length
-same-length c = search needs
-
-returns-2 : tie.Need-returns-2
-returns-2 c = search needs
-
 pub refresh-spec : {M : Type 1} → statement M
 refresh-spec =
-    tie.close (tie.spec checked-requires returns refresh-accepted-requires same-length returns-2)
+    tie.close (tie.spec (λ c κs. search needs) returns refresh-accepted-requires (λ c. search needs) (λ c. search needs))

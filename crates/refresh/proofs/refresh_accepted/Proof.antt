@@ -74,9 +74,6 @@ renew-requires c κs =
     let e = c .before .before .before .before .before .before in
     (records (past (e .before)), omega (arith, room e))
 
-same-length : tie.Need-same-length
-same-length c = search needs
-
 returns-2 : tie.Need-returns-2
 returns-2 c =
     let e = c .before .before .before .before .before .before .before .before .before in
@@ -102,5 +99,5 @@ refresh-accepted-spec =
     returns
     copy-front-requires
     renew-requires
-    same-length
+    (λ c. search needs)
     returns-2)

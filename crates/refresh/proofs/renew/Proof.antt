@@ -37,12 +37,6 @@ put-averages-requires c κs =
     let has = has-record (turn .loop .a) (start .pre .0) (omega arith) in
     (has, omega (arith, has .within))
 
-add-a : tie.Need-add-a Inv-loop μ-loop
-add-a c = search needs
-
-loop-less : tie.Need-loop-less Inv-loop μ-loop
-loop-less c = search needs
-
 loop-again : tie.Need-loop-again Inv-loop μ-loop
 loop-again c =
     let turn = c .before .before .before .before .before in
@@ -58,9 +52,6 @@ loop-again c =
           (c .before .before .put-averages .ensures trace w),
     )
 
-same-length : tie.Need-same-length Inv-loop μ-loop
-same-length c = search needs
-
 returns : tie.Need-returns Inv-loop μ-loop
 returns c =
     let was = c .before .loop in
@@ -74,8 +65,8 @@ renew-spec =
     μ-loop
     loop-holds
     put-averages-requires
-    add-a
-    loop-less
+    (λ c. search needs)
+    (λ c. search needs)
     loop-again
-    same-length
+    (λ c. search needs)
     returns)

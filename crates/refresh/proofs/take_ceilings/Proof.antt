@@ -23,12 +23,6 @@ ceiling-row-requires c κs =
     let turn = c .before .before in
     (has-record (turn .loop .a) (turn .before .before .pre .0) (omega arith), turn .loop .inv .1 .size)
 
-add-a : tie.Need-add-a Inv-loop μ-loop
-add-a c = search needs
-
-loop-less : tie.Need-loop-less Inv-loop μ-loop
-loop-less c = search needs
-
 loop-again : tie.Need-loop-again Inv-loop μ-loop
 loop-again c =
     let was = c .before .before .before .loop in
@@ -46,4 +40,4 @@ returns c =
 pub take-ceilings-spec : {M : Type 1} → statement M
 take-ceilings-spec =
     tie.close
-    (tie.spec Inv-loop μ-loop loop-holds ceiling-row-requires add-a loop-less loop-again returns)
+    (tie.spec Inv-loop μ-loop loop-holds ceiling-row-requires (λ c. search needs) (λ c. search needs) loop-again returns)

@@ -17,9 +17,6 @@ there c = rw (toZ-ofZ (c .before .fits .after)) at (c .if1 .taken)
 minus-requires : tie.Need-minus-requires
 minus-requires c κs = rw (toZ-ofZ (c .before .fits .after)) (c .before .pre (there c))
 
-lesser-requires : tie.Need-lesser-requires
-lesser-requires c κs = search needs
-
 returns : tie.Need-returns
 returns c =
     let less = c .before .minus in
@@ -34,4 +31,4 @@ returns-2 c =
     rw t
 
 pub bound-of-spec : {M : Type 1} → statement M
-bound-of-spec = tie.close (tie.spec minus-requires lesser-requires returns returns-2)
+bound-of-spec = tie.close (tie.spec minus-requires (λ c κs. search needs) returns returns-2)

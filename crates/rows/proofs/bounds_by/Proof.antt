@@ -26,47 +26,17 @@ Inv-loop limit worst out₀ at after k₀ out k =
 abbrev μ-loop : tie.MeasureT-loop
 μ-loop limit worst out₀ at after k₀ out k = 16 - k
 
-mul-limit : tie.Need-mul-limit Inv-loop μ-loop
-mul-limit c = search needs
-
-slice-set-from-limit : tie.Need-slice-set-from-limit Inv-loop μ-loop
-slice-set-from-limit c = search needs
-
 loop-holds : tie.Need-loop-holds Inv-loop μ-loop
 loop-holds c = (search needs, search needs, cat-none _ _ _)
 
-add-loop : tie.Need-add-loop Inv-loop μ-loop
-add-loop c = search needs
-
-mul-bound-of : tie.Need-mul-bound-of Inv-loop μ-loop
-mul-bound-of c = search needs
-
-array-copy-out-bound-of : tie.Need-array-copy-out-bound-of Inv-loop μ-loop
-array-copy-out-bound-of c = search needs
-
 bound-of-requires : tie.Need-bound-of-requires Inv-loop μ-loop
 bound-of-requires c κs = rw (as-is _ (c .bound-of-arg .given)) (c .before .before .before .pre .0 (c .before .before .loop .k) (omega arith))
-
-add-bound : tie.Need-add-bound Inv-loop μ-loop
-add-bound c = search needs
-
-add-bound-2 : tie.Need-add-bound-2 Inv-loop μ-loop
-add-bound-2 c = search needs
-
-mul-bound : tie.Need-mul-bound Inv-loop μ-loop
-mul-bound c = search needs
 
 slice-set-from-bound : tie.Need-slice-set-from-bound Inv-loop μ-loop
 slice-set-from-bound c =
     let a = c .before .before .before .before .args in
     let same = c .before .before .before .loop .inv .1 in
     omega (arith, same, length-set (a .out .now) (a .at) (toZ w32 (ofZ w32 (a .limit))))
-
-add-k : tie.Need-add-k Inv-loop μ-loop
-add-k c = search needs
-
-loop-less : tie.Need-loop-less Inv-loop μ-loop
-loop-less c = search needs
 
 loop-again : tie.Need-loop-again Inv-loop μ-loop
 loop-again c =
@@ -98,19 +68,19 @@ bounds-by-spec =
     (tie.spec
     Inv-loop
     μ-loop
-    mul-limit
-    slice-set-from-limit
+    (λ c. search needs)
+    (λ c. search needs)
     loop-holds
-    add-loop
-    mul-bound-of
-    array-copy-out-bound-of
+    (λ c. search needs)
+    (λ c. search needs)
+    (λ c. search needs)
     bound-of-requires
-    add-bound
-    add-bound-2
-    mul-bound
+    (λ c. search needs)
+    (λ c. search needs)
+    (λ c. search needs)
     slice-set-from-bound
-    add-k
-    loop-less
+    (λ c. search needs)
+    (λ c. search needs)
     loop-again
     same-length
     returns)

@@ -25,19 +25,10 @@ held c k h =
     let a = c .before .before .before .args in
     rw (lt-ltb (a .x + a .levels) (a .entries) (omega arith)) (c .sixteen .ensures k (omega arith))
 
-mul-at : tie.Need-mul-at
-mul-at c = search needs
-
-add-next : tie.Need-add-next
-add-next c = search needs
-
 bounds-by-requires : tie.Need-bounds-by-requires
 bounds-by-requires c κs =
     let s = c .before .before in
     ((λ k h. subst (Spares (s .args .worst)) (sym (past (c .before) k h)) (s .pre .1 k h)), omega arith)
-
-same-length : tie.Need-same-length
-same-length c = search needs
 
 returns : tie.Need-returns
 returns c =
@@ -45,19 +36,10 @@ returns c =
     let a = then1 .before .args in
     bounds-stored (a .out .now) (a .x * 16) {v = a .worst} (toZ-ofZ (then1 .before .fits .limit)) refl (past then1) (c .before .bounds-by .ensures)
 
-mul-sixteen : tie.Need-mul-sixteen
-mul-sixteen c = search needs
-
-sixteen-requires : tie.Need-sixteen-requires
-sixteen-requires c κs = search needs
-
 bounds-by-requires-2 : tie.Need-bounds-by-requires-2
 bounds-by-requires-2 c κs =
     let s = c .before .before .before .before in
     ((λ k h. subst (Spares (s .args .worst)) (sym (held (c .before) k h)) (s .pre .1 k h)), omega arith)
-
-same-length-2 : tie.Need-same-length-2
-same-length-2 c = search needs
 
 returns-2 : tie.Need-returns-2
 returns-2 c =
@@ -69,13 +51,13 @@ pub bounds-of-spec : {M : Type 1} → statement M
 bounds-of-spec =
     tie.close
     (tie.spec
-    mul-at
-    add-next
+    (λ c. search needs)
+    (λ c. search needs)
     bounds-by-requires
-    same-length
+    (λ c. search needs)
     returns
-    mul-sixteen
-    sixteen-requires
+    (λ c. search needs)
+    (λ c κs. search needs)
     bounds-by-requires-2
-    same-length-2
+    (λ c. search needs)
     returns-2)

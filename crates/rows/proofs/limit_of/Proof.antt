@@ -10,12 +10,6 @@ use Rattle.rows.proofs.Signed.{mag-lesser, as-is}
 use Rattle.rows.proofs.limit_of.Statement.{statement}
 use Rattle.rows.proofs.limit_of.Tie as tie
 
-cast-lesser : tie.Need-cast-lesser
-cast-lesser c = search needs
-
-lesser-requires : tie.Need-lesser-requires
-lesser-requires c κs = search needs
-
 top : (c : tie.After-lesser) → c .lesser .result ≡ minZ (pos (c .before .args .deadline)) (c .before .args .first)
 top c = c .lesser .ensures ∙ ap₂ minZ (toZ-pos w32 {n = c .before .args .deadline} (omega arith)) (toZ-ofZ (c .before .fits .first))
 
@@ -26,9 +20,6 @@ minus-requires c κs =
 
 minus-requires-2 : tie.Need-minus-requires-2
 minus-requires-2 c κs = rw (toZ-ofZ (c .before .before .fits .after)) (omega arith)
-
-lesser-requires-2 : tie.Need-lesser-requires-2
-lesser-requires-2 c κs = search needs
 
 returns : tie.Need-returns
 returns c =
@@ -48,4 +39,4 @@ returns c =
     )
 
 pub limit-of-spec : {M : Type 1} → statement M
-limit-of-spec = tie.close (tie.spec cast-lesser lesser-requires minus-requires minus-requires-2 lesser-requires-2 returns)
+limit-of-spec = tie.close (tie.spec (λ c. search needs) (λ c κs. search needs) minus-requires minus-requires-2 (λ c κs. search needs) returns)

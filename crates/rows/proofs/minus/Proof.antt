@@ -12,9 +12,6 @@ use Rattle.rows.proofs.minus.Tie as tie
 fits : (c : tie.Start) → SFits w32 (c .args .limit -ℤ pos (c .args .time))
 fits c = record { sfits = omega (arith, mag-less (c .args .limit) (c .args .time)) }
 
-cast-result : tie.Need-cast-result
-cast-result c = search needs
-
 sub-result : tie.Need-sub-result
 sub-result c = rw (toZ-ofZ (c .fits .limit), toZ-pos w32 {n = c .args .time} (omega arith)) (fits c)
 
@@ -22,4 +19,4 @@ returns : tie.Need-returns
 returns c = rw (toZ-ofZ (c .fits .limit), toZ-pos w32 {n = c .args .time} (omega arith)) (toZ-ofZ (fits c))
 
 pub minus-spec : {M : Type 1} → statement M
-minus-spec = tie.close (tie.spec cast-result sub-result returns)
+minus-spec = tie.close (tie.spec (λ c. search needs) sub-result returns)

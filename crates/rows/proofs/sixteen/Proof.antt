@@ -24,27 +24,6 @@ abbrev μ-loop : tie.MeasureT-loop
 loop-holds : tie.Need-loop-holds Inv-loop μ-loop
 loop-holds c = (search needs, search needs, cat-none _ _ _)
 
-add-bound : tie.Need-add-bound Inv-loop μ-loop
-add-bound c = search needs
-
-mul-bound : tie.Need-mul-bound Inv-loop μ-loop
-mul-bound c = search needs
-
-shared-slice-copy-out-bound : tie.Need-shared-slice-copy-out-bound Inv-loop μ-loop
-shared-slice-copy-out-bound c = search needs
-
-mul-row : tie.Need-mul-row Inv-loop μ-loop
-mul-row c = search needs
-
-array-set-from-row : tie.Need-array-set-from-row Inv-loop μ-loop
-array-set-from-row c = search needs
-
-add-k : tie.Need-add-k Inv-loop μ-loop
-add-k c = search needs
-
-loop-less : tie.Need-loop-less Inv-loop μ-loop
-loop-less c = search needs
-
 loop-again : tie.Need-loop-again Inv-loop μ-loop
 loop-again c =
     let t = c .before .before .loop in (
@@ -63,12 +42,12 @@ sixteen-spec =
     Inv-loop
     μ-loop
     loop-holds
-    add-bound
-    mul-bound
-    shared-slice-copy-out-bound
-    mul-row
-    array-set-from-row
-    add-k
-    loop-less
+    (λ c. search needs)
+    (λ c. search needs)
+    (λ c. search needs)
+    (λ c. search needs)
+    (λ c. search needs)
+    (λ c. search needs)
+    (λ c. search needs)
     loop-again
     returns)

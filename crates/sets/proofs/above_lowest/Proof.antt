@@ -3,11 +3,8 @@ use Rattle.sets.proofs.Ends.{above-lowest}
 use Rattle.sets.proofs.above_lowest.Statement.{statement}
 use Rattle.sets.proofs.above_lowest.Tie as tie
 
-sub-result : tie.Need-sub-result
-sub-result c = search needs
-
 returns : tie.Need-returns
 returns c = above-lowest _
 
 pub above-lowest-spec : {M : Type 1} → statement M
-above-lowest-spec = tie.close (tie.spec sub-result returns)
+above-lowest-spec = tie.close (tie.spec (λ c. search needs) returns)

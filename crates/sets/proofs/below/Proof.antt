@@ -6,9 +6,6 @@ use Rattle.sets.proofs.Laws.{lt-below, below-lt}
 use Rattle.sets.proofs.below.Statement.{statement}
 use Rattle.sets.proofs.below.Tie as tie
 
-all-below-requires : tie.Need-all-below-requires
-all-below-requires c κs = search needs
-
 returns : tie.Need-returns
 returns c =
     let s = c .before .args .s in
@@ -19,4 +16,4 @@ returns c =
     )
 
 pub below-spec : {M : Type 1} → statement M
-below-spec = tie.close (tie.spec all-below-requires returns)
+below-spec = tie.close (tie.spec (λ c κs. search needs) returns)

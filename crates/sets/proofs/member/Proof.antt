@@ -3,12 +3,9 @@ use Rattle.rules.specs.Image.{has}
 use Rattle.sets.proofs.member.Statement.{statement}
 use Rattle.sets.proofs.member.Tie as tie
 
-shr-result : tie.Need-shr-result
-shr-result c = search needs
-
 returns : tie.Need-returns
 unfolding has
 returns c = search needs
 
 pub member-spec : {M : Type 1} → statement M
-member-spec = tie.close (tie.spec shr-result returns)
+member-spec = tie.close (tie.spec (λ c. search needs) returns)

@@ -8,20 +8,8 @@ use Rattle.speed.proofs.on_time.Tie as tie
 bytes : (c : tie.After-speed-reading) → Bytes (c .before .before .args .image .now)
 bytes c k = c .before .shared-slice-known .given k .fits
 
-speed-reading-requires : tie.Need-speed-reading-requires
-speed-reading-requires c κs = search needs
-
-enum-known-x : tie.Need-enum-known-x
-enum-known-x c = search needs
-
-at-most-one-requires : tie.Need-at-most-one-requires
-at-most-one-requires c κs = search needs
-
 enum-told : tie.Need-enum-told
 enum-told c = search needs
-
-enum-told-2 : tie.Need-enum-told-2
-enum-told-2 c = search needs
 
 returns : tie.Need-returns
 returns c =
@@ -38,11 +26,11 @@ pub on-time-spec : {M : Type 1} → statement M
 on-time-spec =
     tie.close
     (tie.spec
-    speed-reading-requires
-    enum-known-x
-    at-most-one-requires
+    (λ c κs. search needs)
+    (λ c. search needs)
+    (λ c κs. search needs)
     enum-told
-    enum-told-2
+    (λ c. search needs)
     returns
     returns-2
     returns-3)

@@ -7,9 +7,6 @@ use Rattle.records.proofs.Faults.{denied}
 use Rattle.speed.proofs.own_refusal.Statement.{statement}
 use Rattle.speed.proofs.own_refusal.Tie as tie
 
-is-absent-requires : tie.Need-is-absent-requires
-is-absent-requires c κs = search needs
-
 returns : tie.Need-returns
 returns c = inl (c .before .is-absent .ensures .0 (c .if1 .taken), refl)
 
@@ -20,4 +17,4 @@ returns-3 : tie.Need-returns-3
 returns-3 c = inr (denied (c .before .before .is-absent .ensures) (c .before .if1 .left), inr ((λ l. omega arith), refl))
 
 pub own-refusal-spec : {M : Type 1} → statement M
-own-refusal-spec = tie.close (tie.spec is-absent-requires returns returns-2 returns-3)
+own-refusal-spec = tie.close (tie.spec (λ c κs. search needs) returns returns-2 returns-3)

@@ -8,14 +8,8 @@ use Rattle.speed.proofs.Answers.{image-refused, refused-reads, own-give
 use Rattle.speed.proofs.speed_reading.Statement.{statement}
 use Rattle.speed.proofs.speed_reading.Tie as tie
 
-checked-requires : tie.Need-checked-requires
-checked-requires c κs = search needs
-
 returns : tie.Need-returns
 returns c = image-refused _ _ _ _ _ (c .before .checked .ensures .number) (c .if1 .taken)
-
-own-refusal-requires : tie.Need-own-refusal-requires
-own-refusal-requires c κs = search needs
 
 returns-2 : tie.Need-returns-2
 returns-2 c =
@@ -36,9 +30,6 @@ stretch-requires c κs = can-read (c .before .before)
 
 array-read-due-at : tie.Need-array-read-due-at
 array-read-due-at c = let r = can-read (c .before .before .before) in omega (arith, r .few, r .ordered)
-
-cast-due-at : tie.Need-cast-due-at
-cast-due-at c = search needs
 
 due-at-requires : tie.Need-due-at-requires
 due-at-requires c κs =
@@ -63,13 +54,13 @@ pub speed-reading-spec : {M : Type 1} → statement M
 speed-reading-spec =
     tie.close
     (tie.spec
-    checked-requires
+    (λ c κs. search needs)
     returns
-    own-refusal-requires
+    (λ c κs. search needs)
     returns-2
     stretch-requires
     array-read-due-at
-    cast-due-at
+    (λ c. search needs)
     due-at-requires
     read-requires
     returns-3)

@@ -35,22 +35,10 @@ short c =
     let start = c .before .before .before in
     small _ (c .loop .j) _ _ (start .pre .few) (times c) _ (omega arith) (c .loop .inv .2)
 
-nothing-requires : tie.Need-nothing-requires Inv-loop μ-loop
-nothing-requires c κs = search needs
-
-add-j : tie.Need-add-j Inv-loop μ-loop
-add-j c = search needs
-
 loop-holds : tie.Need-loop-holds Inv-loop μ-loop
 loop-holds c =
     let start = c .before .before in
     (omega (arith, start .pre .ordered), search needs, from-nothing (c .nothing .ensures) (omega arith))
-
-sub-j : tie.Need-sub-j Inv-loop μ-loop
-sub-j c = search needs
-
-element-copy-out-a : tie.Need-element-copy-out-a Inv-loop μ-loop
-element-copy-out-a c = search needs
 
 cast-a : tie.Need-cast-a Inv-loop μ-loop
 cast-a c = record { fits = omega (arith, present (c .before) .few-actions) }
@@ -76,9 +64,6 @@ longer-requires c κs =
       omega (arith, c .worst-at2 .ensures, l .worst0 e (omega arith)),
     )
 
-loop-less : tie.Need-loop-less Inv-loop μ-loop
-loop-less c = search needs
-
 loop-again : tie.Need-loop-again Inv-loop μ-loop
 unfolding profile
 loop-again c =
@@ -102,16 +87,16 @@ stretch-spec =
     (tie.spec
     Inv-loop
     μ-loop
-    nothing-requires
-    add-j
+    (λ c κs. search needs)
+    (λ c. search needs)
     loop-holds
-    sub-j
-    element-copy-out-a
+    (λ c. search needs)
+    (λ c. search needs)
     cast-a
     average-at-requires
     worst-at-requires
     worst-at-requires-2
     longer-requires
-    loop-less
+    (λ c. search needs)
     loop-again
     returns)

@@ -11,21 +11,6 @@ copy-front-requires c κs =
     let few = records (start .pre .0 .1) .few-actions in
     (search needs, start .pre .1 .0 .0)
 
-work-requires : tie.Need-work-requires
-work-requires c κs = search needs
-
-same-length : tie.Need-same-length
-same-length c = search needs
-
-same-length-2 : tie.Need-same-length-2
-same-length-2 c = search needs
-
-same-length-3 : tie.Need-same-length-3
-same-length-3 c = search needs
-
-same-length-4 : tie.Need-same-length-4
-same-length-4 c = search needs
-
 returns : tie.Need-returns
 returns c o g =
     let worked = c .before .before .before .before in
@@ -37,9 +22,9 @@ fill-spec =
     tie.close
     (tie.spec
     copy-front-requires
-    work-requires
-    same-length
-    same-length-2
-    same-length-3
-    same-length-4
+    (λ c κs. search needs)
+    (λ c. search needs)
+    (λ c. search needs)
+    (λ c. search needs)
+    (λ c. search needs)
     returns)

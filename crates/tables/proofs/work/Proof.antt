@@ -50,14 +50,8 @@ mul-entries c =
     let has = records (c .before .before .pre .0 .1) in
     omega (arith, mul-le-mul (has .few-actions) (has .few-levels))
 
-after-last-requires : tie.Need-after-last-requires Inv-loop μ-loop
-after-last-requires c κs = search needs
-
 loop-holds : tie.Need-loop-holds Inv-loop μ-loop
 loop-holds c = (search needs, search needs, search needs, search needs, λ o g. back-none (lawful g (bytes c)) _ _ _ (c .after-last .ensures))
-
-sub-i : tie.Need-sub-i Inv-loop μ-loop
-sub-i c = search needs
 
 element-copy-out-a : tie.Need-element-copy-out-a Inv-loop μ-loop
 element-copy-out-a c = omega (arith, records (c .before .before .before .before .before .pre .0 .1) .few-actions)
@@ -94,9 +88,6 @@ work-row-requires c κs =
       bounds-room = omega (arith, room .2, t .loop .inv .3);
     }
 
-loop-less : tie.Need-loop-less Inv-loop μ-loop
-loop-less c = search needs
-
 loop-again : tie.Need-loop-again Inv-loop μ-loop
 loop-again c =
     let done = c .before .before .before .before .work-row in
@@ -112,15 +103,6 @@ loop-again c =
           (position g (i - 1) (omega arith) due) (done .ensures),
     )
 
-same-length : tie.Need-same-length Inv-loop μ-loop
-same-length c = search needs
-
-same-length-2 : tie.Need-same-length-2 Inv-loop μ-loop
-same-length-2 c = search needs
-
-same-length-3 : tie.Need-same-length-3 Inv-loop μ-loop
-same-length-3 c = search needs
-
 returns : tie.Need-returns Inv-loop μ-loop
 returns c o g =
     let t = c .before in
@@ -133,17 +115,17 @@ work-spec =
     Inv-loop
     μ-loop
     mul-entries
-    after-last-requires
+    (λ c κs. search needs)
     loop-holds
-    sub-i
+    (λ c. search needs)
     element-copy-out-a
     cast-a
     mul-from
     due-at-requires
     work-row-requires
-    loop-less
+    (λ c. search needs)
     loop-again
-    same-length
-    same-length-2
-    same-length-3
+    (λ c. search needs)
+    (λ c. search needs)
+    (λ c. search needs)
     returns)

@@ -58,21 +58,6 @@ loop-holds : tie.Need-loop-holds Inv-loop μ-loop
 loop-holds c =
     (search needs, search needs, search needs, search needs, search needs, cat-none _ _ _, cat-none _ _ _, cat-none _ _ _, cat-none _ _ _)
 
-average-at-requires : tie.Need-average-at-requires Inv-loop μ-loop
-average-at-requires c κs = search needs
-
-worst-at-requires : tie.Need-worst-at-requires Inv-loop μ-loop
-worst-at-requires c κs = search needs
-
-array-copy-out-limit-of : tie.Need-array-copy-out-limit-of Inv-loop μ-loop
-array-copy-out-limit-of c = search needs
-
-mul-limit-of : tie.Need-mul-limit-of Inv-loop μ-loop
-mul-limit-of c = search needs
-
-array-copy-out-limit-of-2 : tie.Need-array-copy-out-limit-of-2 Inv-loop μ-loop
-array-copy-out-limit-of-2 c = search needs
-
 limit-of-requires : tie.Need-limit-of-requires Inv-loop μ-loop
 limit-of-requires c κs =
     let s = c .before .before .before .before .before .before .before .before in
@@ -84,33 +69,6 @@ limit-of-requires c κs =
       c .before .before .before .average-at .ensures,
     ) small
 
-mul-here : tie.Need-mul-here Inv-loop μ-loop
-mul-here c = search needs
-
-array-set-from-here : tie.Need-array-set-from-here Inv-loop μ-loop
-array-set-from-here c = search needs
-
-add-limit : tie.Need-add-limit Inv-loop μ-loop
-add-limit c = search needs
-
-mul-limit : tie.Need-mul-limit Inv-loop μ-loop
-mul-limit c = search needs
-
-slice-set-from-limit : tie.Need-slice-set-from-limit Inv-loop μ-loop
-slice-set-from-limit c = search needs
-
-add-worst : tie.Need-add-worst Inv-loop μ-loop
-add-worst c = search needs
-
-mul-worst : tie.Need-mul-worst Inv-loop μ-loop
-mul-worst c = search needs
-
-slice-write-worst : tie.Need-slice-write-worst Inv-loop μ-loop
-slice-write-worst c = search needs
-
-add-bounds-of : tie.Need-add-bounds-of Inv-loop μ-loop
-add-bounds-of c = search needs
-
 bounds-of-requires : tie.Need-bounds-of-requires Inv-loop μ-loop
 bounds-of-requires c κs =
     let in-loop = c .before .before .before .before .before .before in
@@ -121,12 +79,6 @@ bounds-of-requires c κs =
       (λ k h. rw (kept in-loop k) (subst (λ (w : ℕ). Spares w (bound-in (s .args .bounds .now) (s .args .entries) (s .args .from + t .q + s .args .levels) k))
           (sym longest) (s .pre .spares (t .q) k (omega arith) h))),
     )
-
-add-q : tie.Need-add-q Inv-loop μ-loop
-add-q c = search needs
-
-loop-less : tie.Need-loop-less Inv-loop μ-loop
-loop-less c = search needs
 
 -- the limit of the turn
 limit-is : (c : tie.After-limit-of Inv-loop μ-loop) → let a = c .before .before .before .before .before .before .before .before .before .args in
@@ -165,15 +117,6 @@ loop-again c =
           (bounds-stored (t .bounds) ((a .from + t .q) * 16) limit longest (λ k h. kept in-loop k) (done .ensures)),
     )
 
-same-length : tie.Need-same-length Inv-loop μ-loop
-same-length c = search needs
-
-same-length-2 : tie.Need-same-length-2 Inv-loop μ-loop
-same-length-2 c = search needs
-
-same-length-3 : tie.Need-same-length-3 Inv-loop μ-loop
-same-length-3 c = search needs
-
 returns : tie.Need-returns Inv-loop μ-loop
 unfolding eight
 returns c =
@@ -194,26 +137,26 @@ work-row-spec =
     Inv-loop
     μ-loop
     loop-holds
-    average-at-requires
-    worst-at-requires
-    array-copy-out-limit-of
-    mul-limit-of
-    array-copy-out-limit-of-2
+    (λ c κs. search needs)
+    (λ c κs. search needs)
+    (λ c. search needs)
+    (λ c. search needs)
+    (λ c. search needs)
     limit-of-requires
-    mul-here
-    array-set-from-here
-    add-limit
-    mul-limit
-    slice-set-from-limit
-    add-worst
-    mul-worst
-    slice-write-worst
-    add-bounds-of
+    (λ c. search needs)
+    (λ c. search needs)
+    (λ c. search needs)
+    (λ c. search needs)
+    (λ c. search needs)
+    (λ c. search needs)
+    (λ c. search needs)
+    (λ c. search needs)
+    (λ c. search needs)
     bounds-of-requires
-    add-q
-    loop-less
+    (λ c. search needs)
+    (λ c. search needs)
     loop-again
-    same-length
-    same-length-2
-    same-length-3
+    (λ c. search needs)
+    (λ c. search needs)
+    (λ c. search needs)
     returns)

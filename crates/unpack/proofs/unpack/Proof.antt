@@ -39,12 +39,6 @@ unpack-record-requires c κs =
     let fits = stride-fits (p .loop .a) (x .args .n) (x .args .levels) (omega arith) in
     (has-record _ (x .pre .0) (omega arith), ((omega arith, omega arith), (omega arith, omega arith)))
 
-add-a : tie.Need-add-a Inv-loop μ-loop
-add-a c = search needs
-
-loop-less : tie.Need-loop-less Inv-loop μ-loop
-loop-less c = search needs
-
 loop-again : tie.Need-loop-again Inv-loop μ-loop
 loop-again c =
     let p = c .before .before .before .before .before .before .before .before in
@@ -65,18 +59,6 @@ loop-again c =
       cat-more _ (x .levels) (λ k. length-tab _ (x .levels)) _ 0 _ (i .a) (omega arith) (omega arith) (i .inv .8) (e .1 .1 .1),
     )
 
-same-length : tie.Need-same-length Inv-loop μ-loop
-same-length c = search needs
-
-same-length-2 : tie.Need-same-length-2 Inv-loop μ-loop
-same-length-2 c = search needs
-
-same-length-3 : tie.Need-same-length-3 Inv-loop μ-loop
-same-length-3 c = search needs
-
-same-length-4 : tie.Need-same-length-4 Inv-loop μ-loop
-same-length-4 c = search needs
-
 returns : tie.Need-returns Inv-loop μ-loop
 returns c =
     let p = c .before .loop in (
@@ -95,11 +77,11 @@ unpack-spec =
     μ-loop
     loop-holds
     unpack-record-requires
-    add-a
-    loop-less
+    (λ c. search needs)
+    (λ c. search needs)
     loop-again
-    same-length
-    same-length-2
-    same-length-3
-    same-length-4
+    (λ c. search needs)
+    (λ c. search needs)
+    (λ c. search needs)
+    (λ c. search needs)
     returns)

@@ -23,41 +23,8 @@ Inv-loop image levels a averages₀ worst₀ row q₀ averages worst q =
 abbrev μ-loop : tie.MeasureT-loop
 μ-loop image levels a averages₀ worst₀ row q₀ averages worst q = levels - q
 
-mul-row : tie.Need-mul-row Inv-loop μ-loop
-mul-row c = search needs
-
 loop-holds : tie.Need-loop-holds Inv-loop μ-loop
 loop-holds c = (search needs, search needs, search needs, cat-none _ _ _, cat-none _ _ _)
-
-average-at-requires : tie.Need-average-at-requires Inv-loop μ-loop
-average-at-requires c κs = search needs
-
-add-averages : tie.Need-add-averages Inv-loop μ-loop
-add-averages c = search needs
-
-mul-averages : tie.Need-mul-averages Inv-loop μ-loop
-mul-averages c = search needs
-
-slice-write-averages : tie.Need-slice-write-averages Inv-loop μ-loop
-slice-write-averages c = search needs
-
-worst-at-requires : tie.Need-worst-at-requires Inv-loop μ-loop
-worst-at-requires c κs = search needs
-
-add-worst : tie.Need-add-worst Inv-loop μ-loop
-add-worst c = search needs
-
-mul-worst : tie.Need-mul-worst Inv-loop μ-loop
-mul-worst c = search needs
-
-slice-write-worst : tie.Need-slice-write-worst Inv-loop μ-loop
-slice-write-worst c = search needs
-
-add-q : tie.Need-add-q Inv-loop μ-loop
-add-q c = search needs
-
-loop-less : tie.Need-loop-less Inv-loop μ-loop
-loop-less c = search needs
 
 loop-again : tie.Need-loop-again Inv-loop μ-loop
 loop-again c =
@@ -68,12 +35,6 @@ loop-again c =
       tab-more _ _ _ _ (p .loop .q) (omega arith) (omega arith) (omega arith) (search needs) (p .loop .inv .3),
       tab-more _ _ _ _ (p .loop .q) (omega arith) (omega arith) (omega arith) (search needs) (p .loop .inv .4),
     )
-
-same-length : tie.Need-same-length Inv-loop μ-loop
-same-length c = search needs
-
-same-length-2 : tie.Need-same-length-2 Inv-loop μ-loop
-same-length-2 c = search needs
 
 returns : tie.Need-returns Inv-loop μ-loop
 returns c =
@@ -86,19 +47,19 @@ unpack-row-spec =
     (tie.spec
     Inv-loop
     μ-loop
-    mul-row
+    (λ c. search needs)
     loop-holds
-    average-at-requires
-    add-averages
-    mul-averages
-    slice-write-averages
-    worst-at-requires
-    add-worst
-    mul-worst
-    slice-write-worst
-    add-q
-    loop-less
+    (λ c κs. search needs)
+    (λ c. search needs)
+    (λ c. search needs)
+    (λ c. search needs)
+    (λ c κs. search needs)
+    (λ c. search needs)
+    (λ c. search needs)
+    (λ c. search needs)
+    (λ c. search needs)
+    (λ c. search needs)
     loop-again
-    same-length
-    same-length-2
+    (λ c. search needs)
+    (λ c. search needs)
     returns)

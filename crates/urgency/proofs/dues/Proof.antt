@@ -22,23 +22,8 @@ loop-holds c = (search needs, refl, λ j l. absurd (omega arith))
 mul-due : tie.Need-mul-due Inv-loop μ-loop
 mul-due c = record { fits = omega arith }
 
-shared-slice-read-due : tie.Need-shared-slice-read-due Inv-loop μ-loop
-shared-slice-read-due c = omega arith
-
-due-requires : tie.Need-due-requires Inv-loop μ-loop
-due-requires c κs = search needs
-
 mul-u : tie.Need-mul-u Inv-loop μ-loop
 mul-u c = record { fits = omega arith }
-
-array-write-u : tie.Need-array-write-u Inv-loop μ-loop
-array-write-u c = omega arith
-
-add-a : tie.Need-add-a Inv-loop μ-loop
-add-a c = search needs
-
-loop-less : tie.Need-loop-less Inv-loop μ-loop
-loop-less c = omega arith
 
 loop-again : tie.Need-loop-again Inv-loop μ-loop
 unfolding due
@@ -60,11 +45,11 @@ dues-spec =
     μ-loop
     loop-holds
     mul-due
-    shared-slice-read-due
-    due-requires
+    (λ c. omega arith)
+    (λ c κs. search needs)
     mul-u
-    array-write-u
-    add-a
-    loop-less
+    (λ c. omega arith)
+    (λ c. search needs)
+    (λ c. omega arith)
     loop-again
     returns)

@@ -15,14 +15,8 @@ abbrev μ-loop : tie.MeasureT-loop
 mul-x : tie.Need-mul-x Inv-loop μ-loop
 mul-x c = record { fits = omega arith }
 
-element-copy-out-x : tie.Need-element-copy-out-x Inv-loop μ-loop
-element-copy-out-x c = search needs
-
 loop-holds : tie.Need-loop-holds Inv-loop μ-loop
 loop-holds c = handing-start _ _ (c .before .pre .1)
-
-lowest-requires : tie.Need-lowest-requires Inv-loop μ-loop
-lowest-requires c κs = search needs
 
 mul-if1 : tie.Need-mul-if1 Inv-loop μ-loop
 mul-if1 c = record { fits = omega (arith, c .lowest .ensures .small) }
@@ -35,9 +29,6 @@ mul-u c = record { fits = omega (arith, c .before .before .lowest .ensures .smal
 
 element-write-u : tie.Need-element-write-u Inv-loop μ-loop
 element-write-u c = c .before .before .lowest .ensures .small
-
-above-lowest-requires : tie.Need-above-lowest-requires Inv-loop μ-loop
-above-lowest-requires c κs = search needs
 
 loop-less : tie.Need-loop-less Inv-loop μ-loop
 loop-less c =
@@ -64,14 +55,14 @@ hand-on-spec =
     Inv-loop
     μ-loop
     mul-x
-    element-copy-out-x
+    (λ c. search needs)
     loop-holds
-    lowest-requires
+    (λ c κs. search needs)
     mul-if1
     element-copy-out-if1
     mul-u
     element-write-u
-    above-lowest-requires
+    (λ c κs. search needs)
     loop-less
     loop-again
     returns)

@@ -17,9 +17,6 @@ abbrev μ-loop : tie.MeasureT-loop
 loop-holds : tie.Need-loop-holds Inv-loop μ-loop
 loop-holds c = (le-refl _, passed-none _ _ (c .before .pre .2))
 
-sub-a : tie.Need-sub-a Inv-loop μ-loop
-sub-a c = search needs
-
 mul-hand-on : tie.Need-mul-hand-on Inv-loop μ-loop
 mul-hand-on c = record { fits = omega (arith, c .before .before .before .pre .0) }
 
@@ -29,9 +26,6 @@ shared-slice-read-hand-on c = omega (arith, c .before .before .before .before .p
 hand-on-requires : tie.Need-hand-on-requires Inv-loop μ-loop
 hand-on-requires c κs = (omega (arith, c .before .before .before .before .before .pre .0), c .before .before .before .loop .inv .1 .long)
 
-loop-less : tie.Need-loop-less Inv-loop μ-loop
-loop-less c = omega arith
-
 loop-again : tie.Need-loop-again Inv-loop μ-loop
 loop-again c =
     let at = c .before .before .before .before .before in
@@ -39,9 +33,6 @@ loop-again c =
       omega arith,
       passed-late (start .pre .0) (omega arith) (omega arith) (at .loop .inv .1) (c .before .hand-on .ensures) (c .if1 .taken),
     )
-
-loop-less-2 : tie.Need-loop-less-2 Inv-loop μ-loop
-loop-less-2 c = omega arith
 
 loop-again-2 : tie.Need-loop-again-2 Inv-loop μ-loop
 loop-again-2 c =
@@ -61,12 +52,12 @@ pass-spec =
     Inv-loop
     μ-loop
     loop-holds
-    sub-a
+    (λ c. search needs)
     mul-hand-on
     shared-slice-read-hand-on
     hand-on-requires
-    loop-less
+    (λ c. omega arith)
     loop-again
-    loop-less-2
+    (λ c. omega arith)
     loop-again-2
     returns)

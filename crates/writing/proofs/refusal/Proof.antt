@@ -96,9 +96,6 @@ room c =
 
 -- ---- the needs
 
-count-out-requires : tie.Need-count-out-requires
-count-out-requires c κs = search needs
-
 returns : tie.Need-returns
 unfolding of-tables
 returns c = inl (c .before .count-out .ensures .0 (c .if1 .taken), refl)
@@ -160,7 +157,7 @@ pub refusal-spec : {M : Type 1} → statement M
 refusal-spec =
     tie.close
     (tie.spec
-    count-out-requires
+    (λ c κs. search needs)
     returns
     tight-requires
     returns-2

@@ -29,9 +29,6 @@ ready c = packable _ _ _ _ _ _ _ _ (given c)
 
 -- ---- the needs
 
-refusal-requires : tie.Need-refusal-requires
-refusal-requires c κs = search needs
-
 returns : tie.Need-returns
 returns c =
     let r = c .before .refusal in
@@ -48,9 +45,6 @@ image-bytes-requires c κs =
     let r = ready (c .before .before .before .before) .tables in
     (r .few-actions, r .few-levels)
 
-same-length : tie.Need-same-length
-same-length c = search needs
-
 returns-2 : tie.Need-returns-2
 returns-2 c = record {
   given = given (c .before .before .before .before .before);
@@ -61,4 +55,4 @@ returns-2 c = record {
 pub write-spec : {M : Type 1} → statement M
 write-spec =
     tie.close
-    (tie.spec refusal-requires returns put-image-requires image-bytes-requires same-length returns-2)
+    (tie.spec (λ c κs. search needs) returns put-image-requires image-bytes-requires (λ c. search needs) returns-2)

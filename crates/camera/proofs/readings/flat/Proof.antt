@@ -4,14 +4,8 @@ use lib.Ieee.{ofBits}
 use Rattle.camera.proofs.readings.flat.Statement.{statement}
 use Rattle.camera.proofs.readings.flat.Tie as tie
 
-enum-known-reading : tie.Need-enum-known-reading
-enum-known-reading c = search needs
-
 enum-told : tie.Need-enum-told
 enum-told c = search needs
-
-enum-known-reading-2 : tie.Need-enum-known-reading-2
-enum-known-reading-2 c = search needs
 
 returns : tie.Need-returns
 returns c = rw (c .before .reading .given .1)
@@ -25,4 +19,4 @@ unfolding ofBits
 returns-3 c = rw (c .before .reading2 .given .1)
 
 pub flat-spec : {M : Type 1} → statement M
-flat-spec = tie.close (tie.spec enum-known-reading enum-told enum-known-reading-2 returns returns-2 returns-3)
+flat-spec = tie.close (tie.spec (λ c. search needs) enum-told (λ c. search needs) returns returns-2 returns-3)

@@ -21,16 +21,10 @@ asks a flat = record { given = flat; run = next (a .answer) }
 
 -- ---- the needs
 
-ask-requires : tie.Need-ask-requires
-ask-requires c κs = search needs
-
-flat-requires : tie.Need-flat-requires
-flat-requires c κs = search needs
-
 returns : tie.Need-returns
 returns c =
     let asked = c .before .before .ask in
     rw (asked .ensures) at (asks (asked .result) (c .flat .ensures (run-of (asked .result .run))))
 
 pub ask-flat-spec : {M : Type 1} → statement M
-ask-flat-spec = tie.close (tie.spec ask-requires flat-requires returns)
+ask-flat-spec = tie.close (tie.spec (λ c κs. search needs) (λ c κs. search needs) returns)

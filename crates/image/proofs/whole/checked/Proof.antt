@@ -13,20 +13,8 @@ use Rattle.image.proofs.Answers.{refused-answers, answers-on}
 use Rattle.image.proofs.whole.checked.Statement.{statement}
 use Rattle.image.proofs.whole.checked.Tie as tie
 
-refused-requires : tie.Need-refused-requires
-refused-requires c κs = search needs
-
 returns : tie.Need-returns
 returns c = refused-answers (record { number = 1 }) (inl (c .before .if1 .taken, refl)) (λ e. omega arith) (c .refused .ensures)
-
-header-requires : tie.Need-header-requires
-header-requires c κs = search needs
-
-head-refusal-requires : tie.Need-head-refusal-requires
-head-refusal-requires c κs = search needs
-
-refused-requires-2 : tie.Need-refused-requires-2
-refused-requires-2 c κs = search needs
 
 not-short : (c : tie.Else1) → Short (now (c .before .before .args .image)) → ⊥
 not-short c h = omega arith
@@ -56,11 +44,11 @@ pub checked-spec : {M : Type 1} → statement M
 checked-spec =
     tie.close
     (tie.spec
-    refused-requires
+    (λ c κs. search needs)
     returns
-    header-requires
-    head-refusal-requires
-    refused-requires-2
+    (λ c κs. search needs)
+    (λ c κs. search needs)
+    (λ c κs. search needs)
     returns-2
     checked-records-requires
     returns-3)

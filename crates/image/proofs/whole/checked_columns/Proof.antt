@@ -13,12 +13,6 @@ use Rattle.image.proofs.Answers.{refused-answers, accepted-answers}
 use Rattle.image.proofs.whole.checked_columns.Statement.{statement}
 use Rattle.image.proofs.whole.checked_columns.Tie as tie
 
-record-refusal-requires : tie.Need-record-refusal-requires
-record-refusal-requires c κs = search needs
-
-refused-requires : tie.Need-refused-requires
-refused-requires c κs = search needs
-
 returns : tie.Need-returns
 returns c =
     let p = c .before .before .before in
@@ -36,9 +30,6 @@ judge-requires c κs =
     let start = c .before .before .before .before .before .before .before in
     let bytes : Bytes (now (start .args .image)) = λ k. c .before .before .before .before .before .before .shared-slice-known .given k .fits in
     (masked (start .pre .0) (start .pre .1) (none c), timed (start .pre .0) (start .pre .1) bytes)
-
-refused-requires-2 : tie.Need-refused-requires-2
-refused-requires-2 c κs = search needs
 
 -- 8, 9 or none, of the profile
 judged : (c : tie.After-judge)
@@ -68,10 +59,10 @@ pub checked-columns-spec : {M : Type 1} → statement M
 checked-columns-spec =
     tie.close
     (tie.spec
-    record-refusal-requires
-    refused-requires
+    (λ c κs. search needs)
+    (λ c κs. search needs)
     returns
     judge-requires
-    refused-requires-2
+    (λ c κs. search needs)
     returns-2
     returns-3)

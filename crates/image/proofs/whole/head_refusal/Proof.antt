@@ -20,9 +20,6 @@ not-count c h = denied (c .before .count-out .ensures) (c .if2 .left) (count-is 
 returns : tie.Need-returns
 returns c = inl ((λ e. c .if1 .taken (omega arith)), refl)
 
-count-out-requires : tie.Need-count-out-requires
-count-out-requires c κs = search needs
-
 returns-2 : tie.Need-returns-2
 returns-2 c =
     let x = c .before .before .before .before .before .pre in
@@ -46,4 +43,4 @@ returns-4 c =
     inr (not-version (two .before .before), inr (not-count two, inr ((λ h. h (omega arith)), refl)))
 
 pub head-refusal-spec : {M : Type 1} → statement M
-head-refusal-spec = tie.close (tie.spec returns count-out-requires returns-2 record-at-requires returns-3 returns-4)
+head-refusal-spec = tie.close (tie.spec returns (λ c κs. search needs) returns-2 record-at-requires returns-3 returns-4)

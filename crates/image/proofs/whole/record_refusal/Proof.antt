@@ -32,9 +32,6 @@ table c = table-says (c .before .before .before .before .before .before .before 
 returns : tie.Need-returns
 returns c = inl (inl (λ e. c .if1 .taken (c .before .before .before .before .before .pre .0 .header .spare ∙ e)), refl)
 
-spare-fault-requires : tie.Need-spare-fault-requires
-spare-fault-requires c κs = search needs
-
 returns-2 : tie.Need-returns-2
 returns-2 c = inl (spare (c .before) .0 (c .if2 .taken), refl)
 
@@ -48,9 +45,6 @@ not-spare c = no-fault (spare (c .before)) (c .if2 .left)
 
 returns-3 : tie.Need-returns-3
 returns-3 c = inr (not-spare (c .before .before), inl (range (c .before) .0 (c .if3 .taken), refl))
-
-table-fault-requires : tie.Need-table-fault-requires
-table-fault-requires c κs = search needs
 
 not-range : (c : tie.Else3) → Range (profile (now (c .before .before .before .before .before .before .before .before .before .args .image))) → ⊥
 not-range c = no-fault (range (c .before)) (c .if3 .left)
@@ -69,10 +63,10 @@ record-refusal-spec =
     tie.close
     (tie.spec
     returns
-    spare-fault-requires
+    (λ c κs. search needs)
     returns-2
     range-fault-requires
     returns-3
-    table-fault-requires
+    (λ c κs. search needs)
     returns-4
     returns-5)

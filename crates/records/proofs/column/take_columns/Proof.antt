@@ -32,35 +32,11 @@ present c = has-record _ (c .before .before .before .before .before .before .pre
 mask-at-requires : tie.Need-mask-at-requires Inv-loop μ-loop
 mask-at-requires c κs = present c
 
-mul-masks : tie.Need-mul-masks Inv-loop μ-loop
-mul-masks c = search needs
-
-slice-write-masks : tie.Need-slice-write-masks Inv-loop μ-loop
-slice-write-masks c = search needs
-
 deadline-at-requires : tie.Need-deadline-at-requires Inv-loop μ-loop
 deadline-at-requires c κs = present (c .before)
 
-mul-deadlines : tie.Need-mul-deadlines Inv-loop μ-loop
-mul-deadlines c = search needs
-
-slice-write-deadlines : tie.Need-slice-write-deadlines Inv-loop μ-loop
-slice-write-deadlines c = search needs
-
 worst-at-requires : tie.Need-worst-at-requires Inv-loop μ-loop
 worst-at-requires c κs = (present (c .before .before), omega arith)
-
-mul-worst : tie.Need-mul-worst Inv-loop μ-loop
-mul-worst c = search needs
-
-slice-write-worst : tie.Need-slice-write-worst Inv-loop μ-loop
-slice-write-worst c = search needs
-
-add-a : tie.Need-add-a Inv-loop μ-loop
-add-a c = search needs
-
-loop-less : tie.Need-loop-less Inv-loop μ-loop
-loop-less c = search needs
 
 loop-again : tie.Need-loop-again Inv-loop μ-loop
 loop-again c =
@@ -77,15 +53,6 @@ loop-again c =
       },
     )
 
-same-length : tie.Need-same-length Inv-loop μ-loop
-same-length c = search needs
-
-same-length-2 : tie.Need-same-length-2 Inv-loop μ-loop
-same-length-2 c = search needs
-
-same-length-3 : tie.Need-same-length-3 Inv-loop μ-loop
-same-length-3 c = search needs
-
 returns : tie.Need-returns Inv-loop μ-loop
 returns c =
     let was = c .before .loop .inv .4 in
@@ -100,18 +67,18 @@ take-columns-spec =
     μ-loop
     loop-holds
     mask-at-requires
-    mul-masks
-    slice-write-masks
+    (λ c. search needs)
+    (λ c. search needs)
     deadline-at-requires
-    mul-deadlines
-    slice-write-deadlines
+    (λ c. search needs)
+    (λ c. search needs)
     worst-at-requires
-    mul-worst
-    slice-write-worst
-    add-a
-    loop-less
+    (λ c. search needs)
+    (λ c. search needs)
+    (λ c. search needs)
+    (λ c. search needs)
     loop-again
-    same-length
-    same-length-2
-    same-length-3
+    (λ c. search needs)
+    (λ c. search needs)
+    (λ c. search needs)
     returns)

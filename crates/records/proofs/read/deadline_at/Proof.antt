@@ -3,12 +3,6 @@ use Rattle.rules.specs.Image.{record-bytes, deadline-of}
 use Rattle.records.proofs.read.deadline_at.Statement.{statement}
 use Rattle.records.proofs.read.deadline_at.Tie as tie
 
-record-at-requires : tie.Need-record-at-requires
-record-at-requires c κs = search needs
-
-add-be32 : tie.Need-add-be32
-add-be32 c = search needs
-
 be32-requires : tie.Need-be32-requires
 unfolding record-bytes
 be32-requires c κs = search needs
@@ -18,4 +12,4 @@ unfolding deadline-of
 returns c = rw (c .be32 .ensures .0, c .before .record-at .ensures, c .before .before .before .pre .said)
 
 pub deadline-at-spec : {M : Type 1} → statement M
-deadline-at-spec = tie.close (tie.spec record-at-requires add-be32 be32-requires returns)
+deadline-at-spec = tie.close (tie.spec (λ c κs. search needs) (λ c. search needs) be32-requires returns)

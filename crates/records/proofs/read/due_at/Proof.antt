@@ -4,9 +4,6 @@ use Rattle.rules.specs.Image.{due, profile}
 use Rattle.records.proofs.read.due_at.Statement.{statement}
 use Rattle.records.proofs.read.due_at.Tie as tie
 
-deadline-at-requires : tie.Need-deadline-at-requires
-deadline-at-requires c κs = search needs
-
 returns : tie.Need-returns
 unfolding due profile
 returns c = rw (← c .before .deadline-at .ensures, eq-eqb _ _ (c .if1 .taken)) (c .before .before .before .pre .1)
@@ -16,4 +13,4 @@ unfolding due profile
 returns-2 c = rw (← c .before .deadline-at .ensures, ne-eqb _ _ (c .if1 .left))
 
 pub due-at-spec : {M : Type 1} → statement M
-due-at-spec = tie.close (tie.spec deadline-at-requires returns returns-2)
+due-at-spec = tie.close (tie.spec (λ c κs. search needs) returns returns-2)

@@ -3,9 +3,6 @@ use Rattle.rules.specs.Image.{record-bytes, mask-of}
 use Rattle.records.proofs.read.mask_at.Statement.{statement}
 use Rattle.records.proofs.read.mask_at.Tie as tie
 
-record-at-requires : tie.Need-record-at-requires
-record-at-requires c κs = search needs
-
 be64-requires : tie.Need-be64-requires
 unfolding record-bytes
 be64-requires c κs = search needs
@@ -15,4 +12,4 @@ unfolding mask-of
 returns c = rw (c .be64 .ensures .0, c .before .record-at .ensures, c .before .before .before .pre .said)
 
 pub mask-at-spec : {M : Type 1} → statement M
-mask-at-spec = tie.close (tie.spec record-at-requires be64-requires returns)
+mask-at-spec = tie.close (tie.spec (λ c κs. search needs) be64-requires returns)

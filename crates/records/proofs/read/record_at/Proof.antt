@@ -6,12 +6,6 @@ use Rattle.rules.specs.Image.{record-bytes, record-at}
 use Rattle.records.proofs.read.record_at.Statement.{statement}
 use Rattle.records.proofs.read.record_at.Tie as tie
 
-mul-result : tie.Need-mul-result
-mul-result c = search needs
-
-add-result : tie.Need-add-result
-add-result c = search needs
-
 small : (c : tie.Start) → c .args .a * (12 + 6 * c .args .levels) ≤ 64 * 60
 small c = mul-le-mul {n₂ = 64} {m₂ = 60} (omega arith) (omega arith)
 
@@ -26,4 +20,4 @@ unfolding record-at record-bytes
 returns c = search needs
 
 pub record-at-spec : {M : Type 1} → statement M
-record-at-spec = tie.close (tie.spec mul-result add-result mul-result-2 add-result-2 returns)
+record-at-spec = tie.close (tie.spec (λ c. search needs) (λ c. search needs) mul-result-2 add-result-2 returns)

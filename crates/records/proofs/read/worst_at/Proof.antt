@@ -3,18 +3,6 @@ use Rattle.rules.specs.Image.{record-bytes, worst-of}
 use Rattle.records.proofs.read.worst_at.Statement.{statement}
 use Rattle.records.proofs.read.worst_at.Tie as tie
 
-record-at-requires : tie.Need-record-at-requires
-record-at-requires c κs = search needs
-
-add-be24 : tie.Need-add-be24
-add-be24 c = search needs
-
-mul-be24 : tie.Need-mul-be24
-mul-be24 c = search needs
-
-add-be24-2 : tie.Need-add-be24-2
-add-be24-2 c = search needs
-
 be24-requires : tie.Need-be24-requires
 unfolding record-bytes
 be24-requires c κs = search needs
@@ -24,4 +12,4 @@ unfolding worst-of
 returns c = rw (c .be24 .ensures .0, c .before .record-at .ensures, c .before .before .before .pre .0 .said)
 
 pub worst-at-spec : {M : Type 1} → statement M
-worst-at-spec = tie.close (tie.spec record-at-requires add-be24 mul-be24 add-be24-2 be24-requires returns)
+worst-at-spec = tie.close (tie.spec (λ c κs. search needs) (λ c. search needs) (λ c. search needs) (λ c. search needs) be24-requires returns)

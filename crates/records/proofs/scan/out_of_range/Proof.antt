@@ -11,9 +11,6 @@ use Rattle.records.proofs.scan.out_of_range.Tie as tie
 returns : tie.Need-returns
 returns c = said-yes (inl (omega arith))
 
-below-requires : tie.Need-below-requires
-below-requires c κs = search needs
-
 returns-2 : tie.Need-returns-2
 returns-2 c =
     let x = c .before .before in
@@ -21,4 +18,4 @@ returns-2 c =
     mask-says _ (x .args .cycle) _ (x .args .deadline) (x .fits .mask .fits) (omega arith) _ says
 
 pub out-of-range-spec : {M : Type 1} → statement M
-out-of-range-spec = tie.close (tie.spec returns below-requires returns-2)
+out-of-range-spec = tie.close (tie.spec returns (λ c κs. search needs) returns-2)

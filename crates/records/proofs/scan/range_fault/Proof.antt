@@ -17,31 +17,10 @@ abbrev μ-loop : tie.MeasureT-loop
 loop-holds : tie.Need-loop-holds Inv-loop μ-loop
 loop-holds c = (search needs, below-none _)
 
-mul-out-of-range : tie.Need-mul-out-of-range Inv-loop μ-loop
-mul-out-of-range c = search needs
-
-shared-slice-read-out-of-range : tie.Need-shared-slice-read-out-of-range Inv-loop μ-loop
-shared-slice-read-out-of-range c = search needs
-
-mul-out-of-range-2 : tie.Need-mul-out-of-range-2 Inv-loop μ-loop
-mul-out-of-range-2 c = search needs
-
-shared-slice-read-out-of-range-2 : tie.Need-shared-slice-read-out-of-range-2 Inv-loop μ-loop
-shared-slice-read-out-of-range-2 c = search needs
-
-out-of-range-requires : tie.Need-out-of-range-requires Inv-loop μ-loop
-out-of-range-requires c κs = search needs
-
 returns : tie.Need-returns Inv-loop μ-loop
 returns c =
     let p = c .before .before .before .before .before in
     lowest-here (omega arith) (p .loop .inv .1) (c .before .out-of-range .ensures .0 (c .if1 .taken))
-
-add-a : tie.Need-add-a Inv-loop μ-loop
-add-a c = search needs
-
-loop-less : tie.Need-loop-less Inv-loop μ-loop
-loop-less c = search needs
 
 loop-again : tie.Need-loop-again Inv-loop μ-loop
 loop-again c = (
@@ -59,13 +38,13 @@ range-fault-spec =
     Inv-loop
     μ-loop
     loop-holds
-    mul-out-of-range
-    shared-slice-read-out-of-range
-    mul-out-of-range-2
-    shared-slice-read-out-of-range-2
-    out-of-range-requires
+    (λ c. search needs)
+    (λ c. search needs)
+    (λ c. search needs)
+    (λ c. search needs)
+    (λ c κs. search needs)
     returns
-    add-a
-    loop-less
+    (λ c. search needs)
+    (λ c. search needs)
     loop-again
     returns-2)

@@ -24,15 +24,6 @@ abbrev μ-loop : tie.MeasureT-loop
 loop-holds : tie.Need-loop-holds Inv-loop μ-loop
 loop-holds c = (search needs, refl, refl, below-none _)
 
-average-at-requires : tie.Need-average-at-requires Inv-loop μ-loop
-average-at-requires c κs = search needs
-
-worst-at-requires : tie.Need-worst-at-requires Inv-loop μ-loop
-worst-at-requires c κs = search needs
-
-level-breaks-requires : tie.Need-level-breaks-requires Inv-loop μ-loop
-level-breaks-requires c κs = search needs
-
 -- the test of a level, by what the image says
 says : (c : tie.After-level-breaks Inv-loop μ-loop)
     → let x = c .before .before .before .before .before .before .args in
@@ -44,12 +35,6 @@ says c =
 
 returns : tie.Need-returns Inv-loop μ-loop
 returns c = said-yes (level-row _ _ _ _ (omega arith) (says (c .before) .0 (c .if1 .taken)))
-
-add-q : tie.Need-add-q Inv-loop μ-loop
-add-q c = search needs
-
-loop-less : tie.Need-loop-less Inv-loop μ-loop
-loop-less c = search needs
 
 loop-again : tie.Need-loop-again Inv-loop μ-loop
 loop-again c =
@@ -72,11 +57,11 @@ row-breaks-spec =
     Inv-loop
     μ-loop
     loop-holds
-    average-at-requires
-    worst-at-requires
-    level-breaks-requires
+    (λ c κs. search needs)
+    (λ c κs. search needs)
+    (λ c κs. search needs)
     returns
-    add-q
-    loop-less
+    (λ c. search needs)
+    (λ c. search needs)
     loop-again
     returns-2)

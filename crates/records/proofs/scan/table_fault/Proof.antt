@@ -25,12 +25,6 @@ returns : tie.Need-returns Inv-loop μ-loop
 returns c =
     lowest-here (omega arith) (c .before .before .before .loop .inv .1) (c .before .row-breaks .ensures .0 (c .if1 .taken))
 
-add-a : tie.Need-add-a Inv-loop μ-loop
-add-a c = search needs
-
-loop-less : tie.Need-loop-less Inv-loop μ-loop
-loop-less c = search needs
-
 loop-again : tie.Need-loop-again Inv-loop μ-loop
 loop-again c = (
   search needs,
@@ -49,7 +43,7 @@ table-fault-spec =
     loop-holds
     row-breaks-requires
     returns
-    add-a
-    loop-less
+    (λ c. search needs)
+    (λ c. search needs)
     loop-again
     returns-2)

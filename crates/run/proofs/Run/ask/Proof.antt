@@ -19,19 +19,10 @@ ready : (c : tie.Else1) → let a = c .before .before .before .args in
     Askable (a .order .now) (a .limits .now) (a .bounds .now) (run-of (a .self))
 ready c = askable _ _ _ _ (none c)
 
-ask-refusal-requires : tie.Need-ask-refusal-requires
-ask-refusal-requires c κs = search needs
-
-kept-requires : tie.Need-kept-requires
-kept-requires c κs = search needs
-
 returns : tie.Need-returns
 returns c =
     let d = c .before .before in
     ap (refused (d .ask-refusal .result)) (c .kept .ensures) ∙ ask-refuses _ _ _ _ _ (d .ask-refusal .ensures) (c .before .if1 .taken)
-
-cast-position : tie.Need-cast-position
-cast-position c = search needs
 
 shared-slice-read-action : tie.Need-shared-slice-read-action
 shared-slice-read-action c = omega (arith, ready (c .before .before), ready (c .before .before) .is-open .more)
@@ -47,9 +38,6 @@ returns-2 c =
     let d = c .before .decided .ensures in
     ask-decides _ _ _ _ (none (c .before .before .before .before .before .before)) _ _ (c .before .before .if2 .taken) (d .0) (d .1)
 
-coasted-requires : tie.Need-coasted-requires
-coasted-requires c κs = search needs
-
 returns-3 : tie.Need-returns-3
 returns-3 c = ask-coasts _ _ _ _ (none (c .before .before .before .before .before)) _ (c .before .if2 .left) (c .coasted .ensures)
 
@@ -57,13 +45,13 @@ pub ask-spec : {M : Type 1} → statement M
 ask-spec =
     tie.close
     (tie.spec
-    ask-refusal-requires
-    kept-requires
+    (λ c κs. search needs)
+    (λ c κs. search needs)
     returns
-    cast-position
+    (λ c. search needs)
     shared-slice-read-action
     cast-action
     decided-requires
     returns-2
-    coasted-requires
+    (λ c κs. search needs)
     returns-3)

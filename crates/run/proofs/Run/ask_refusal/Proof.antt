@@ -15,18 +15,9 @@ use Rattle.run.proofs.Run.ask_refusal.Tie as tie
 ranged : (c : tie.Else1) → in-range (run-of (c .before .before .before .args .self)) ≡ true
 ranged c = sym (c .before .in-range .ensures) ∙ not-false _ (c .if1 .left)
 
-in-range-requires : tie.Need-in-range-requires
-in-range-requires c κs = search needs
-
 returns : tie.Need-returns
 unfolding ask-refusal first
 returns c = rw (← c .before .in-range .ensures, c .if1 .taken)
-
-cast-n : tie.Need-cast-n
-cast-n c = search needs
-
-cast-cells : tie.Need-cast-cells
-cast-cells c = search needs
 
 mul-cells : tie.Need-mul-cells
 mul-cells c = omega (arith, few-cells _ (ranged (c .before .before)))
@@ -57,4 +48,4 @@ returns-5 c =
 pub ask-refusal-spec : {M : Type 1} → statement M
 ask-refusal-spec =
     tie.close
-    (tie.spec in-range-requires returns cast-n cast-cells mul-cells mul-if2 returns-2 returns-3 returns-4 returns-5)
+    (tie.spec (λ c κs. search needs) returns (λ c. search needs) (λ c. search needs) mul-cells mul-if2 returns-2 returns-3 returns-4 returns-5)

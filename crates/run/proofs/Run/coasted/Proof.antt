@@ -4,11 +4,8 @@ use borrow.Author.Needs.{needs}
 use Rattle.run.proofs.Run.coasted.Statement.{statement}
 use Rattle.run.proofs.Run.coasted.Tie as tie
 
-sub-left : tie.Need-sub-left
-sub-left c = search needs
-
 returns : tie.Need-returns
 returns c = refl
 
 pub coasted-spec : {M : Type 1} → statement M
-coasted-spec = tie.close (tie.spec sub-left returns)
+coasted-spec = tie.close (tie.spec (λ c. search needs) returns)

@@ -6,15 +6,6 @@ use Rattle.run.proofs.Turns.{opened, level-low, none-above, decided-is}
 use Rattle.run.proofs.Run.decided.Statement.{statement}
 use Rattle.run.proofs.Run.decided.Tie as tie
 
-cast-n : tie.Need-cast-n
-cast-n c = search needs
-
-cast-levels : tie.Need-cast-levels
-cast-levels c = search needs
-
-cast-position : tie.Need-cast-position
-cast-position c = search needs
-
 mul-from : tie.Need-mul-from
 mul-from c = omega (arith, opened (c .before .before .before .pre))
 
@@ -60,9 +51,9 @@ pub decided-spec : {M : Type 1} → statement M
 decided-spec =
     tie.close
     (tie.spec
-    cast-n
-    cast-levels
-    cast-position
+    (λ c. search needs)
+    (λ c. search needs)
+    (λ c. search needs)
     mul-from
     last-within-requires
     add-within

@@ -16,12 +16,6 @@ none c = sym (c .if1 .left) ∙ c .before .report-refusal .ensures
 ready : (c : tie.Else1) → let a = c .before .before .before .args in Reportable (a .worst .now) (a .clock) (run-of (a .self))
 ready c = reportable _ _ _ (none c)
 
-report-refusal-requires : tie.Need-report-refusal-requires
-report-refusal-requires c κs = search needs
-
-kept-requires : tie.Need-kept-requires
-kept-requires c κs = search needs
-
 returns : tie.Need-returns
 returns c =
     let d = c .before .before in
@@ -53,8 +47,8 @@ pub report-spec : {M : Type 1} → statement M
 report-spec =
     tie.close
     (tie.spec
-    report-refusal-requires
-    kept-requires
+    (λ c κs. search needs)
+    (λ c κs. search needs)
     returns
     mul-at
     add-at

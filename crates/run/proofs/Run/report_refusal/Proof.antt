@@ -15,18 +15,9 @@ use Rattle.run.proofs.Run.report_refusal.Tie as tie
 ranged : (c : tie.Else1) → in-range (run-of (c .before .before .before .args .self)) ≡ true
 ranged c = sym (c .before .in-range .ensures) ∙ not-false _ (c .if1 .left)
 
-in-range-requires : tie.Need-in-range-requires
-in-range-requires c κs = search needs
-
 returns : tie.Need-returns
 unfolding report-refusal first
 returns c = rw (← c .before .in-range .ensures, c .if1 .taken)
-
-cast-if2 : tie.Need-cast-if2
-cast-if2 c = search needs
-
-cast-if2-2 : tie.Need-cast-if2-2
-cast-if2-2 c = search needs
 
 mul-if2 : tie.Need-mul-if2
 mul-if2 c = omega (arith, few-cells _ (ranged (c .before .before)))
@@ -65,4 +56,4 @@ returns-6 c =
 pub report-refusal-spec : {M : Type 1} → statement M
 report-refusal-spec =
     tie.close
-    (tie.spec in-range-requires returns cast-if2 cast-if2-2 mul-if2 returns-2 returns-3 returns-4 returns-5 returns-6)
+    (tie.spec (λ c κs. search needs) returns (λ c. search needs) (λ c. search needs) mul-if2 returns-2 returns-3 returns-4 returns-5 returns-6)

@@ -8,20 +8,11 @@ use Rattle.run.proofs.Ranges.{unfit-three}
 use Rattle.run.proofs.Run.start.Statement.{statement}
 use Rattle.run.proofs.Run.start.Tie as tie
 
-counts-fit-requires : tie.Need-counts-fit-requires
-counts-fit-requires c κs = search needs
-
-begun-requires : tie.Need-begun-requires
-begun-requires c κs = search needs
-
 returns : tie.Need-returns
 unfolding start
 returns c =
     let h = sym (c .before .before .counts-fit .ensures) ∙ not-true _ (c .before .if1 .taken) in
     past _ _ _ h (rw (sym (unfit-three _ _ h), c .begun .ensures))
-
-begun-requires-2 : tie.Need-begun-requires-2
-begun-requires-2 c κs = search needs
 
 returns-2 : tie.Need-returns-2
 unfolding start
@@ -30,4 +21,4 @@ returns-2 c =
     into _ _ _ h (rw (c .begun2 .ensures))
 
 pub start-spec : {M : Type 1} → statement M
-start-spec = tie.close (tie.spec counts-fit-requires begun-requires returns begun-requires-2 returns-2)
+start-spec = tie.close (tie.spec (λ c κs. search needs) (λ c κs. search needs) returns (λ c κs. search needs) returns-2)

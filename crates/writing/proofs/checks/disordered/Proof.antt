@@ -22,32 +22,8 @@ Inv-loop averages worst levels a row average-before₀ worst-before₀ q₀ aver
 abbrev μ-loop : tie.MeasureT-loop
 μ-loop averages worst levels a row average-before₀ worst-before₀ q₀ average-before worst-before q = levels - q
 
-mul-row : tie.Need-mul-row Inv-loop μ-loop
-mul-row c = search needs
-
 loop-holds : tie.Need-loop-holds Inv-loop μ-loop
 loop-holds c = (search needs, refl, refl, below-none _)
-
-add-average : tie.Need-add-average Inv-loop μ-loop
-add-average c = search needs
-
-mul-average : tie.Need-mul-average Inv-loop μ-loop
-mul-average c = search needs
-
-shared-slice-read-average : tie.Need-shared-slice-read-average Inv-loop μ-loop
-shared-slice-read-average c = search needs
-
-add-longest : tie.Need-add-longest Inv-loop μ-loop
-add-longest c = search needs
-
-mul-longest : tie.Need-mul-longest Inv-loop μ-loop
-mul-longest c = search needs
-
-shared-slice-read-longest : tie.Need-shared-slice-read-longest Inv-loop μ-loop
-shared-slice-read-longest c = search needs
-
-level-breaks-requires : tie.Need-level-breaks-requires Inv-loop μ-loop
-level-breaks-requires c κs = search needs
 
 -- the test of a level, by what the tables say
 says : (c : tie.After-level-breaks Inv-loop μ-loop)
@@ -59,12 +35,6 @@ says c = let t = c .before .before .before .before .loop in level-says _ _ (t .q
 
 returns : tie.Need-returns Inv-loop μ-loop
 returns c = said-yes (level-row _ _ _ _ (omega arith) (says (c .before) .0 (c .if1 .taken)))
-
-add-q : tie.Need-add-q Inv-loop μ-loop
-add-q c = search needs
-
-loop-less : tie.Need-loop-less Inv-loop μ-loop
-loop-less c = search needs
 
 loop-again : tie.Need-loop-again Inv-loop μ-loop
 loop-again c =
@@ -85,17 +55,17 @@ disordered-spec =
     (tie.spec
     Inv-loop
     μ-loop
-    mul-row
+    (λ c. search needs)
     loop-holds
-    add-average
-    mul-average
-    shared-slice-read-average
-    add-longest
-    mul-longest
-    shared-slice-read-longest
-    level-breaks-requires
+    (λ c. search needs)
+    (λ c. search needs)
+    (λ c. search needs)
+    (λ c. search needs)
+    (λ c. search needs)
+    (λ c. search needs)
+    (λ c κs. search needs)
     returns
-    add-q
-    loop-less
+    (λ c. search needs)
+    (λ c. search needs)
     loop-again
     returns-2)

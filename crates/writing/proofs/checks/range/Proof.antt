@@ -23,26 +23,11 @@ abbrev μ-loop : tie.MeasureT-loop
 loop-holds : tie.Need-loop-holds Inv-loop μ-loop
 loop-holds c = (search needs, below-none _)
 
-mul-if1 : tie.Need-mul-if1 Inv-loop μ-loop
-mul-if1 c = search needs
-
-shared-slice-read-if1 : tie.Need-shared-slice-read-if1 Inv-loop μ-loop
-shared-slice-read-if1 c = search needs
-
 returns : tie.Need-returns Inv-loop μ-loop
 unfolding of-tables
 returns c =
     let p = c .before .before in
     lowest-here (p .loop-test .taken) (p .before .loop .inv .1) (inl (c .if1 .taken))
-
-mul-below : tie.Need-mul-below Inv-loop μ-loop
-mul-below c = search needs
-
-shared-slice-read-below : tie.Need-shared-slice-read-below Inv-loop μ-loop
-shared-slice-read-below c = search needs
-
-below-requires : tie.Need-below-requires Inv-loop μ-loop
-below-requires c κs = search needs
 
 returns-2 : tie.Need-returns-2 Inv-loop μ-loop
 unfolding of-tables
@@ -65,12 +50,6 @@ unfolding of-tables
 returns-3 c =
     let p = c .before .before .before .before .before .before .before in
     lowest-here (p .loop-test .taken) (p .before .loop .inv .1) (inr (inr (c .before .long-time .ensures .0 (c .if3 .taken))))
-
-add-a : tie.Need-add-a Inv-loop μ-loop
-add-a c = search needs
-
-loop-less : tie.Need-loop-less Inv-loop μ-loop
-loop-less c = search needs
 
 loop-again : tie.Need-loop-again Inv-loop μ-loop
 unfolding of-tables
@@ -98,16 +77,16 @@ range-spec =
     Inv-loop
     μ-loop
     loop-holds
-    mul-if1
-    shared-slice-read-if1
+    (λ c. search needs)
+    (λ c. search needs)
     returns
-    mul-below
-    shared-slice-read-below
-    below-requires
+    (λ c. search needs)
+    (λ c. search needs)
+    (λ c κs. search needs)
     returns-2
     long-time-requires
     returns-3
-    add-a
-    loop-less
+    (λ c. search needs)
+    (λ c. search needs)
     loop-again
     returns-4)

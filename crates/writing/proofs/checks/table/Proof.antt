@@ -30,12 +30,6 @@ returns c =
     let p = c .before .before in
     lowest-here (p .loop-test .taken) (p .before .loop .inv .1) (c .before .disordered .ensures .0 (c .if1 .taken))
 
-add-a : tie.Need-add-a Inv-loop μ-loop
-add-a c = search needs
-
-loop-less : tie.Need-loop-less Inv-loop μ-loop
-loop-less c = search needs
-
 loop-again : tie.Need-loop-again Inv-loop μ-loop
 loop-again c = (
   search needs,
@@ -54,7 +48,7 @@ table-spec =
     loop-holds
     disordered-requires
     returns
-    add-a
-    loop-less
+    (λ c. search needs)
+    (λ c. search needs)
     loop-again
     returns-2)
