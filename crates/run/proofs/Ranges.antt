@@ -1,17 +1,14 @@
 -- Counts and fields in their ranges, as the calls judge them. Assumes nothing.
-use Prim.Native.Nat.{ℕ, _+_, _*_, _≤_}
+use Prim.Native.Nat.{ℕ, _*_, _≤_}
 use mathlib.Core.Path.{_≡_, refl, sym, _∙_}
-use mathlib.Core.Bool.{Bool, true, false, not, cond, _&&_, _||_, true≢false, and-assoc, and-true as and-one}
+use mathlib.Core.Bool.{Bool, true, false, not, cond, _&&_, _||_, true≢false}
 use native.Mathlib.Nat.{mul-le-mul}
-use native.Mathlib.Omega.{arith}
-use lib.Dec.{leb, ltb, eqb, leb·suc-suc}
-use mir.Val.{boolByte}
+use lib.Dec.{leb, ltb, eqb}
 use borrow.Author.Tests.{ltb-true, ltb-false, leb-true, le-leb, lt-leb}
-use Rattle.rules.specs.Words.{every, one-if}
 use Rattle.rules.specs.Refusals.{first}
 use Rattle.rules.specs.Run.{Run, in-range, start-refusal}
-use Rattle.rules.proofs.Tests.{and-true}
-use Rattle.rules.proofs.Calls.{in-range-facts}
+use Rattle.rules.proofs.Tests.{failed, not-both, and-true}
+use Rattle.rules.proofs.Calls.{InRange, in-range-facts}
 
 -- ---- n and L
 
@@ -68,32 +65,14 @@ fit-counts n L e =
     let c = and-true (leb 1 L) (leb L 8) .0 (b .1) in
     record { some-action = leb-true _ _ (a .0); few = leb-true _ _ (b .0); some-level = leb-true _ _ (c .0); few-levels = leb-true _ _ (c .1) }
 
+pub unfit-counts : (n L : ℕ) → false ≡ eqb (start-refusal n L) 0 → Counts n L → ⊥
+unfit-counts n L e c =
+    not-both (counts-are n L ∙ rw (le-leb 1 n (c .some-action), le-leb n 64 (c .few), le-leb 1 L (c .some-level), le-leb L 8 (c .few-levels))) (sym e)
+
 -- ---- the record
 
--- a mark as a number
-byte-is : (b : Bool) → boolByte b ≡ one-if b
-byte-is true = refl
-byte-is false = refl
-
-pub byte-small : (b : Bool) → boolByte b ≤ 1
-byte-small true = omega arith
-byte-small false = omega arith
-
--- the ranges, as they are tested
-pub ranges-are : (r : Run) (fit : Bool) → fit ≡ eqb (start-refusal (r .n) (r .levels)) 0
-    → let asked = r .position + boolByte (r .running) in
-    fit && leb (r .position) (r .n) && leb (r .clock) 1073741823 && leb asked (r .n) && ltb (r .level) (r .levels) && ltb (r .left) 16
-    && leb (r .left + asked) (r .n) && leb (r .decisions) asked ≡ in-range r
-unfolding in-range every
-ranges-are r fit fit-is =
-    let asked = r .position + one-if (r .running) in
-    rw (fit-is, counts-are, byte-is (r .running), leb·suc-suc (r .left) 15)
-    (all (leb 1 (r .n)) (leb (r .n) 64) (leb 1 (r .levels)) (leb (r .levels) 8) (leb (r .position) (r .n)) (leb (r .clock) 1073741823)
-    (leb asked (r .n)) (ltb (r .level) (r .levels)) (leb (r .left) 15) (leb (r .left + asked) (r .n)) (leb (r .decisions) asked))
-  where
-    all : (a b c d e f g h i j k : Bool) → (a && (b && (c && d))) && e && f && g && h && i && j && k
-        ≡ a && (b && (c && (d && (e && (f && (g && (h && (i && (j && (k && true))))))))))
-    all a b c d e f g h i j k = simp (and-assoc, and-one)
+pub out-of-range : (r : Run) → (InRange r → ⊥) → false ≡ in-range r
+out-of-range r out = sym (failed (in-range r) (λ h. out (in-range-facts r h)))
 
 -- the products of a record in range fit
 pub few-cells : (r : Run) → in-range r ≡ true → r .n * r .levels ≤ 512

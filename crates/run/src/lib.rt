@@ -3,6 +3,7 @@ ghost use mathlib.Core.Path.{_≡_};
 ghost use mathlib.Core.Bool.{not, cond};
 ghost use Prim.Native.Nat.{_+_, _*_, _<_, _≤_};
 ghost use lib.Dec.{eqb};
+ghost use Rattle.rules.specs.Words.{one-if};
 ghost use Rattle.rules.specs.Run.{in-range, begun, coast, decide, ended, fits, lent, start-refusal, start, ask-refusal, ask, report-refusal, report};
 ghost use Rattle.run.specs.Calls.{run-of, answer-of, next-of, start-of, Open};
 
@@ -57,6 +58,12 @@ pub struct Decided {
     pub late: bool,
 }
 
+fn one_if(b: bool) -> u32
+    ensures { λ r. ⌜ (r ≡ one-if b) × (r ≤ 1) ⌝ }
+{
+    if b { 1 } else { 0 }
+}
+
 fn unless(b: bool, x: u32) -> u32
     ensures { λ r. ⌜ r ≡ cond b 0 x ⌝ }
 {
@@ -105,21 +112,38 @@ impl Run {
         }
     }
 
-    // Whether each field is in its range. The sums are of 32-bit numbers in more bits, so that none wraps.
+    // Whether each field is in its range. Too high a position and too long a coast are told first, so that their sum does not wrap. A test
+    // at a time: joined in one they would load the record whole, right after its fields were stored one by one.
     fn in_range(self) -> bool
         ensures { λ r. ⌜ r ≡ in-range (run-of self) ⌝ }
     {
-        let n = self.n as usize;
-        let left = self.left as usize;
-        let asked = self.position as usize + self.running as usize;
-        counts_fit(n, self.levels as usize)
-            & (self.position <= self.n)
-            & (self.clock <= rules::LAST_CLOCK)
-            & (asked <= n)
-            & (self.level < self.levels)
-            & (left < rules::LONGEST_COAST)
-            & (left + asked <= n)
-            & (self.decisions as usize <= asked)
+        let n = self.n;
+        let levels = self.levels;
+        let position = self.position;
+        let left = self.left;
+        if !counts_fit(n as usize, levels as usize) {
+            return false;
+        }
+        if n < position {
+            return false;
+        }
+        if rules::LONGEST_COAST <= left as usize {
+            return false;
+        }
+        let asked = position + one_if(self.running);
+        if n < left + asked {
+            return false;
+        }
+        if levels <= self.level {
+            return false;
+        }
+        if rules::LAST_CLOCK < self.clock {
+            return false;
+        }
+        if asked < self.decisions {
+            return false;
+        }
+        true
     }
 
     // A decision here and now takes the level given, leaves r - 1 to coast, counts, and sets the late mark where no level fits.
