@@ -14,9 +14,9 @@ use Rattle.rules.proofs.Differences.{not-above}
 use Rattle.rules.proofs.Tests.{pass, and-true}
 use Rattle.fields.proofs.Bytes.{Bytes}
 use Rattle.fields.proofs.Holds.{whole}
-use Rattle.writing.specs.Writing.{writing}
-use Rattle.trips.proofs.RoundTrip.{ReadFrom}
-use Rattle.trips.proofs.Accepts.{Writable, write-sound, tables-accepted}
+use Rattle.image_write.specs.Writing.{writing}
+use Rattle.image_laws.proofs.RoundTrip.{ReadFrom}
+use Rattle.image_laws.proofs.Accepts.{Writable, write-sound, tables-accepted}
 use Rattle.encoder.specs.Times.{masks, deadlines, averages, worsts, encoder}
 use Rattle.encoder.proofs.Accepted.{accepted}
 

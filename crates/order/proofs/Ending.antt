@@ -7,6 +7,7 @@ use native.Mathlib.Nat.{lt-of-lt-of-le, mul-lt-mul-of-pos-right}
 use native.Mathlib.Numerals.{add-one}
 use native.Mathlib.Omega.{arith}
 use lib.ListN.{length, getD}
+use Rattle.rules.specs.Numbers.{longest-time}
 use Rattle.rules.specs.Words.{sum}
 use Rattle.rules.specs.Image.{Profile, due}
 use Rattle.rules.specs.Order.{Order, ends, Meets}
@@ -25,7 +26,7 @@ module _ (D time : ℕ → ℕ) (l : List ℕ) where
   -- The first k actions of the list end at e, and each meets its deadline.
   pub record Ending (k e : ℕ) : Type 0 where
     pub is : e ≡ sum k (λ j. time (getD l j 0))
-    pub early : e ≤ k * 16777215
+    pub early : e ≤ k * longest-time
     pub met : (j : ℕ) → j < k → sum (suc j) (λ i. time (getD l i 0)) ≤ D (getD l j 0)
 
   -- where the list has an order's actions, they end as the order says
@@ -42,7 +43,7 @@ module _ (D time : ℕ → ℕ) (l : List ℕ) where
     unfolding sum
     ends-at = omega (arith, g .is)
 
-    pub ending-more : time (getD l k 0) ≤ 16777215 → e + time (getD l k 0) ≤ D (getD l k 0) → Ending (k + 1) (e + time (getD l k 0))
+    pub ending-more : time (getD l k 0) ≤ longest-time → e + time (getD l k 0) ≤ D (getD l k 0) → Ending (k + 1) (e + time (getD l k 0))
     ending-more short m = rw (add-one k) (record {
       is = sym ends-at;
       early = omega (arith, g .early);

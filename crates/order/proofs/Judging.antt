@@ -6,13 +6,14 @@ use mathlib.Core.List.{List, [], _∷_}
 use Prim.Native.Nat.{ℕ, _≤_, _<_}
 use native.Mathlib.Omega.{arith}
 use lib.ListN.{getD}
+use Rattle.rules.specs.Numbers.{refused-loop, refused-unfit}
 use Rattle.rules.specs.Image.{Profile, due}
 use Rattle.rules.specs.Order.{Order, TheOrder, Fit}
 use Rattle.rules.specs.Refusals.{_when_, First, Looped, Unfit}
 use Rattle.rules.proofs.Tests.{not-both}
 use Rattle.rules.proofs.Order.Alike.{Alike, alike-back, looped-alike, fit-alike, order-alike}
 use Rattle.order.specs.Lent.{lent}
-use Rattle.urgency.specs.Spread.{Urgent}
+use Rattle.order_urgency.specs.Spread.{Urgent}
 use Rattle.order.specs.Arranged.{Lists, Placed}
 use Rattle.order.specs.Judged.{Ordered, TellsFit, Verdict}
 
@@ -61,7 +62,7 @@ module _ {F : Profile} {k : ℕ} {l : List ℕ} (x : Ordered F k l) where
 pub verdict-alike : {F G : Profile} {k : ℕ} {l : List ℕ} → Alike F G → Verdict G k l → Verdict F k l
 verdict-alike {F} {G} {k} {l} x v = record { number = go (v .number); order = λ e. same (v .order e) }
   where
-    go : First (8 when Looped G ∷ 9 when Unfit G ∷ []) k → First (8 when Looped F ∷ 9 when Unfit F ∷ []) k
+    go : First (refused-loop when Looped G ∷ refused-unfit when Unfit G ∷ []) k → First (refused-loop when Looped F ∷ refused-unfit when Unfit F ∷ []) k
     go (inl h) = inl (looped-alike x .1 (h .0), h .1)
     go (inr (h, inl u)) = inr ((λ f. h (looped-alike x .0 f)), inl ((λ f. u .0 (fit-alike x 0 .0 f)), u .1))
     go (inr (h, inr u)) = inr ((λ f. h (looped-alike x .0 f)), inr ((λ f. u .0 (λ g. f (fit-alike x 0 .1 g))), u .1))

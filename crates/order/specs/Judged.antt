@@ -4,6 +4,7 @@ use mathlib.Core.Path.{_≡_}
 use mathlib.Core.Bool.{Bool, true}
 use mathlib.Core.Logic.{_↔_}
 use mathlib.Core.List.{List, [], _∷_}
+use Rattle.rules.specs.Numbers.{refused-loop, refused-unfit}
 use Rattle.rules.specs.Image.{Profile, due}
 use Rattle.rules.specs.Order.{Order, TheOrder, Fit}
 use Rattle.rules.specs.Refusals.{_when_, First, Looped, Unfit}
@@ -26,5 +27,5 @@ TellsFit F l r = (o : Order (F .n)) → TheOrder F o → Lists l o → (r ≡ tr
 
 -- k is the refusal of F by 8 and 9, or 0; but for 8 the list has the actions in the order of F.
 pub record Verdict (F : Profile) (k : ℕ) (l : List ℕ) : Type 0 where
-  pub number : First (8 when Looped F ∷ 9 when Unfit F ∷ []) k
+  pub number : First (refused-loop when Looped F ∷ refused-unfit when Unfit F ∷ []) k
   pub order : (k ≡ 8 → ⊥) → (o : Order (F .n)) × TheOrder F o × Lists l o

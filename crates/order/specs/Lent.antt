@@ -2,8 +2,9 @@
 use Prim.Native.Nat.{ℕ, _*_, _≤_, _<_}
 use mathlib.Core.List.{List}
 use lib.ListN.{length, getD}
+use Rattle.rules.specs.Numbers.{longest-time}
 use Rattle.sets.specs.Sets.{Below}
-pub use Rattle.urgency.specs.Lent.{lent}
+pub use Rattle.order_urgency.specs.Lent.{lent}
 
 -- A mask of each action is lent, and names actions below n.
 pub record Masked (n : ℕ) (masks : List ℕ) : Type 0 where
@@ -16,4 +17,4 @@ pub record Timed (n : ℕ) (deadlines worst : List ℕ) (stride : ℕ) : Type 0 
   pub apart : 1 ≤ stride
   pub dues : n ≤ length deadlines
   pub times : n * stride ≤ length worst
-  pub short : (a : ℕ) → a < n → getD worst (a * stride) 0 ≤ 16777215
+  pub short : (a : ℕ) → a < n → getD worst (a * stride) 0 ≤ longest-time

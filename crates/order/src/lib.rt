@@ -1,6 +1,8 @@
 // The order of actions on lent slices: the masks and deadlines by action, the level 0 worst time of action a at a * stride.
 // A deadline of 0 stands for the cycle.
 
+use order_urgency::due;
+use order_urgency::urgencies;
 use sets::above_lowest;
 use sets::all_below;
 use sets::count;
@@ -9,8 +11,6 @@ use sets::lowest;
 use sets::subset;
 use sets::with;
 use sets::without;
-use urgency::due;
-use urgency::urgencies;
 ghost use mathlib.Core.Path.{_≡_};
 ghost use mathlib.Core.Bool.{true};
 ghost use mathlib.Core.Logic.{_↔_};
@@ -187,11 +187,17 @@ pub fn judge(
     let arranged = ordered(masks, deadlines, cycle, n);
     let order = arranged.order;
     if arranged.placed < n {
-        return Judged { refusal: 8, order };
+        return Judged {
+            refusal: rules::REFUSED_LOOP,
+            order,
+        };
     }
     if fit(&order, deadlines, cycle, worst, stride, n) {
         Judged { refusal: 0, order }
     } else {
-        Judged { refusal: 9, order }
+        Judged {
+            refusal: rules::REFUSED_UNFIT,
+            order,
+        }
     }
 }

@@ -11,7 +11,7 @@ use Rattle.rules.proofs.Sums.{span-same}
 use Rattle.rules.proofs.Limits.Alike.{Same, mixed-same}
 use Rattle.fields.proofs.Cats.{cat-ext}
 use Rattle.fields.proofs.Rows.{rows-ext}
-use Rattle.rows.proofs.Coast.{term, bound-within, bound-past}
+use Rattle.plan_entry.proofs.Coast.{term, bound-within, bound-past}
 use Rattle.planner.specs.Planning.{coast-bounds}
 
 pub record Alike (S T : Tables) (n L : ℕ) : Type 0 where

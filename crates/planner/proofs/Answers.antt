@@ -7,15 +7,16 @@ use native.Mathlib.Omega.{arith}
 use borrow.Author.Tests.{ne-eqb}
 use lib.IntN.{ℤ}
 use lib.ListN.{length}
+use Rattle.rules.specs.Numbers.{refused-room}
 use Rattle.rules.specs.Image.{profile}
 use Rattle.rules.specs.Order.{Order}
 use Rattle.rules.specs.Refusals.{Ground, _when_, First, Tight, Accepted, kept, image-checks}
 use Rattle.rules.proofs.Differences.{not-above}
 use Rattle.rules.proofs.Refusals.{first-stops, first-goes-on, first-parts, image-numbered}
-use Rattle.image.specs.declared.Checked.{Checked}
-use Rattle.image.specs.Checks.{Judged}
+use Rattle.image_check.specs.declared.Checked.{Checked}
+use Rattle.image_check.specs.Checks.{Judged}
 use Rattle.planner.specs.declared.Planned.{Planned}
-use Rattle.tables.specs.Filling.{Given, SomeGiven, Written}
+use Rattle.plan_tables.specs.Filling.{Given, SomeGiven, Written}
 use Rattle.planner.specs.Planning.{rooms, Plans, Admits}
 
 -- ---- what is kept
@@ -34,7 +35,7 @@ by-number n = record { at = λ k. k; pos = λ a. a; at-lt = λ k l. l; pos-lt = 
 
 -- 17, after 1 to 9
 abbrev room-check : List ℕ → List ℕ → List ℤ → List ℕ → List ℤ → List Ground
-room-check s order limits worst bounds = 17 when Tight (rooms (profile s .n) (profile s .levels) order limits worst bounds) ∷ []
+room-check s order limits worst bounds = refused-room when Tight (rooms (profile s .n) (profile s .levels) order limits worst bounds) ∷ []
 
 module _ (n L : ℕ) (order : List ℕ) (limits : List ℤ) (worst : List ℕ) (bounds : List ℤ) where
   pub record Roomy : Type 0 where
@@ -43,7 +44,7 @@ module _ (n L : ℕ) (order : List ℕ) (limits : List ℤ) (worst : List ℕ) (
     pub worst-room : n * L ≤ length worst
     pub bounds-room : n * L * 16 ≤ length bounds
 
-  pub roomy : First (17 when Tight (rooms n L order limits worst bounds) ∷ []) 0 → Roomy
+  pub roomy : First (refused-room when Tight (rooms n L order limits worst bounds) ∷ []) 0 → Roomy
   roomy (inl p) = absurd (omega arith)
   roomy (inr p) = record {
     order-room = not-above (λ h. p .0 (inl h));
@@ -61,7 +62,7 @@ module _ {s : List ℕ} {r : Checked} (a : Judged s r) (order : List ℕ) (limit
     found = λ none. absurd (some none);
   }
 
-  pub room-judged : {k : ℕ} → r .refusal .number ≡ 0 → First (17 when Tight (rooms (r .n) (r .levels) order limits worst bounds) ∷ []) k
+  pub room-judged : {k : ℕ} → r .refusal .number ≡ 0 → First (refused-room when Tight (rooms (r .n) (r .levels) order limits worst bounds) ∷ []) k
       → Admits s order limits worst bounds (record { refusal = record { number = k }; n = r .n; levels = r .levels; cycle = r .cycle; order = r .order })
   room-judged {k} none p =
       let found = a .accepted none in

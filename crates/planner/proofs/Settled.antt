@@ -6,6 +6,7 @@ use mathlib.Core.Logic.{⊎-elim}
 use native.Mathlib.Decide.{ℕ-discrete}
 use borrow.Author.Tests.{ne-eqb}
 use lib.IntN.{ℤ}
+use Rattle.rules.specs.Numbers.{refused-room}
 use Rattle.rules.specs.Words.{tab}
 use Rattle.rules.specs.Image.{Profile, due, profile}
 use Rattle.rules.specs.Order.{Order, TheOrder}
@@ -64,7 +65,7 @@ module _ {s order : List ℕ} {limits : List ℤ} {worst : List ℕ} {bounds : L
   -- without a refusal the image is sound
   sound : r .refusal .number ≡ 0 → Sound s
   sound none =
-      let own = 17 when Tight (rooms (profile s .n) (profile s .levels) order limits worst bounds) ∷ [] in
+      let own = refused-room when Tight (rooms (profile s .n) (profile s .levels) order limits worst bounds) ∷ [] in
       ⊎-elim (λ p. absurd (p .1 none)) (λ p. p .0) (accepted-parts s own (r .refusal .number) (x .number))
 
   alike : r .refusal .number ≡ 0 → Alike (tables (profile s) (x .o)) (tables (profile s) (y .o)) (profile s .n) (profile s .levels)

@@ -10,9 +10,9 @@ use Rattle.rules.specs.Order.{Order, TheOrder}
 use Rattle.rules.specs.Limits.{tables, limit}
 use Rattle.rules.specs.Refusals.{First, kept, image-call}
 use Rattle.fields.specs.Fields.{splice}
-pub use Rattle.tables.specs.Filling.{coast-bounds}
-use Rattle.image.specs.declared.Checked.{Checked}
-use Rattle.image.specs.Checks.{Found}
+pub use Rattle.plan_tables.specs.Filling.{coast-bounds}
+use Rattle.image_check.specs.declared.Checked.{Checked}
+use Rattle.image_check.specs.Checks.{Found}
 use Rattle.planner.specs.declared.Planned.{Planned}
 
 -- the lengths of the lent tables, each with what n actions at L levels need of it

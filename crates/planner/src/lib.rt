@@ -1,10 +1,11 @@
 // Planning: the order, the limits, the worst times by position and the coast bounds of an image, written to lent tables.
-use image::Checked;
-use image::Refusal;
-use image::whole;
+use image_check::Checked;
+use image_check::whole;
+use rules::Refusal;
 ghost use mathlib.Core.Path.{_≡_};
 ghost use mathlib.Core.List.{[], _∷_};
 ghost use Prim.Native.Nat.{_≤_};
+ghost use Rattle.rules.specs.Numbers.{refused-room};
 ghost use Rattle.rules.specs.Refusals.{_when_, First, Tight};
 ghost use Rattle.planner.specs.Planning.{rooms, Plans, Admits};
 
@@ -28,20 +29,20 @@ fn tight(
 ) -> u32
     requires { ⌜ (n ≤ 64) × (levels ≤ 8) ⌝ }
     ensures { λ r. ⌜ First
-        (17 when Tight (rooms n levels (now (order .entry)) (now (limits .entry)) (now (worst .entry)) (now (bounds .entry))) ∷ []) r ⌝ }
+        (refused-room when Tight (rooms n levels (now (order .entry)) (now (limits .entry)) (now (worst .entry)) (now (bounds .entry))) ∷ []) r ⌝ }
 {
     let entries = n * levels;
     if order.len() < n {
-        return 17;
+        return rules::REFUSED_ROOM;
     }
     if limits.len() < entries {
-        return 17;
+        return rules::REFUSED_ROOM;
     }
     if worst.len() < entries {
-        return 17;
+        return rules::REFUSED_ROOM;
     }
     if bounds.len() < entries * rules::LONGEST_COAST {
-        return 17;
+        return rules::REFUSED_ROOM;
     }
     0
 }
@@ -92,7 +93,7 @@ pub fn plan(
     let levels = checked.levels;
     let cycle = checked.cycle;
     let actions = checked.order;
-    tables::fill(
+    plan_tables::fill(
         image,
         n,
         levels,

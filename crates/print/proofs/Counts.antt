@@ -6,14 +6,15 @@ use mathlib.Core.Logic.{⊎-elim, inl, inr}
 use native.Mathlib.Omega.{arith}
 use lib.IntN.{ℤ}
 use lib.ListN.{length}
+use Rattle.rules.specs.Numbers.{refused-duration, refused-room}
 use Rattle.rules.specs.Image.{profile}
 use Rattle.rules.specs.Refusals.{Ground, Tight, _when_, First, image-checks}
 use Rattle.rules.specs.Dry.{LongEntry}
 use Rattle.rules.proofs.Refusals.{Sound, accepted-parts}
 use Rattle.planner.specs.Planning.{rooms, Plans}
 use Rattle.planner.specs.declared.Planned.{Planned}
-use Rattle.frame.specs.Frame.{rooms as frame-rooms, Frames}
-use Rattle.frame.specs.declared.Framed.{Framed}
+use Rattle.dry_frame.specs.Frame.{rooms as frame-rooms, Frames}
+use Rattle.dry_frame.specs.declared.Framed.{Framed}
 
 at-most : {x y : ℕ} → (y < x → ⊥) → x ≤ y
 at-most n = omega arith
@@ -32,7 +33,7 @@ pub counts : {s order : List ℕ} {limits : List ℤ} {worst : List ℕ} {bounds
     {bounds′ : List ℤ} {r : Planned} → Plans s order limits worst bounds order′ limits′ worst′ bounds′ r
     → r .refusal .number ≡ 0 → (r .n ≤ 64) × (r .levels ≤ 8)
 counts {s} {order} {limits} {worst} {bounds} {r = r} p e =
-    let room = 17 when Tight (rooms (profile s .n) (profile s .levels) order limits worst bounds) ∷ [] in
+    let room = refused-room when Tight (rooms (profile s .n) (profile s .levels) order limits worst bounds) ∷ [] in
     let h = few s room (rw e at (p .number)) .0 in
     (omega (arith, rw e at (p .n), actions h), omega (arith, rw e at (p .levels), levels h))
 
@@ -42,5 +43,5 @@ pub positions : {s durations order given marks order′ given′ marks′ : List
 positions {s} {durations} {order} {given} {marks} {r = r} f e =
     let cells = profile s .n * profile s .levels in
     let room = frame-rooms (profile s .n) cells (length durations) (length order) (length given) (length marks) in
-    let h = few s (17 when Tight room ∷ 16 when LongEntry cells durations ∷ []) (rw e at (f .number)) .0 in
+    let h = few s (refused-room when Tight room ∷ refused-duration when LongEntry cells durations ∷ []) (rw e at (f .number)) .0 in
     omega (arith, rw e at (f .n), actions h)

@@ -1,5 +1,5 @@
 // What the programs print. A refusal is one line, `refused` and the number.
-use frame::Framed;
+use dry_frame::Framed;
 use text::put_byte;
 use text::put_bytes;
 use text::put_number;
@@ -165,7 +165,7 @@ pub fn dry_text(image: &[u8], bytes: &[u8], out: &mut [u8]) -> usize
     let mut order = [0u8; 64];
     let mut given = [0u8; 64];
     let mut marks = [0u8; 64];
-    let framed = frame::dry_frame(
+    let framed = dry_frame::dry_frame(
         image,
         &durations[..count],
         &mut order,

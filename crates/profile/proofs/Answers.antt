@@ -14,9 +14,9 @@ use Rattle.rules.specs.Refusals.{Ground, First, Tight, Accepted, image-checks, 
 use Rattle.rules.proofs.Differences.{not-above}
 use Rattle.rules.proofs.Refusals.{image-numbered, first-stops, first-goes-on, first-parts}
 use Rattle.fields.specs.Fields.{splice}
-use Rattle.image.specs.declared.Refusal.{Refusal}
-use Rattle.image.specs.declared.Checked.{Checked}
-use Rattle.image.specs.Checks.{Found, Judged}
+use Rattle.rules.specs.declared.Refusal.{Refusal}
+use Rattle.image_check.specs.declared.Checked.{Checked}
+use Rattle.image_check.specs.Checks.{Found, Judged}
 use Rattle.profile.specs.declared.Unpacked.{Unpacked}
 use Rattle.profile.specs.Calls.{rooms, Blank, Reads}
 

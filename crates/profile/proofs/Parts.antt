@@ -7,14 +7,15 @@ use lib.Dec.{lit<}
 use native.Mathlib.Decide.{ℕ-discrete}
 use borrow.Author.Tests.{ne-eqb}
 use lib.ListN.{length}
+use Rattle.rules.specs.Numbers.{refused-name}
 use Rattle.rules.specs.Image.{be, levels, record-bytes, record-at, mask-of, deadline-of, average-of, worst-of, profile}
 use Rattle.rules.specs.Refusals.{_when_, First, kept, lookup-call}
 use Rattle.rules.proofs.Refusals.{Sound, accepted-sound}
 use Rattle.fields.specs.Fields.{part}
 use Rattle.fields.proofs.Strides.{stride-more}
 use Rattle.fields.proofs.Parts.{be-part}
-use Rattle.records.specs.Reading.{HasRecord}
-use Rattle.records.proofs.Reading.{has-records, has-record}
+use Rattle.image_fields.specs.Reading.{HasRecord}
+use Rattle.image_fields.proofs.Reading.{has-records, has-record}
 use Rattle.profile.specs.Calls.{Places, record-of}
 use Rattle.profile.specs.declared.Place.{Place}
 use Rattle.profile.proofs.Answers.{none-given}
@@ -28,7 +29,7 @@ pub record Named (s : List ℕ) (a : ℕ) : Type 0 where
 
 pub named : (s : List ℕ) (a : ℕ) → First (lookup-call s a) 0 → Named s a
 named s a p =
-    let x = none-given s (15 when (profile s .n ≤ a)) (lit< tt) p in
+    let x = none-given s (refused-name when (profile s .n ≤ a)) (lit< tt) p in
     let present = x .1 in
     record { sound = accepted-sound s .0 (x .0); named = omega arith }
 

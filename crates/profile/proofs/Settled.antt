@@ -5,9 +5,9 @@ use Prim.Native.Nat.{ℕ}
 use Rattle.rules.specs.Image.{profile}
 use Rattle.rules.specs.Refusals.{Ground, First, kept, image-call, lookup-call}
 use Rattle.rules.proofs.Refusals.{first-one}
-use Rattle.image.specs.declared.Refusal.{Refusal}
-use Rattle.writing.specs.Writing.{Writes}
-use Rattle.writing.proofs.Settled.{writes-one}
+use Rattle.rules.specs.declared.Refusal.{Refusal}
+use Rattle.image_write.specs.Writing.{Writes}
+use Rattle.image_write.proofs.Settled.{writes-one}
 use Rattle.profile.specs.declared.Unpacked.{Unpacked}
 use Rattle.profile.specs.declared.Written.{Written}
 use Rattle.profile.specs.declared.Place.{Place}

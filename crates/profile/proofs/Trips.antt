@@ -6,6 +6,7 @@ use Prim.Native.Nat.{ℕ, _*_, _≤_, zero-le}
 use native.Mathlib.Omega.{arith}
 use lib.Dec.{lit<}
 use lib.ListN.{length, take}
+use Rattle.rules.specs.Numbers.{refused-room}
 use Rattle.rules.specs.Words.{tab, rows}
 use Rattle.rules.specs.Image.{Profile, actions, levels, cycle, image-bytes, profile, of-tables, image}
 use Rattle.rules.specs.Refusals.{_when_, Tight, Accepted, image-call}
@@ -16,11 +17,11 @@ use Rattle.fields.proofs.Holds.{part-holds}
 use Rattle.fields.proofs.Splice.{of-splice, length-splice}
 use Rattle.fields.proofs.Tabs.{length-tab}
 use Rattle.fields.proofs.Rows.{length-rows}
-use Rattle.writing.specs.Writing.{rooms as write-rooms, writing, Writes}
-use Rattle.writing.proofs.Accepting.{packable}
-use Rattle.trips.proofs.Sizes.{length-image}
-use Rattle.trips.proofs.RoundTrip.{ReadFrom, read-lent}
-use Rattle.trips.proofs.Accepts.{written-accepted, accepted-formed, tables-accepted, accepted-again, written-back}
+use Rattle.image_write.specs.Writing.{rooms as write-rooms, writing, Writes}
+use Rattle.image_write.proofs.Accepting.{packable}
+use Rattle.image_laws.proofs.Sizes.{length-image}
+use Rattle.image_laws.proofs.RoundTrip.{ReadFrom, read-lent}
+use Rattle.image_laws.proofs.Accepts.{written-accepted, accepted-formed, tables-accepted, accepted-again, written-back}
 use Rattle.profile.specs.declared.Unpacked.{Unpacked}
 use Rattle.profile.specs.Calls.{rooms, Reads}
 use Rattle.profile.proofs.Answers.{no-refusal, none-given, HasRoom, has-room}
@@ -42,7 +43,7 @@ pub record Unpacks (s m d a w m′ d′ a′ w′ : List ℕ) (r : Unpacked) : T
 pub unpacks : {s m d a w m′ d′ a′ w′ : List ℕ} {r : Unpacked} → Reads s m d a w m′ d′ a′ w′ r → r .refusal .number ≡ 0
     → Unpacks s m d a w m′ d′ a′ w′ r
 unpacks {s} {m} {d} {a} {w} x none =
-    let own = none-given s (17 when Tight (rooms (profile s .n) (profile s .levels) m d a w)) (lit< tt) (rw none at (x .given)) in record {
+    let own = none-given s (refused-room when Tight (rooms (profile s .n) (profile s .levels) m d a w)) (lit< tt) (rw none at (x .given)) in record {
       accepted = own .0;
       room = has-room (profile s .n) (profile s .levels) m d a w (own .1);
       n = rw none at (x .n);
@@ -120,7 +121,7 @@ module _ {n L cycle : ℕ} {masks deadlines averages worst before after : List �
       let g = written-back n L cycle masks deadlines averages worst lent p (k .masks-room) (k .deadlines-room) (k .averages-room) (k .worst-room) in
       let z : Reads s m d a w m′ d′ a′ w′ r = rw written-part at x in
       let enough : Tight (rooms (actions s) (levels s) m d a w) → ⊥ = rw (g .actions-are, g .levels-are) (not-tight h) in
-      let given = no-refusal s (17 when Tight (rooms (actions s) (levels s) m d a w)) (written-accepted F lent p) enough in
+      let given = no-refusal s (refused-room when Tight (rooms (actions s) (levels s) m d a w)) (written-accepted F lent p) enough in
       let zero = first-one (image-call s (rooms (actions s) (levels s) m d a w)) (r .refusal .number) 0 (z .given) given in
       let u = unpacks z zero in record {
         accepted = zero;

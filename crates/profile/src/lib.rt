@@ -1,8 +1,8 @@
 // The public calls on a profile image: check, read, look an action up, write.
-use image::Refusal;
+use rules::Refusal;
 ghost use mathlib.Core.Path.{_≡_};
 ghost use Rattle.rules.specs.Refusals.{First, image-checks, lookup-call};
-ghost use Rattle.writing.specs.Writing.{Writes};
+ghost use Rattle.image_write.specs.Writing.{Writes};
 ghost use Rattle.profile.specs.Calls.{Blank, Reads, Places, LooksUp};
 
 // The answer of reading: the refusal, and without one the counts and the cycle of the profile, else 0.
@@ -33,7 +33,7 @@ pub struct Place {
 pub fn check(image: &[u8]) -> Refusal
     ensures { λ r. ⌜ First (image-checks (now (image .entry))) (r .number) ⌝ }
 {
-    image::check(image)
+    image_check::check(image)
 }
 
 // What a refused reading answers.
@@ -60,17 +60,19 @@ pub fn read(
         (now (masks .entry)) (now (deadlines .entry)) (now (averages .entry)) (now (worst .entry))
         (now (masks .exit)) (now (deadlines .exit)) (now (averages .exit)) (now (worst .exit)) r ⌝ }
 {
-    let checked = image::whole::checked(image);
+    let checked = image_check::whole::checked(image);
     let refusal = checked.refusal;
     let n = checked.n;
     let levels = checked.levels;
     if refusal.number != 0 {
         return refused(refusal);
     }
-    if writing::checks::tight(n, levels, masks, deadlines, averages, worst) {
-        return refused(Refusal { number: 17 });
+    if image_write::checks::tight(n, levels, masks, deadlines, averages, worst) {
+        return refused(Refusal {
+            number: rules::REFUSED_ROOM,
+        });
     }
-    unpack::unpack(image, n, levels, masks, deadlines, averages, worst);
+    image_read::unpack(image, n, levels, masks, deadlines, averages, worst);
     Unpacked {
         refusal,
         n,
@@ -83,13 +85,15 @@ pub fn read(
 pub fn lookup_refusal(image: &[u8], action: usize) -> Refusal
     ensures { λ r. ⌜ First (lookup-call (now (image .entry)) action) (r .number) ⌝ }
 {
-    let checked = image::whole::checked(image);
+    let checked = image_check::whole::checked(image);
     let given = checked.refusal;
     if given.number != 0 {
         return given;
     }
     if checked.n <= action {
-        return Refusal { number: 15 };
+        return Refusal {
+            number: rules::REFUSED_NAME,
+        };
     }
     given
 }
@@ -106,10 +110,10 @@ pub fn lookup_place(image: &[u8], action: usize) -> Place
             length: 0,
         };
     }
-    let levels = records::read::header(image).levels;
+    let levels = image_fields::read::header(image).levels;
     let next = action + 1;
-    let start = records::read::record_at(levels, action);
-    let end = records::read::record_at(levels, next);
+    let start = image_fields::read::record_at(levels, action);
+    let end = image_fields::read::record_at(levels, next);
     Place {
         refusal: looked,
         start,
@@ -141,7 +145,7 @@ pub fn write(
     ensures { λ r. ⌜ Writes n levels cycle (now (masks .entry)) (now (deadlines .entry)) (now (averages .entry)) (now (worst .entry))
         (now (image .entry)) (now (image .exit)) (r .refusal .number) (r .bytes) ⌝ }
 {
-    let packed = writing::write(n, levels, cycle, masks, deadlines, averages, worst, image);
+    let packed = image_write::write(n, levels, cycle, masks, deadlines, averages, worst, image);
     Written {
         refusal: Refusal {
             number: packed.refusal,

@@ -1,5 +1,5 @@
 // A speed reading as the programs print it: `spent`, `refused` and the number, or the 64 bits of the ratio in hexadecimal.
-use ratio::Reading;
+use speed_stretch::Reading;
 use text::put_bytes;
 use text::put_number;
 ghost use Rattle.io.specs.Counts.{Counts};

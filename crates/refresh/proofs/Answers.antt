@@ -9,9 +9,9 @@ use Rattle.rules.proofs.Refusals.{Sound, first-one}
 use Rattle.rules.proofs.Speed.Reading.{times-small}
 use Rattle.rules.proofs.Refresh.{NoFault, refresh-sound, refreshed-table, refreshed-times, refreshed-grounds}
 use Rattle.fields.proofs.Bytes.{Bytes}
-use Rattle.trips.proofs.Same.{Same}
-use Rattle.trips.proofs.Written.{in-range, written-read}
-use Rattle.trips.proofs.Accepts.{Writable, write-sound, written-accepted}
+use Rattle.image_laws.proofs.Same.{Same}
+use Rattle.image_laws.proofs.Written.{in-range, written-read}
+use Rattle.image_laws.proofs.Accepts.{Writable, write-sound, written-accepted}
 use Rattle.refresh.specs.Refresh.{refreshing, Refreshes}
 
 -- ---- the answer is settled

@@ -13,8 +13,8 @@ use Rattle.rules.specs.Image.{worst-of, profile}
 use Rattle.fields.specs.Fields.{splice}
 use Rattle.fields.proofs.Splice.{getD-splice, getD-splice-before, getD-splice-after, length-splice}
 use Rattle.fields.proofs.Tabs.{length-tab, getD-tab}
-use Rattle.measure.specs.Measure.{cell, Ceilings}
-use Rattle.measure.proofs.Tallies.{zeros}
+use Rattle.trace.specs.Measure.{cell, Ceilings}
+use Rattle.trace.proofs.Tallies.{zeros}
 use Rattle.refresh.specs.Refresh.{Ceiled}
 
 pub none-ceiled : (s : List ℕ) (L : ℕ) → Ceiled s 0 L (replicate 512 0)

@@ -6,16 +6,17 @@ use mathlib.Core.Logic.{inl, inr}
 use native.Mathlib.Omega.{arith}
 use lib.Dec.{lit<}
 use lib.ListN.{length}
+use Rattle.rules.specs.Numbers.{most-records, refused-trace, refused-room}
 use Rattle.rules.specs.Image.{Profile, profile}
 use Rattle.rules.specs.Refusals.{Ground, _when_, First, Tight, image-checks, Accepted}
 use Rattle.rules.specs.Refresh.{records, Trace}
 use Rattle.rules.proofs.Refusals.{Numbered, first-none, first-goes-on, image-numbered}
-use Rattle.measure.specs.Measure.{faults}
+use Rattle.trace.specs.Measure.{faults}
 use Rattle.refresh.specs.Refresh.{refreshing, own}
 
 -- 17
 abbrev pub room-grounds : ℕ → ℕ → List Ground
-room-grounds needed room = 17 when Tight ((room, needed) ∷ []) ∷ []
+room-grounds needed room = refused-room when Tight ((room, needed) ∷ []) ∷ []
 
 -- 15 and 16, then 17
 abbrev pub rest-grounds : Profile → List ℕ → ℕ → ℕ → List Ground
@@ -25,18 +26,18 @@ rest-grounds F trace needed room = faults F trace ++ room-grounds needed room
 pub gives-none : (row : List Ground) {k : ℕ} → k ≡ 0 → First row k → First row 0
 gives-none row e p = rw e at p
 
-numbered-14 : (trace : List ℕ) → Numbered (14 when Trace trace ∷ [])
+numbered-14 : (trace : List ℕ) → Numbered (refused-trace when Trace trace ∷ [])
 numbered-14 trace = (lit< tt, tt)
 
 -- A trace that is not refused as a whole has few records.
-pub few-records : (trace : List ℕ) → First (14 when Trace trace ∷ []) 0 → records trace ≤ 65535
+pub few-records : (trace : List ℕ) → First (refused-trace when Trace trace ∷ []) 0 → records trace ≤ most-records
 few-records trace p =
-    let not-many : 65535 < records trace → ⊥ = λ h. first-none (14 when Trace trace ∷ []) (numbered-14 trace) .0 p .0 (inr h) in
+    let not-many : most-records < records trace → ⊥ = λ h. first-none (refused-trace when Trace trace ∷ []) (numbered-14 trace) .0 p .0 (inr h) in
     omega arith
 
 module _ (F : Profile) (trace : List ℕ) (needed room k : ℕ) where
-  pub after-trace : First (14 when Trace trace ∷ []) 0 → First (rest-grounds F trace needed room) k → First (own F trace needed room) k
-  after-trace p r = first-goes-on (14 when Trace trace ∷ []) (rest-grounds F trace needed room) k (numbered-14 trace) p r
+  pub after-trace : First (refused-trace when Trace trace ∷ []) 0 → First (rest-grounds F trace needed room) k → First (own F trace needed room) k
+  after-trace p r = first-goes-on (refused-trace when Trace trace ∷ []) (rest-grounds F trace needed room) k (numbered-14 trace) p r
 
   pub after-faults : {fault : ℕ} → First (faults F trace) fault → fault ≡ 0 → First (room-grounds needed room) k
       → First (rest-grounds F trace needed room) k

@@ -5,7 +5,8 @@ use mathlib.Core.List.{List, _++_}
 use native.Mathlib.Omega.{arith}
 use lib.ListN.{length, getD, length-append}
 use Rattle.rules.specs.Words.{cat, tab}
-use Rattle.rules.specs.Image.{Profile, bytes, header-bytes, levels, record-bytes, record-at}
+use Rattle.rules.specs.Numbers.{header-bytes}
+use Rattle.rules.specs.Image.{Profile, bytes, levels, record-bytes, record-at}
 use Rattle.rules.specs.Image.{profile, header-of, level-image, record-image, image}
 use Rattle.rules.specs.Refusals.{Accepted}
 use Rattle.rules.specs.Refresh.{new-average, refreshed, new-image}
@@ -16,9 +17,9 @@ use Rattle.fields.proofs.Splice.{of-splice}
 use Rattle.fields.proofs.Copies.{same-again, rest-stays, front-stays, written-over, behind}
 use Rattle.fields.proofs.Tabs.{tab-is}
 use Rattle.fields.proofs.Cats.{length-cat, nth, cat-more}
-use Rattle.trips.proofs.Sizes.{length-level, length-record, length-image}
-use Rattle.trips.proofs.Again.{read-written}
-use Rattle.trips.proofs.Accepts.{accepted-formed}
+use Rattle.image_laws.proofs.Sizes.{length-level, length-record, length-image}
+use Rattle.image_laws.proofs.Again.{read-written}
+use Rattle.image_laws.proofs.Accepts.{accepted-formed}
 use Rattle.refresh.specs.Refresh.{Copied}
 
 -- ---- one record

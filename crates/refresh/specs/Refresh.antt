@@ -4,12 +4,13 @@ use mathlib.Core.Path.{_≡_}
 use mathlib.Core.List.{List, [], _∷_, _++_}
 use mathlib.Core.Logic.{_⊎_}
 use lib.ListN.{length, getD}
+use Rattle.rules.specs.Numbers.{header-bytes, refused-trace, refused-room}
 use Rattle.rules.specs.Words.{cat}
-use Rattle.rules.specs.Image.{Profile, header-bytes, levels, record-at, worst-of, profile, record-image}
+use Rattle.rules.specs.Image.{Profile, levels, record-at, worst-of, profile, record-image}
 use Rattle.rules.specs.Refusals.{Ground, _when_, First, kept, Tight}
 use Rattle.rules.specs.Refresh.{refreshed, new-image, Trace, refresh-call}
 use Rattle.fields.specs.Fields.{splice}
-use Rattle.measure.specs.Measure.{cell, Ceilings, faults, Weighs}
+use Rattle.trace.specs.Measure.{cell, Ceilings, faults, Weighs}
 
 -- The grounds for refusing to refresh the image s by the trace; of the lent slice as many bytes are needed as s has.
 abbrev pub refreshing : List ℕ → List ℕ → List ℕ → List Ground
@@ -25,7 +26,7 @@ pub record Refreshes (s trace before after : List ℕ) (refusal bytes : ℕ) : T
 
 -- The call's own grounds, of a profile: `needed` bytes are needed of `room`.
 abbrev pub own : Profile → List ℕ → ℕ → ℕ → List Ground
-own F trace needed room = 14 when Trace trace ∷ (faults F trace ++ (17 when Tight ((room, needed) ∷ []) ∷ []))
+own F trace needed room = refused-trace when Trace trace ∷ (faults F trace ++ (refused-room when Tight ((room, needed) ∷ []) ∷ []))
 
 -- The number of the call's own refusal and, with none, the tallies of the trace.
 pub record Weighed (trace ceilings : List ℕ) (needed room : ℕ) (tallies : List ℕ) (k : ℕ) : Type 0 where

@@ -1,6 +1,6 @@
 // Refreshing averages: the new image of an image and a trace, which differs in averages only.
-use image::Refusal;
-use records::read;
+use image_fields::read;
+use rules::Refusal;
 ghost use mathlib.Core.Path.{_≡_};
 ghost use Prim.Native.Nat.{_+_, _*_, _≤_};
 ghost use lib.ListN.{length};
@@ -8,8 +8,8 @@ ghost use Rattle.rules.specs.Words.{tab};
 ghost use Rattle.rules.specs.Image.{record-bytes, record-at, worst-of, profile};
 ghost use Rattle.rules.specs.Refusals.{Accepted};
 ghost use Rattle.fields.specs.Fields.{splice};
-ghost use Rattle.records.specs.Reading.{HasRecord, HasRecords};
-ghost use Rattle.measure.specs.Measure.{Tallied};
+ghost use Rattle.image_fields.specs.Reading.{HasRecord, HasRecords};
+ghost use Rattle.trace.specs.Measure.{Tallied};
 ghost use Rattle.refresh.specs.Refresh.{Refreshes, Weighed, Ceiled, Renews, AllRenewed};
 
 // The answer of a refresh: the refusal, 0 for none, and the bytes of the new image.
@@ -31,16 +31,16 @@ fn own_refusal(
     requires { ⌜ Tallied (now trace) 0 (now tallies) ⌝ }
     ensures { λ k. ⌜ Weighed (now (trace .entry)) (now (ceilings .entry)) needed room (now (tallies .exit)) k ⌝ }
 {
-    let whole = measure::trace_refusal(trace);
+    let whole = trace::trace_refusal(trace);
     if whole != 0 {
         return whole;
     }
-    let fault = measure::pass(trace, ceilings, tallies);
+    let fault = trace::pass(trace, ceilings, tallies);
     if fault != 0 {
         return fault;
     }
     if room < needed {
-        return 17;
+        return rules::REFUSED_ROOM;
     }
     0
 }
@@ -74,13 +74,13 @@ fn put_averages(image: &[u8], levels: usize, a: usize, tallies: &[u64; 512], out
     requires { ⌜ HasRecord (now image) levels a × (record-at levels a + record-bytes levels ≤ length (now out)) ⌝ }
     ensures { λ r. ⌜ Renews (now (image .entry)) a (now (tallies .entry)) (now (out .entry)) (now (out .exit)) ⌝ }
 {
-    let start = read::record_at(levels, a) + 12;
+    let start = read::record_at(levels, a) + rules::AVERAGE_AT;
     let mut last = 0;
     let mut q = 0;
     while q < levels {
         let average = read::average_at(image, levels, a, q);
-        last = measure::raised(last, tallies[a * 8 + q], average);
-        fields::put_be(out, start + q * 6, last, 3);
+        last = trace::raised(last, tallies[a * 8 + q], average);
+        fields::put_be(out, start + q * rules::LEVEL_BYTES, last, 3);
         q += 1;
     }
 }
@@ -131,7 +131,7 @@ fn refresh_accepted(
 pub fn refresh(image: &[u8], trace: &[u8], out: &mut [u8]) -> Refreshed
     ensures { λ r. ⌜ Refreshes (now (image .entry)) (now (trace .entry)) (now (out .entry)) (now (out .exit)) (r .refusal .number) (r .bytes) ⌝ }
 {
-    let checked = image::whole::checked(image);
+    let checked = image_check::whole::checked(image);
     let refusal = checked.refusal;
     if refusal.number != 0 {
         return Refreshed { refusal, bytes: 0 };

@@ -10,6 +10,7 @@ use native.Mathlib.Omega.{arith}
 use lib.Dec.{eqb}
 use lib.IntN.{pos}
 use lib.Signed.{_≤ℤ_}
+use Rattle.rules.specs.Numbers.{last-clock}
 use Rattle.rules.specs.Words.{sum}
 use Rattle.rules.specs.Image.{Profile, due, profile}
 use Rattle.rules.specs.Order.{Order, Meets, TheOrder, FitFrom, Fit}
@@ -58,10 +59,10 @@ module _ (F : Profile) (o : Order (F .n)) (counts : Count F → ⊥) where
     due = λ k l. by (eqb (F .deadline (o .at k)) 0) (not-above (λ h. range (o .at k, o .at-lt k l, inl h)));
   }
     where
-      cycle-in : F .cycle ≤ 1073741823
+      cycle-in : F .cycle ≤ last-clock
       cycle-in = not-above (λ h. counts (inr (inr h)))
 
-      by : (b : Bool) {x : ℕ} → x ≤ F .cycle → cond b (F .cycle) x ≤ 1073741823
+      by : (b : Bool) {x : ℕ} → x ≤ F .cycle → cond b (F .cycle) x ≤ last-clock
       by true h = cycle-in
       by false h = le-trans h cycle-in
 

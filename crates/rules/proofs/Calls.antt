@@ -11,6 +11,7 @@ use lib.Dec.{leb, ltb, eqb, leb→le, le→leb, ltb→lt, lt→ltb}
 use lib.IntN.{ℤ, pos}
 use lib.Signed.{leZ}
 use lib.ListN.{length, getD}
+use Rattle.rules.specs.Numbers.{last-clock, longest-time}
 use Rattle.rules.specs.Words.{every, one-if}
 use Rattle.rules.specs.Limits.{Plan}
 use Rattle.rules.specs.Refusals.{first}
@@ -27,7 +28,7 @@ pub record InRange (r : Run) : Type 0 where
   pub some-level : 1 ≤ r .levels
   pub few-levels : r .levels ≤ 8
   pub position : r .position ≤ r .n
-  pub clock : r .clock ≤ 1073741823
+  pub clock : r .clock ≤ last-clock
   pub running : r .position + one-if (r .running) ≤ r .n
   pub level : r .level < r .levels
   pub left : r .left ≤ 15
@@ -45,7 +46,7 @@ in-range-facts r h =
     let c = split (leb 1 (r .levels)) _ (b .1) in
     let d = split (leb (r .levels) 8) _ (c .1) in
     let e = split (leb (r .position) (r .n)) _ (d .1) in
-    let f = split (leb (r .clock) 1073741823) _ (e .1) in
+    let f = split (leb (r .clock) last-clock) _ (e .1) in
     let g = split (leb (r .position + one-if (r .running)) (r .n)) _ (f .1) in
     let i = split (ltb (r .level) (r .levels)) _ (g .1) in
     let j = split (leb (r .left) 15) _ (i .1) in
@@ -136,7 +137,7 @@ module _ (P : Plan) (r : Run) (same-n : P .n ≡ r .n) (same-levels : P .levels 
           some-left : decides r ≡ false → 0 < r .left
           some-left e = let ne : r .left ≢ 0 = eqb-false (r .left) 0 e in omega arith
 
-pub ended-in-range : (w t : ℕ) (r : Run) → InRange r → r .running ≡ true → t ≤ 1073741823 → InRange (ended w t r)
+pub ended-in-range : (w t : ℕ) (r : Run) → InRange r → r .running ≡ true → t ≤ last-clock → InRange (ended w t r)
 unfolding ended
 ended-in-range w t r F runs h = by (ltb w (t - r .clock))
   where
@@ -173,7 +174,7 @@ ended-in-range w t r F runs h = by (ltb w (t - r .clock))
         less true = omega arith
         less false = le-refl _
 
-pub begun-in-range : (n L t : ℕ) → 1 ≤ n → n ≤ 64 → 1 ≤ L → L ≤ 8 → t ≤ 1073741823 → InRange (begun n L t)
+pub begun-in-range : (n L t : ℕ) → 1 ≤ n → n ≤ 64 → 1 ≤ L → L ≤ 8 → t ≤ last-clock → InRange (begun n L t)
 unfolding begun
 begun-in-range n L t a b c d e = record {
   some-action = a;
@@ -220,14 +221,14 @@ module _ (order : List ℕ) (limits bounds : List ℤ) (r : Run) (F : InRange r)
       (Answer.refused k r)) (ask-refusal-none a b c waits more)
 
 module _ (worst : List ℕ) (t : ℕ) (r : Run) (F : InRange r) where
-  report-refusal-none : r .n * r .levels ≤ length worst → r .running ≡ true → r .clock ≤ t → t ≤ 1073741823 → report-refusal worst t r ≡ 0
+  report-refusal-none : r .n * r .levels ≤ length worst → r .running ≡ true → r .clock ≤ t → t ≤ last-clock → report-refusal worst t r ≡ 0
   unfolding report-refusal first
   report-refusal-none a runs b c =
       skip _ 11 _ (ap not (facts-in-range r F))
       (skip _ 17 _ (le-ltb _ _ a)
       (skip _ 11 _ (ap not runs) (skip _ 12 _ (le-ltb _ _ b) (skip _ 13 0 (le-ltb _ _ c) refl))))
 
-  pub report-accepted : r .n * r .levels ≤ length worst → r .running ≡ true → r .clock ≤ t → t ≤ 1073741823
+  pub report-accepted : r .n * r .levels ≤ length worst → r .running ≡ true → r .clock ≤ t → t ≤ last-clock
       → report worst t r ≡ record { number = 0; run = ended (getD worst (r .position * r .levels + r .level) 0) t r }
   unfolding report
   report-accepted a runs b c =
@@ -246,7 +247,7 @@ pub data Called (order : List ℕ) (limits bounds : List ℤ) (worst : List ℕ)
 
 module _ (n L : ℕ) (order : List ℕ) (limits bounds : List ℤ) (worst : List ℕ) (d : ℕ → ℕ → ℕ)
     (counts : InRange (begun n L 0)) (orders : n ≤ length order) (limited : n * L ≤ length limits) (bounded : n * L * 16 ≤ length bounds)
-    (timed : n * L ≤ length worst) (short : (p q : ℕ) → p < n → q < L → d p q ≤ 16777215) where
+    (timed : n * L ≤ length worst) (short : (p q : ℕ) → p < n → q < L → d p q ≤ longest-time) where
   P : Plan
   P = lent n L limits bounds
 
@@ -280,7 +281,7 @@ module _ (n L : ℕ) (order : List ℕ) (limits bounds : List ℤ) (worst : List
   -- the record before position i is in range, and its clock no later than the longest times make it
   record Good (i : ℕ) : Type 0 where
     ranges : InRange (at i)
-    early : at i .clock ≤ i * 16777215
+    early : at i .clock ≤ i * longest-time
 
   runs : (i : ℕ) → next i .running ≡ true
   unfolding next given
@@ -306,11 +307,11 @@ module _ (n L : ℕ) (order : List ℕ) (limits bounds : List ℤ) (worst : List
     level-low : next i .level < L
     level-low = omega (arith, in-turn i l g .level, same .levels, levels-at i)
 
-    ends-early : end i ≤ suc i * 16777215
+    ends-early : end i ≤ suc i * longest-time
     unfolding end
     ends-early = omega (arith, g .early, short (at i .position) (next i .level) (omega (arith, position-at i)) level-low)
 
-    ends-in-range : end i ≤ 1073741823
+    ends-in-range : end i ≤ last-clock
     ends-in-range = omega (arith, ends-early, few)
 
   good : (i : ℕ) → i ≤ n → Good i

@@ -13,6 +13,7 @@ use lib.IntN.{pos}
 use lib.ListN.{length, getD}
 use lib.Pow.{pow-mono}
 use lib.Signed.{leZ, _≤ℤ_}
+use Rattle.rules.specs.Numbers.{last-clock, refused-unfit}
 use Rattle.rules.specs.Words.{all-pass, last-passing, sum, greatest-of, least-of, cat}
 use Rattle.rules.specs.Image.{Profile, has, due, header, version, actions, levels, cycle, header-spare, record-bytes, record-at, image-bytes, mask-of, deadline-of, spare-of, average-of, worst-of, profile, header-of, level-image, record-image, image}
 use Rattle.rules.specs.Order.{Order, TheOrder, Fit}
@@ -100,7 +101,7 @@ plain s =
     && (eqb (version s) 1
     && ((leb 1 (F .n) && leb (F .n) 64)
     && ((leb 1 (F .levels) && leb (F .levels) 8)
-    && ((leb 1 (F .cycle) && leb (F .cycle) 1073741823)
+    && ((leb 1 (F .cycle) && leb (F .cycle) last-clock)
     && (eqb (length s) (image-bytes (F .n) (F .levels)) && (eqb (header-spare s) 0 && all-pass (orderly s) (F .n)))))))
 
 within : (m n : ℕ) → leb m n ≡ true → n < m → ⊥
@@ -153,7 +154,7 @@ module _ (s : List ℕ) (ok : plain s ≡ true) where
       let b = and-true (eqb (version s) 1) _ .0 (a .1) in
       let c = and-true (leb 1 (F .n) && leb (F .n) 64) _ .0 (b .1) in
       let d = and-true (leb 1 (F .levels) && leb (F .levels) 8) _ .0 (c .1) in
-      let e = and-true (leb 1 (F .cycle) && leb (F .cycle) 1073741823) _ .0 (d .1) in
+      let e = and-true (leb 1 (F .cycle) && leb (F .cycle) last-clock) _ .0 (d .1) in
       let f = and-true (eqb (length s) (image-bytes (F .n) (F .levels))) _ .0 (e .1) in
       let g = and-true (eqb (header-spare s) 0) (all-pass (orderly s) (F .n)) .0 (f .1) in
       record {
@@ -166,7 +167,7 @@ module _ (s : List ℕ) (ok : plain s ≡ true) where
       }
     where
       counts : (leb 1 (profile s .n) ≡ true) × (leb (profile s .n) 64 ≡ true) → (leb 1 (profile s .levels) ≡ true) × (leb (profile s .levels) 8 ≡ true)
-          → (leb 1 (profile s .cycle) ≡ true) × (leb (profile s .cycle) 1073741823 ≡ true) → Count (profile s) → ⊥
+          → (leb 1 (profile s .cycle) ≡ true) × (leb (profile s .cycle) last-clock ≡ true) → Count (profile s) → ⊥
       counts n L c (inl (inl h)) = within _ _ (n .0) h
       counts n L c (inl (inr (inl h))) = within _ _ (n .1) h
       counts n L c (inl (inr (inr (inl h)))) = within _ _ (L .0) h
@@ -195,7 +196,7 @@ module _ (s : List ℕ) (ok : plain s ≡ true) where
       fit : (pos 0 ≤ℤ limit (tables (profile s) o) 0 0) ↔ Fit (profile s)
       fit = fit-limit x (plain-is .count) table 0
 
-      last : (b : Bool) → leZ (pos 0) (limit (tables (profile s) o) 0 0) ≡ b → First (9 when Unfit (profile s) ∷ []) (cond b 0 9)
+      last : (b : Bool) → leZ (pos 0) (limit (tables (profile s) o) 0 0) ≡ b → First (refused-unfit when Unfit (profile s) ∷ []) (cond b 0 9)
       last true e = inr ((λ unfit. unfit (fit .0 (record { le = pass _ e }))), refl)
       last false e = inl ((λ f. true≢false (sym (passed _ (fit .1 f .le)) ∙ e)), refl)
 

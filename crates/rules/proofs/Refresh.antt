@@ -10,6 +10,7 @@ use native.Mathlib.Omega.{arith}
 use borrow.Author.Count.{below-more}
 use borrow.Author.Tests.{eqb-true, ne-eqb}
 use lib.Dec.{eqb, lit<}
+use Rattle.rules.specs.Numbers.{last-clock, refused-trace, refused-name, refused-duration, refused-room}
 use Rattle.rules.specs.Words.{sum}
 use Rattle.rules.specs.Image.{Profile, due, profile}
 use Rattle.rules.specs.Refusals.{Ground, _when_, First, Count, Range, TimeOut, Table, Looped, Unfit, Tight}
@@ -75,10 +76,10 @@ refresh-sound s trace rooms p = ⊎-elim (λ refused. absurd (refused .1 refl)) 
   where
     row : List Ground
     row =
-        14 when Trace trace
-        ∷ 15 when Named (profile s) trace
-        ∷ 16 when ((r : ℕ) × FirstFault (profile s) trace r)
-        ∷ 17 when Tight rooms
+        refused-trace when Trace trace
+        ∷ refused-name when Named (profile s) trace
+        ∷ refused-duration when ((r : ℕ) × FirstFault (profile s) trace r)
+        ∷ refused-room when Tight rooms
         ∷ []
 
     none : First row 0 ↔ None row
@@ -121,11 +122,11 @@ module _ (trace : List ℕ) (a q : ℕ) where
       one true = omega arith
       one false = omega arith
 
-  pub summed-most : (m : ℕ) → summed trace a q m ≤ m * 1073741823
+  pub summed-most : (m : ℕ) → summed trace a q m ≤ m * last-clock
   unfolding summed duration-of
-  summed-most m = sum-within m 1073741823 (λ r. cond (measures trace a q r) (duration-of trace r) 0) (λ r l. one (measures trace a q r) r)
+  summed-most m = sum-within m last-clock (λ r. cond (measures trace a q r) (duration-of trace r) 0) (λ r l. one (measures trace a q r) r)
     where
-      one : (b : Bool) (r : ℕ) → cond b (duration-of trace r) 0 ≤ 1073741823
+      one : (b : Bool) (r : ℕ) → cond b (duration-of trace r) 0 ≤ last-clock
       one true r = omega arith
       one false r = omega arith
 

@@ -6,6 +6,7 @@ use mathlib.Core.List.{List, [], _∷_}
 use mathlib.Core.Logic.{_↔_}
 use lib.IntN.{ℤ, pos}
 use lib.ListN.{getD}
+use Rattle.rules.specs.Numbers.{longest-coast}
 use Rattle.rules.specs.Words.{tab, rows}
 use Rattle.rules.specs.Image.{Profile, image}
 use Rattle.rules.specs.Order.{Order, TheOrder}
@@ -84,8 +85,8 @@ Answers F (run durations) reply =
     (o : Order (F .n)) × TheOrder F o
     × (let S = tables F o in
     let d : ℕ → ℕ → ℕ = λ i q. getD durations i 0 in
-    let end : Run = before 16 (planned S) (S .worst) d 0 (S .n) in
-    (tab (level-of 16 (planned S) (S .worst) d 0) (S .n) ≡ reply .0) × ((end .decisions ≡ reply .1) × (end .clock ≡ reply .2)))
+    let end : Run = before longest-coast (planned S) (S .worst) d 0 (S .n) in
+    (tab (level-of longest-coast (planned S) (S .worst) d 0) (S .n) ≡ reply .0) × ((end .decisions ≡ reply .1) × (end .clock ≡ reply .2)))
 Answers F (read i k q t) reply = (o : Order (F .n)) × TheOrder F o × (reading (tables F o) i k q t ≡ reply)
 
 pub record Case : Type 0 where

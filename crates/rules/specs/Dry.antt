@@ -4,6 +4,7 @@ use mathlib.Core.Bool.{Bool}
 use mathlib.Core.List.{List, [], _∷_, _++_}
 use lib.IntN.{ℤ}
 use lib.ListN.{getD}
+use Rattle.rules.specs.Numbers.{longest-time, longest-coast, refused-count, refused-duration, refused-room}
 use Rattle.rules.specs.Words.{tab, one-if}
 use Rattle.rules.specs.Limits.{Plan}
 use Rattle.rules.specs.Image.{profile}
@@ -38,23 +39,23 @@ cell table L i q = getD table (i * L + q) 0
 
 -- It writes n levels and n decided marks (1 or 0), and answers decisions, end, overrun and late, the fields of the last record.
 unfoldable pub dry-levels : ℕ → ℕ → List ℤ → List ℕ → List ℤ → List ℕ → List ℕ
-dry-levels n L limits worst bounds durations = tab (level-of 16 (lent n L limits bounds) (cell worst L) (cell durations L) 0) n
+dry-levels n L limits worst bounds durations = tab (level-of longest-coast (lent n L limits bounds) (cell worst L) (cell durations L) 0) n
 
 unfoldable pub dry-marks : ℕ → ℕ → List ℤ → List ℕ → List ℤ → List ℕ → List ℕ
-dry-marks n L limits worst bounds durations = tab (λ i. one-if (decided 16 (lent n L limits bounds) (cell worst L) (cell durations L) 0 i)) n
+dry-marks n L limits worst bounds durations = tab (λ i. one-if (decided longest-coast (lent n L limits bounds) (cell worst L) (cell durations L) 0 i)) n
 
 unfoldable pub dry-end : ℕ → ℕ → List ℤ → List ℕ → List ℤ → List ℕ → Run
-dry-end n L limits worst bounds durations = before 16 (lent n L limits bounds) (cell worst L) (cell durations L) 0 n
+dry-end n L limits worst bounds durations = before longest-coast (lent n L limits bounds) (cell worst L) (cell durations L) 0 n
 
 -- 16 Duration: an entry above 16,777,215
 abbrev pub LongEntry : ℕ → List ℕ → Type 0
-LongEntry cells durations = (k : ℕ) × (k < cells) × (16777215 < getD durations k 0)
+LongEntry cells durations = (k : ℕ) × (k < cells) × (longest-time < getD durations k 0)
 
 -- Refusals 3, 17, 16.
 abbrev pub dry-call : ℕ → ℕ → List ℕ → List (ℕ × ℕ) → List Ground
-dry-call n L durations rooms = 3 when CountsOut n L ∷ 17 when Tight rooms ∷ 16 when LongEntry (n * L) durations ∷ []
+dry-call n L durations rooms = refused-count when CountsOut n L ∷ refused-room when Tight rooms ∷ refused-duration when LongEntry (n * L) durations ∷ []
 
 -- Of an image and durations: the image's, then 17, 16.
 abbrev pub frame-call : List ℕ → List ℕ → List (ℕ × ℕ) → List Ground
 frame-call s durations rooms =
-    image-checks s ++ (17 when Tight rooms ∷ 16 when LongEntry (profile s .n * profile s .levels) durations ∷ [])
+    image-checks s ++ (refused-room when Tight rooms ∷ refused-duration when LongEntry (profile s .n * profile s .levels) durations ∷ [])

@@ -4,6 +4,7 @@ use mathlib.Core.Bool.{Bool, cond}
 use mathlib.Core.List.{List, [], _∷_, _++_}
 use lib.Dec.{eqb}
 use lib.ListN.{getD}
+use Rattle.rules.specs.Numbers.{header-bytes, head-bytes, level-bytes, deadline-at, average-at, worst-at}
 use Rattle.rules.specs.Words.{cat}
 
 -- ---- a profile
@@ -43,11 +44,8 @@ bytes (suc (suc w)) v = v / 256 ^ suc w % 256 ∷ bytes (suc w) v
 
 -- ---- the header, 48 bits: version 4, actions 7, levels 4, cycle 30, spare 3
 
-abbrev pub header-bytes : ℕ
-header-bytes = 6
-
 unfoldable pub header : List ℕ → ℕ
-header s = be s 0 6
+header s = be s 0 header-bytes
 
 unfoldable pub version : List ℕ → ℕ
 version s = header s / 2 ^ 44
@@ -68,7 +66,7 @@ header-spare s = header s % 2 ^ 3
 
 -- the bytes of a record with L levels, and where the record of action a starts
 unfoldable pub record-bytes : ℕ → ℕ
-record-bytes L = 12 + 6 * L
+record-bytes L = head-bytes + level-bytes * L
 
 unfoldable pub record-at : ℕ → ℕ → ℕ
 record-at L a = header-bytes + a * record-bytes L
@@ -81,16 +79,16 @@ unfoldable pub mask-of : List ℕ → ℕ → ℕ
 mask-of s a = be s (record-at (levels s) a) 8
 
 unfoldable pub deadline-of : List ℕ → ℕ → ℕ
-deadline-of s a = be s (record-at (levels s) a + 8) 4 / 2 ^ 2
+deadline-of s a = be s (record-at (levels s) a + deadline-at) 4 / 2 ^ 2
 
 unfoldable pub spare-of : List ℕ → ℕ → ℕ
-spare-of s a = be s (record-at (levels s) a + 8) 4 % 2 ^ 2
+spare-of s a = be s (record-at (levels s) a + deadline-at) 4 % 2 ^ 2
 
 unfoldable pub average-of : List ℕ → ℕ → ℕ → ℕ
-average-of s a q = be s (record-at (levels s) a + 12 + 6 * q) 3
+average-of s a q = be s (record-at (levels s) a + average-at + level-bytes * q) 3
 
 unfoldable pub worst-of : List ℕ → ℕ → ℕ → ℕ
-worst-of s a q = be s (record-at (levels s) a + 15 + 6 * q) 3
+worst-of s a q = be s (record-at (levels s) a + worst-at + level-bytes * q) 3
 
 -- ---- reading and writing
 
@@ -131,4 +129,4 @@ record-image F a = bytes 8 (F .mask a) ++ (bytes 4 (F .deadline a * 2 ^ 2) ++ ca
 
 -- Writing packs a profile.
 unfoldable pub image : Profile → List ℕ
-image F = bytes 6 (header-of F) ++ cat (record-image F) (F .n)
+image F = bytes header-bytes (header-of F) ++ cat (record-image F) (F .n)

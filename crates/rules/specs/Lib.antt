@@ -1,3 +1,4 @@
+pub mod Numbers
 pub mod Words
 pub mod Image
 pub mod Order

@@ -2,6 +2,7 @@
 use Prim.Native.Nat.{ℕ, suc, _+_, _-_, _<_}
 use mathlib.Core.Path.{_≡_}
 use mathlib.Core.Bool.{cond}
+use mathlib.Core.List.{List}
 use mathlib.Core.Logic.{_⊎_}
 use lib.Dec.{ltb}
 use lib.IntN.{ℤ, pos, negsuc, _-ℤ_}
@@ -57,6 +58,16 @@ absent = negsuc 2147483647
 unfoldable pub coast-bound : Tables → (ℕ → ℕ → ℤ) → ℕ → ℕ → ℕ → ℤ
 coast-bound S limit i q r =
     cond (ltb (S .n - i) r) absent (least-of (λ j. limit j q -ℤ pos (span (λ p. S .worst p q) i j)) i (r - 1))
+
+-- ---- the tables as lists
+
+-- What the planner writes, as it is lent to a call, whoever wrote it: the order, n; the limits and the worst times by position, n by L; the
+-- coast bounds, n by L by 16. A list that a call does not take is empty.
+pub record LentTables : Type 0 where
+  pub order : List ℕ
+  pub limits : List ℤ
+  pub worst : List ℕ
+  pub bounds : List ℤ
 
 -- ---- what the manager reads
 

@@ -5,6 +5,7 @@ use mathlib.Core.List.{List, [], _∷_, _++_}
 use mathlib.Core.Logic.{_⊎_, _≢_}
 use lib.Dec.{eqb}
 use lib.ListN.{length}
+use Rattle.rules.specs.Numbers.{most-records, entry-bytes, refused-trace, refused-name, refused-duration, refused-room}
 use Rattle.rules.specs.Words.{sum}
 use Rattle.rules.specs.Image.{Profile, be, profile, image}
 use Rattle.rules.specs.Refusals.{Ground, _when_, Tight, image-checks}
@@ -12,10 +13,10 @@ use Rattle.rules.specs.Refusals.{Ground, _when_, Tight, image-checks}
 -- ---- a trace record, 40 bits: open 1, action 6, level 3, duration 30
 
 unfoldable pub records : List ℕ → ℕ
-records trace = length trace / 5
+records trace = length trace / entry-bytes
 
 unfoldable pub entry : List ℕ → ℕ → ℕ
-entry trace r = be trace (r * 5) 5
+entry trace r = be trace (r * entry-bytes) entry-bytes
 
 unfoldable pub open-of : List ℕ → ℕ → Bool
 open-of trace r = eqb (entry trace r / 2 ^ 39) 1
@@ -79,7 +80,7 @@ new-image s trace = image (refreshed (profile s) trace)
 
 -- 14 Trace: length not a multiple of 5, or over 65,535 records
 abbrev pub Trace : List ℕ → Type 0
-Trace trace = (length trace % 5 ≢ 0) ⊎ (65535 < records trace)
+Trace trace = (length trace % entry-bytes ≢ 0) ⊎ (most-records < records trace)
 
 -- 15 Name: a record names an absent action or level
 abbrev pub Name : Profile → List ℕ → ℕ → Type 0
@@ -99,8 +100,8 @@ FirstFault F trace r = (r < records trace) × (Fault F trace r × ((e : ℕ) →
 abbrev pub refresh-call : List ℕ → List ℕ → List (ℕ × ℕ) → List Ground
 refresh-call s trace rooms =
     image-checks s
-    ++ (14 when Trace trace
-    ∷ 15 when ((r : ℕ) × FirstFault (profile s) trace r × Name (profile s) trace r)
-    ∷ 16 when ((r : ℕ) × FirstFault (profile s) trace r)
-    ∷ 17 when Tight rooms
+    ++ (refused-trace when Trace trace
+    ∷ refused-name when ((r : ℕ) × FirstFault (profile s) trace r × Name (profile s) trace r)
+    ∷ refused-duration when ((r : ℕ) × FirstFault (profile s) trace r)
+    ∷ refused-room when Tight rooms
     ∷ [])

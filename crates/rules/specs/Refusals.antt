@@ -6,6 +6,7 @@ use mathlib.Core.List.{List, [], _∷_, _++_}
 use mathlib.Core.Logic.{_⊎_, _≢_}
 use lib.Dec.{eqb}
 use lib.ListN.{length}
+use Rattle.rules.specs.Numbers.{most-actions, most-levels, last-clock, longest-time, header-bytes, refused-short, refused-version, refused-count, refused-length, refused-spare, refused-range, refused-table, refused-loop, refused-unfit, refused-name, refused-room}
 use Rattle.rules.specs.Image.{Profile, has, version, header-spare, spare-of, image-bytes, profile}
 use Rattle.rules.specs.Order.{Loop, Before, Fit}
 
@@ -42,10 +43,10 @@ first (t ∷ row) = cond (t .fails) (t .number) (first row)
 
 -- 3 Count: n, L or cycle outside its range
 abbrev pub CountsOut : ℕ → ℕ → Type 0
-CountsOut n L = (n < 1) ⊎ ((64 < n) ⊎ ((L < 1) ⊎ (8 < L)))
+CountsOut n L = (n < 1) ⊎ ((most-actions < n) ⊎ ((L < 1) ⊎ (most-levels < L)))
 
 abbrev pub Count : Profile → Type 0
-Count F = CountsOut (F .n) (F .levels) ⊎ ((F .cycle < 1) ⊎ (1073741823 < F .cycle))
+Count F = CountsOut (F .n) (F .levels) ⊎ ((F .cycle < 1) ⊎ (last-clock < F .cycle))
 
 -- 6 Range: deadline above the cycle, or a mask names action n or more
 abbrev pub Range : Profile → Type 0
@@ -53,7 +54,7 @@ Range F = (a : ℕ) × (a < F .n) × ((F .cycle < F .deadline a) ⊎ ((b : ℕ) 
 
 -- on writing, also a time above 16,777,215
 abbrev pub TimeOut : Profile → Type 0
-TimeOut F = (a : ℕ) × (a < F .n) × ((q : ℕ) × (q < F .levels) × ((16777215 < F .average a q) ⊎ (16777215 < F .worst a q)))
+TimeOut F = (a : ℕ) × (a < F .n) × ((q : ℕ) × (q < F .levels) × ((longest-time < F .average a q) ⊎ (longest-time < F .worst a q)))
 
 -- 7 Table: average above worst, or a time that falls with the level
 abbrev pub Falls : (ℕ → ℕ) → ℕ → Type 0
@@ -74,7 +75,7 @@ Unfit F = Fit F → ⊥
 
 -- 1 Short, 2 Version, 4 Length, 5 Spare
 abbrev pub Short : List ℕ → Type 0
-Short s = length s < 6
+Short s = length s < header-bytes
 
 abbrev pub Version : List ℕ → Type 0
 Version s = version s ≢ 1
@@ -88,15 +89,15 @@ Spare s = (header-spare s ≢ 0) ⊎ ((a : ℕ) × (a < profile s .n) × (spare-
 -- Image checks go over the whole image in the order 1 to 9.
 abbrev pub image-checks : List ℕ → List Ground
 image-checks s =
-    1 when Short s
-    ∷ 2 when Version s
-    ∷ 3 when Count (profile s)
-    ∷ 4 when Length s
-    ∷ 5 when Spare s
-    ∷ 6 when Range (profile s)
-    ∷ 7 when Table (profile s)
-    ∷ 8 when Looped (profile s)
-    ∷ 9 when Unfit (profile s)
+    refused-short when Short s
+    ∷ refused-version when Version s
+    ∷ refused-count when Count (profile s)
+    ∷ refused-length when Length s
+    ∷ refused-spare when Spare s
+    ∷ refused-range when Range (profile s)
+    ∷ refused-table when Table (profile s)
+    ∷ refused-loop when Looped (profile s)
+    ∷ refused-unfit when Unfit (profile s)
     ∷ []
 
 -- An accepted image.
@@ -116,19 +117,19 @@ Tight (r ∷ rest) = (r .0 < r .1) ⊎ Tight rest
 
 -- Reading and planning: the image's, then 17.
 abbrev pub image-call : List ℕ → List (ℕ × ℕ) → List Ground
-image-call s rooms = image-checks s ++ (17 when Tight rooms ∷ [])
+image-call s rooms = image-checks s ++ (refused-room when Tight rooms ∷ [])
 
 -- Lookup of action a: the image's, then 15.
 abbrev pub lookup-call : List ℕ → ℕ → List Ground
-lookup-call s a = image-checks s ++ (15 when (profile s .n ≤ a) ∷ [])
+lookup-call s a = image-checks s ++ (refused-name when (profile s .n ≤ a) ∷ [])
 
 -- Writing: 3, 17, 6, 7, 8, 9.
 abbrev pub write-call : Profile → List (ℕ × ℕ) → List Ground
 write-call F rooms =
-    3 when Count F
-    ∷ 17 when Tight rooms
-    ∷ 6 when (Range F ⊎ TimeOut F)
-    ∷ 7 when Table F
-    ∷ 8 when Looped F
-    ∷ 9 when Unfit F
+    refused-count when Count F
+    ∷ refused-room when Tight rooms
+    ∷ refused-range when (Range F ⊎ TimeOut F)
+    ∷ refused-table when Table F
+    ∷ refused-loop when Looped F
+    ∷ refused-unfit when Unfit F
     ∷ []

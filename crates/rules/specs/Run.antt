@@ -8,6 +8,7 @@ use lib.Dec.{leb, ltb, eqb}
 use lib.IntN.{ℤ, pos}
 use lib.Signed.{leZ, _≤ℤ_}
 use lib.ListN.{length, getD}
+use Rattle.rules.specs.Numbers.{most-actions, most-levels, last-clock, longest-coast, refused-count, refused-finished, refused-turn, refused-back, refused-clock, refused-room}
 use Rattle.rules.specs.Words.{last-passing, all-pass, every, one-if}
 use Rattle.rules.specs.Limits.{Plan}
 use Rattle.rules.specs.Refusals.{_if_, first}
@@ -62,11 +63,11 @@ unfoldable pub in-range : Run → Bool
 in-range r =
     every
     (leb 1 (r .n)
-    ∷ leb (r .n) 64
+    ∷ leb (r .n) most-actions
     ∷ leb 1 (r .levels)
-    ∷ leb (r .levels) 8
+    ∷ leb (r .levels) most-levels
     ∷ leb (r .position) (r .n)
-    ∷ leb (r .clock) 1073741823
+    ∷ leb (r .clock) last-clock
     ∷ leb (r .position + one-if (r .running)) (r .n)
     ∷ ltb (r .level) (r .levels)
     ∷ leb (r .left) 15
@@ -143,7 +144,7 @@ lent n L limits bounds = record {
   n = n;
   levels = L;
   limit = λ i q. getD limits (i * L + q) (pos 0);
-  bound = λ i q r. getD bounds ((i * L + q) * 16 + (r - 1)) (pos 0);
+  bound = λ i q r. getD bounds ((i * L + q) * longest-coast + (r - 1)) (pos 0);
 }
 
 -- What a start and a report answer: the number of the refusal, 0 for none, and the next record.
@@ -158,7 +159,7 @@ pub data Answer : Type 0 where
 
 -- Starting a run checks n and L only (3). A refused start gives a record of zero actions.
 unfoldable pub start-refusal : ℕ → ℕ → ℕ
-start-refusal n L = first (3 if (ltb n 1 || ltb 64 n || ltb L 1 || ltb 8 L) ∷ [])
+start-refusal n L = first (refused-count if (ltb n 1 || ltb most-actions n || ltb L 1 || ltb most-levels L) ∷ [])
 
 unfoldable pub start : ℕ → ℕ → Next
 start n L = cond (eqb (start-refusal n L) 0) (record { number = 0; run = begun n L 0 }) (record { number = start-refusal n L; run = begun 0 0 0 })
@@ -167,16 +168,16 @@ start n L = cond (eqb (start-refusal n L) 0) (record { number = 0; run = begun n
 unfoldable pub ask-refusal : List ℕ → List ℤ → List ℤ → Run → ℕ
 ask-refusal order limits bounds r =
     first
-    (11 if not (in-range r)
-    ∷ 17 if (ltb (length order) (r .n) || ltb (length limits) (r .n * r .levels) || ltb (length bounds) (r .n * r .levels * 16))
-    ∷ 11 if r .running
-    ∷ 10 if eqb (r .position) (r .n)
+    (refused-turn if not (in-range r)
+    ∷ refused-room if (ltb (length order) (r .n) || ltb (length limits) (r .n * r .levels) || ltb (length bounds) (r .n * r .levels * longest-coast))
+    ∷ refused-turn if r .running
+    ∷ refused-finished if eqb (r .position) (r .n)
     ∷ [])
 
 unfoldable pub ask : List ℕ → List ℤ → List ℤ → Run → Answer
 ask order limits bounds r =
     let P : Plan = lent (r .n) (r .levels) limits bounds in
-    let next : Run = given 16 P r in
+    let next : Run = given longest-coast P r in
     cond (eqb (ask-refusal order limits bounds r) 0)
     (gives (getD order (r .position) 0) (next .level) (decides r) (decides r && not (fits P (r .clock) (r .position))) next)
     (refused (ask-refusal order limits bounds r) r)
@@ -185,11 +186,11 @@ ask order limits bounds r =
 unfoldable pub report-refusal : List ℕ → ℕ → Run → ℕ
 report-refusal worst t r =
     first
-    (11 if not (in-range r)
-    ∷ 17 if ltb (length worst) (r .n * r .levels)
-    ∷ 11 if not (r .running)
-    ∷ 12 if ltb t (r .clock)
-    ∷ 13 if ltb 1073741823 t
+    (refused-turn if not (in-range r)
+    ∷ refused-room if ltb (length worst) (r .n * r .levels)
+    ∷ refused-turn if not (r .running)
+    ∷ refused-back if ltb t (r .clock)
+    ∷ refused-clock if ltb last-clock t
     ∷ [])
 
 unfoldable pub report : List ℕ → ℕ → Run → Next

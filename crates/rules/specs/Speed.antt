@@ -6,6 +6,7 @@ use mathlib.Core.Logic.{_⊎_}
 use lib.IntN.{ℤ, pos, negsuc, _-ℤ_}
 use lib.Ieee as Ieee
 use lib.Ieee.{Float, binary64, fin}
+use Rattle.rules.specs.Numbers.{last-clock, refused-clock, refused-reading}
 use Rattle.rules.specs.Image.{profile}
 use Rattle.rules.specs.Limits.{Tables, average, margin}
 use Rattle.rules.specs.Refusals.{Ground, _when_, image-checks}
@@ -42,6 +43,6 @@ at-most-one x = Ieee.le x one
 abbrev pub speed-call : List ℕ → ℕ → ℕ → ℕ → ℕ → List Ground
 speed-call s i k q t =
     image-checks s
-    ++ (18 when ((k < i) ⊎ ((profile s .n ≤ k) ⊎ (profile s .levels ≤ q)))
-    ∷ 13 when (1073741823 < t)
+    ++ (refused-reading when ((k < i) ⊎ ((profile s .n ≤ k) ⊎ (profile s .levels ≤ q)))
+    ∷ refused-clock when (last-clock < t)
     ∷ [])

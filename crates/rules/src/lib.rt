@@ -1,5 +1,7 @@
-// The ranges of the rules, once, for every crate. The rules themselves are mathematics: see specs/ for the definitions and proofs/ for
-// their laws.
+// The numbers of the rules, each once, for every crate; specs/Numbers has them under the same names. The rules themselves are mathematics: see
+// specs/ for the definitions and proofs/ for their laws.
+
+// ---- ranges
 
 // Actions of a profile: 1 to this many.
 pub const MOST_ACTIONS: usize = 64;
@@ -15,3 +17,89 @@ pub const LONGEST_COAST: usize = 16;
 pub const ABSENT: i32 = -2_147_483_648;
 // Records of a trace: 0 to this many.
 pub const MOST_RECORDS: usize = 65_535;
+
+// ---- the image's header, 48 bits: version 4, actions 7, levels 4, cycle 30, spare 3
+
+pub const HEADER_BYTES: usize = 6;
+
+pub const VERSION: u32 = 1;
+// What the last bit of each part is worth.
+pub const VERSION_WORTH: u64 = 17_592_186_044_416;
+
+pub const ACTIONS_WORTH: u64 = 137_438_953_472;
+
+pub const LEVELS_WORTH: u64 = 8_589_934_592;
+
+pub const CYCLE_WORTH: u64 = 8;
+// How many numbers the bits of each part can say.
+pub const ACTIONS_SAID: u64 = 128;
+
+pub const LEVELS_SAID: u64 = 16;
+
+pub const CYCLE_SAID: u64 = 1_073_741_824;
+// The version before the bits of the actions: version 1 is worth as much as they can say.
+pub const VERSION_BEFORE: u64 = 128;
+
+// ---- an action's record: mask 64 bits, deadline 30, spare 2, then by level average 24, worst 24
+
+pub const HEAD_BYTES: usize = 12;
+
+pub const LEVEL_BYTES: usize = 6;
+// From the start of the record: the deadline, and at level 0 the average and the worst time.
+pub const DEADLINE_AT: usize = 8;
+
+pub const AVERAGE_AT: usize = 12;
+
+pub const WORST_AT: usize = 15;
+// What the last bit of the deadline is worth, above two spare bits.
+pub const DEADLINE_WORTH: u32 = 4;
+
+// ---- a trace's record, 40 bits: open 1, action 6, level 3, duration 30
+
+pub const ENTRY_BYTES: usize = 5;
+// How many numbers a duration's bits can say.
+pub const DURATION_SAID: u32 = 1_073_741_824;
+
+// ---- refusals
+
+// What every call answers of a refusal: its number, 0 for none.
+#[repr(C)]
+pub struct Refusal {
+    pub number: u32,
+}
+
+pub const REFUSED_SHORT: u32 = 1;
+
+pub const REFUSED_VERSION: u32 = 2;
+
+pub const REFUSED_COUNT: u32 = 3;
+
+pub const REFUSED_LENGTH: u32 = 4;
+
+pub const REFUSED_SPARE: u32 = 5;
+
+pub const REFUSED_RANGE: u32 = 6;
+
+pub const REFUSED_TABLE: u32 = 7;
+
+pub const REFUSED_LOOP: u32 = 8;
+
+pub const REFUSED_UNFIT: u32 = 9;
+
+pub const REFUSED_FINISHED: u32 = 10;
+
+pub const REFUSED_TURN: u32 = 11;
+
+pub const REFUSED_BACK: u32 = 12;
+
+pub const REFUSED_CLOCK: u32 = 13;
+
+pub const REFUSED_TRACE: u32 = 14;
+
+pub const REFUSED_NAME: u32 = 15;
+
+pub const REFUSED_DURATION: u32 = 16;
+
+pub const REFUSED_ROOM: u32 = 17;
+
+pub const REFUSED_READING: u32 = 18;

@@ -10,6 +10,7 @@ use lib.Dec.{ltb, eqb, lit<}
 use lib.IntN.{ℤ}
 use lib.ListN.{length}
 use borrow.Author.Tests.{ltb-false, eqb-false, not-false}
+use Rattle.rules.specs.Numbers.{last-clock}
 use Rattle.rules.specs.Words.{one-if}
 use Rattle.rules.specs.Refusals.{first}
 use Rattle.rules.specs.Run.{Run, in-range, ask-refusal, report-refusal}
@@ -64,7 +65,7 @@ module _ (worst : List ℕ) (t : ℕ) (r : Run) where
     pub runs : r .running ≡ true
     pub room : r .n * r .levels ≤ length worst
     pub onward : r .clock ≤ t
-    pub in-time : t ≤ 1073741823
+    pub in-time : t ≤ last-clock
     pub more : r .position < r .n
     pub row : r .position * r .levels + r .levels ≤ r .n * r .levels
     pub few : r .n * r .levels ≤ 512
@@ -76,7 +77,7 @@ module _ (worst : List ℕ) (t : ℕ) (r : Run) where
       let b = clear (ltb (length worst) (r .n * r .levels)) 17 _ (lit< tt) (a .1) in
       let c = clear (not (r .running)) 11 _ (lit< tt) (b .1) in
       let d = clear (ltb t (r .clock)) 12 _ (lit< tt) (c .1) in
-      let g = clear (ltb 1073741823 t) 13 0 (lit< tt) (d .1) in
+      let g = clear (ltb last-clock t) 13 0 (lit< tt) (d .1) in
       let f = in-range-facts r (not-false (in-range r) (a .0)) in
       let runs = not-false (r .running) (c .0) in
       let more : r .position < r .n = omega (arith, f .running, ap one-if runs) in

@@ -18,7 +18,7 @@ use Rattle.rules.specs.Run.{ask-refusal, ask, report-refusal, report}
 use Rattle.rules.specs.Run.Answer.{refused, gives}
 use Rattle.rules.proofs.Tests.{failed, last-is}
 use Rattle.rules.proofs.Calls.{InRange, in-range-facts}
-use Rattle.decision.proofs.Rows.{into, past}
+use Rattle.run_decision.proofs.Rows.{into, past}
 use Rattle.run.specs.Calls.{Open}
 
 -- ---- a decision

@@ -103,7 +103,7 @@ impl Run {
         if !counts_fit(n as usize, levels as usize) {
             return Started {
                 run: begun(0, 0),
-                refusal: 3,
+                refusal: rules::REFUSED_COUNT,
             };
         }
         Started {
@@ -158,9 +158,9 @@ impl Run {
         let position = self.position as usize;
         let t = self.clock;
         let from = position * levels;
-        let level = decision::last_within(limits, from, levels, t);
-        let late = !decision::within(limits, from + level, t);
-        let left = decision::left_granted(limits, bounds, n, levels, position, level, t);
+        let level = run_decision::last_within(limits, from, levels, t);
+        let late = !run_decision::within(limits, from + level, t);
+        let left = run_decision::left_granted(limits, bounds, n, levels, position, level, t);
         Decided {
             run: Run {
                 n: self.n,
@@ -242,7 +242,7 @@ impl Run {
         ensures { λ r. ⌜ r ≡ ask-refusal (now (order .entry)) (now (limits .entry)) (now (bounds .entry)) (run-of self) ⌝ }
     {
         if !self.in_range() {
-            return 11;
+            return rules::REFUSED_TURN;
         }
         let n = self.n as usize;
         let cells = n * self.levels as usize;
@@ -250,13 +250,13 @@ impl Run {
             | (limits.len() < cells)
             | (bounds.len() < cells * rules::LONGEST_COAST)
         {
-            return 17;
+            return rules::REFUSED_ROOM;
         }
         if self.running {
-            return 11;
+            return rules::REFUSED_TURN;
         }
         if self.position == self.n {
-            return 10;
+            return rules::REFUSED_FINISHED;
         }
         0
     }
@@ -303,19 +303,19 @@ impl Run {
         ensures { λ r. ⌜ r ≡ report-refusal (now (worst .entry)) clock (run-of self) ⌝ }
     {
         if !self.in_range() {
-            return 11;
+            return rules::REFUSED_TURN;
         }
         if worst.len() < self.n as usize * self.levels as usize {
-            return 17;
+            return rules::REFUSED_ROOM;
         }
         if !self.running {
-            return 11;
+            return rules::REFUSED_TURN;
         }
         if clock < self.clock {
-            return 12;
+            return rules::REFUSED_BACK;
         }
         if rules::LAST_CLOCK < clock {
-            return 13;
+            return rules::REFUSED_CLOCK;
         }
         0
     }

@@ -9,23 +9,24 @@ use native.Mathlib.Omega.{arith}
 use lib.Dec.{lit<}
 use lib.IntN.{pos, _-ℤ_}
 use lib.ListN.{getD}
+use Rattle.rules.specs.Numbers.{last-clock}
 use Rattle.rules.specs.Image.{due, profile}
 use Rattle.rules.specs.Refusals.{First, image-checks}
 use Rattle.rules.specs.Speed.{reading-by, speed-call}
 use Rattle.rules.proofs.Differences.{not-above}
 use Rattle.rules.proofs.Refusals.{Sound, first-one, first-none, first-stops, first-goes-on, image-numbered, accepted-parts}
 use Rattle.rules.proofs.Order.OfProfile.{order-settled}
-use Rattle.image.specs.declared.Checked.{Checked}
-use Rattle.image.specs.Checks.{Judged}
-use Rattle.records.proofs.Reading.{has-record}
-use Rattle.image.proofs.Answers.{accepted-records}
-use Rattle.ratio.specs.declared.Reading.{Reading}
-use Rattle.ratio.specs.declared.Reading.the-variants.{Refused}
-use Rattle.ratio.specs.declared.Stretch.{Stretch}
-use Rattle.ratio.specs.Ratio.{gives, refuses, reading-of}
-use Rattle.ratio.specs.Stretch.{Of}
-use Rattle.ratio.proofs.Answers.{reading-one}
-use Rattle.ratio.proofs.Stretches.{reading-is}
+use Rattle.image_check.specs.declared.Checked.{Checked}
+use Rattle.image_check.specs.Checks.{Judged}
+use Rattle.image_fields.proofs.Reading.{has-record}
+use Rattle.image_check.proofs.Answers.{accepted-records}
+use Rattle.speed_stretch.specs.declared.Reading.{Reading}
+use Rattle.speed_stretch.specs.declared.Reading.the-variants.{Refused}
+use Rattle.speed_stretch.specs.declared.Stretch.{Stretch}
+use Rattle.speed_stretch.specs.Ratio.{gives, refuses, reading-of}
+use Rattle.speed_stretch.specs.Stretch.{Of}
+use Rattle.speed_stretch.proofs.Answers.{reading-one}
+use Rattle.speed_stretch.proofs.Stretches.{reading-is}
 use Rattle.speed.specs.Speed.{Reads, own-checks, listed, Readable}
 use Rattle.speed.proofs.Alike.{same-actions, reading-same}
 
@@ -36,7 +37,7 @@ pub record InRange (n levels i k q t : ℕ) : Type 0 where
   pub ordered : i ≤ k
   pub position : k < n
   pub level : q < levels
-  pub clock : t ≤ 1073741823
+  pub clock : t ≤ last-clock
 
 pub in-range : (n levels i k q t : ℕ) → First (own-checks n levels i k q t) 0 → InRange n levels i k q t
 in-range n levels i k q t none =

@@ -3,8 +3,9 @@ use Prim.Native.Nat.{ℕ, _+_, _≤_, _<_}
 use mathlib.Core.List.{List}
 use native.Mathlib.Omega.{arith}
 use lib.ListN.{getD}
+use Rattle.rules.specs.Numbers.{longest-time}
 use Rattle.rules.specs.Image.{be, average-of, worst-of, profile}
-use Rattle.ratio.proofs.Stretches.{Times}
+use Rattle.speed_stretch.proofs.Stretches.{Times}
 use Rattle.speed.specs.Speed.{listed}
 
 -- a list of bytes
@@ -16,5 +17,5 @@ pub listed-times : (s actions : List ℕ) (k q : ℕ) → Bytes s → Times (lis
 unfolding profile average-of worst-of
 listed-times s actions k q byte = record { average = λ p l. short _; worst = λ p l. short _; worst0 = λ p l. short _ }
   where
-    short : (at : ℕ) → be s at 3 ≤ 16777215
+    short : (at : ℕ) → be s at 3 ≤ longest-time
     short at = omega (arith, byte at, byte (at + 1), byte (at + 2))

@@ -17,8 +17,8 @@ use Rattle.rules.proofs.Refusals.{first-one}
 use Rattle.rules.proofs.Order.OfProfile.{order-settled}
 use Rattle.rules.proofs.Tests.{passed, pass, true-or-false}
 use Rattle.rules.proofs.Speed.Reading.{Exact, reading-spent, image-exact}
-use Rattle.ratio.specs.declared.Reading.the-variants.{Ratio, Spent, Refused}
-use Rattle.ratio.specs.Ratio.{gives, refuses}
+use Rattle.speed_stretch.specs.declared.Reading.the-variants.{Ratio, Spent, Refused}
+use Rattle.speed_stretch.specs.Ratio.{gives, refuses}
 use Rattle.speed.specs.Speed.{Reads, Tells}
 use Rattle.speed.proofs.Alike.{same-actions, on-time-same}
 use Rattle.speed.proofs.Listed.{Bytes}

@@ -7,14 +7,15 @@ use mathlib.Core.Logic.{_⊎_, _≢_, _↔_}
 use lib.IntN.{pos, _-ℤ_}
 use lib.ListN.{getD}
 use lib.Signed.{_≤ℤ_, _<ℤ_}
+use Rattle.rules.specs.Numbers.{last-clock, refused-clock, refused-reading}
 use Rattle.rules.specs.Image.{Profile, due, profile}
 use Rattle.rules.specs.Order.{Order, TheOrder}
 use Rattle.rules.specs.Limits.{Tables, tables, mixed}
 use Rattle.rules.specs.Refusals.{Ground, _when_, First}
 use Rattle.rules.specs.Speed.{room, reading, speed-call}
-use Rattle.ratio.specs.declared.Reading.{Reading}
-use Rattle.ratio.specs.Ratio.{gives, refuses, reading-of}
-use Rattle.records.specs.Reading.{HasRecord}
+use Rattle.speed_stretch.specs.declared.Reading.{Reading}
+use Rattle.speed_stretch.specs.Ratio.{gives, refuses, reading-of}
+use Rattle.image_fields.specs.Reading.{HasRecord}
 
 -- r answers the speed reading of positions first to last at the level and time t: the first number of refusal that is given, or the reading
 -- by the profile's order.
@@ -44,7 +45,7 @@ Absent n levels i k q = (k < i) ⊎ ((n ≤ k) ⊎ (levels ≤ q))
 
 -- the call's own refusals, after the image's
 abbrev pub own-checks : ℕ → ℕ → ℕ → ℕ → ℕ → ℕ → List Ground
-own-checks n levels i k q t = 18 when Absent n levels i k q ∷ 13 when (1073741823 < t) ∷ []
+own-checks n levels i k q t = refused-reading when Absent n levels i k q ∷ refused-clock when (last-clock < t) ∷ []
 
 -- the profile F by position, where f has the action at each position: tables F o is by-position F (o .at)
 abbrev pub by-position : Profile → (ℕ → ℕ) → Tables

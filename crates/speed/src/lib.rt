@@ -1,13 +1,13 @@
 // The speed reading of an image: how fast positions in a row must run at a level to end in time.
-use image::whole;
-use ratio::Reading;
-use ratio::Stretch;
-use records::read;
+use image_check::whole;
+use image_fields::read;
+use speed_stretch::Reading;
+use speed_stretch::Stretch;
 ghost use mathlib.Core.Path.{_≡_};
 ghost use mathlib.Core.Bool.{true};
 ghost use mathlib.Core.Logic.{_↔_};
 ghost use Rattle.rules.specs.Refusals.{First};
-ghost use Rattle.ratio.specs.Stretch.{Of, Small};
+ghost use Rattle.speed_stretch.specs.Stretch.{Of, Small};
 ghost use Rattle.speed.specs.Speed.{Reads, Tells, Absent, own-checks, listed, Readable};
 
 // The first position is above the last one, or a position or the level is absent.
@@ -32,10 +32,10 @@ fn own_refusal(n: usize, levels: usize, first: usize, last: usize, level: usize,
 {
     let absent = is_absent(n, levels, first, last, level);
     if absent {
-        return 18;
+        return rules::REFUSED_READING;
     }
     if rules::LAST_CLOCK < t {
-        return 13;
+        return rules::REFUSED_CLOCK;
     }
     0
 }
@@ -52,7 +52,7 @@ fn stretch(
     requires { ⌜ Readable (now image) levels (now actions) first last level ⌝ }
     ensures { λ r. ⌜ Of (listed (now (image .entry)) (now (actions .entry))) first last level r × Small r ⌝ }
 {
-    let mut s = ratio::nothing();
+    let mut s = speed_stretch::nothing();
     let mut j = last + 1;
     while first < j {
         j -= 1;
@@ -60,7 +60,7 @@ fn stretch(
         let average = read::average_at(image, levels, a, level);
         let worst = read::worst_at(image, levels, a, level);
         let worst0 = read::worst_at(image, levels, a, 0);
-        s = ratio::longer(s, average, worst, worst0);
+        s = speed_stretch::longer(s, average, worst, worst0);
     }
     s
 }
@@ -82,7 +82,7 @@ pub fn speed_reading(image: &[u8], first: usize, last: usize, level: usize, t: u
     let actions = checked.order;
     let s = stretch(image, levels, &actions, first, last, level);
     let deadline = read::due_at(image, levels, actions[last] as usize, checked.cycle);
-    ratio::read(s.average, deadline, s.margin, t)
+    speed_stretch::read(s.average, deadline, s.margin, t)
 }
 
 // Whether the reading is a ratio of at most 1: the positions, begun at t, end in time at the level.
@@ -90,7 +90,7 @@ pub fn on_time(image: &[u8], first: usize, last: usize, level: usize, t: u32) ->
     ensures { λ b. ⌜ Tells (now (image .entry)) first last level t b ⌝ }
 {
     match speed_reading(image, first, last, level, t) {
-        Reading::Ratio(x) => ratio::at_most_one(x),
+        Reading::Ratio(x) => speed_stretch::at_most_one(x),
         Reading::Spent => false,
         Reading::Refused(_) => false,
     }

@@ -1,6 +1,6 @@
 -- Assumes nothing.
 use borrow.Author.Needs.{needs}
-use Rattle.image.proofs.Answers.{accepted-records}
+use Rattle.image_check.proofs.Answers.{accepted-records}
 use Rattle.planner.proofs.Answers.{image-refused, room-judged}
 use Rattle.planner.proofs.with_room.Statement.{statement}
 use Rattle.planner.proofs.with_room.Tie as tie

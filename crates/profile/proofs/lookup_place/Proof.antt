@@ -7,7 +7,7 @@ use borrow.Author.Needs.{needs}
 use borrow.Author.Tests.{ne-eqb}
 use Rattle.rules.specs.Image.{record-at, record-bytes, profile}
 use Rattle.rules.specs.Refusals.{First, lookup-call}
-use Rattle.records.specs.Reading.{HasRecord}
+use Rattle.image_fields.specs.Reading.{HasRecord}
 use Rattle.profile.proofs.Parts.{Named, named, has-named, not-short, record-next}
 use Rattle.profile.proofs.lookup_place.Statement.{statement}
 use Rattle.profile.proofs.lookup_place.Tie as tie

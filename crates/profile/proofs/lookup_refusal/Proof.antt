@@ -4,6 +4,7 @@ use Prim.Native.Nat.{ℕ, _≤_}
 use native.Mathlib.Omega.{arith}
 use denote.Ref.{now}
 use borrow.Author.Needs.{needs}
+use Rattle.rules.specs.Numbers.{refused-name}
 use Rattle.rules.specs.Image.{profile}
 use Rattle.rules.specs.Refusals.{Ground, _when_, Accepted}
 use Rattle.profile.proofs.Answers.{image-refusal, own-refusal, no-refusal, judged-accepted}
@@ -16,7 +17,7 @@ abbrev image : tie.After-checked → List ℕ
 image c = now (c .before .before .args .image)
 
 abbrev absent : tie.After-checked → Ground
-absent c = 15 when (profile (image c) .n ≤ c .before .before .args .action)
+absent c = refused-name when (profile (image c) .n ≤ c .before .before .args .action)
 
 -- ---- past the test for the image's refusals
 

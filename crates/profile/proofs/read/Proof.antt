@@ -5,12 +5,13 @@ use Prim.Native.Nat.{ℕ}
 use native.Mathlib.Omega.{arith}
 use denote.Ref.{now}
 use borrow.Author.Needs.{needs}
+use Rattle.rules.specs.Numbers.{refused-room}
 use Rattle.rules.specs.Image.{profile}
 use Rattle.rules.specs.Refusals.{Ground, _when_, First, Tight, Accepted, image-call}
-use Rattle.image.specs.Checks.{Found}
-use Rattle.records.specs.Reading.{HasRecords}
-use Rattle.image.proofs.Answers.{accepted-records}
-use Rattle.records.proofs.Faults.{denied}
+use Rattle.image_check.specs.Checks.{Found}
+use Rattle.image_fields.specs.Reading.{HasRecords}
+use Rattle.image_check.proofs.Answers.{accepted-records}
+use Rattle.image_fields.proofs.Faults.{denied}
 use Rattle.profile.specs.Calls.{rooms}
 use Rattle.profile.proofs.Answers.{image-refusal, own-refusal, no-refusal, judged-accepted, found-rooms, has-room, refused-reads, accepted-reads}
 use Rattle.profile.proofs.read.Statement.{statement}
@@ -30,7 +31,7 @@ Short c n L =
     Tight (rooms n L (x .masks .now) (x .deadlines .now) (x .averages .now) (x .worst .now))
 
 abbrev room : tie.After-checked → Ground
-room c = 17 when Short c (profile (image c) .n) (profile (image c) .levels)
+room c = refused-room when Short c (profile (image c) .n) (profile (image c) .levels)
 
 -- ---- past the test for the image's refusals
 

@@ -10,7 +10,7 @@ use Rattle.fields.specs.Fields.{splice}
 use Rattle.fields.proofs.Bytes.{Bytes}
 use Rattle.fields.proofs.Cats.{cat-none, cat-done}
 use Rattle.fields.proofs.Tabs.{tab-more}
-use Rattle.records.proofs.Reading.{worst-short}
+use Rattle.image_fields.proofs.Reading.{worst-short}
 use Rattle.refresh.proofs.ceiling_row.Statement.{statement}
 use Rattle.refresh.proofs.ceiling_row.Tie as tie
 

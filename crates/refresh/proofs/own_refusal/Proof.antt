@@ -6,18 +6,19 @@ use mathlib.Core.Logic.{inl, inr, ⊎-elim}
 use native.Mathlib.Omega.{arith}
 use denote.Ref.{now}
 use borrow.Author.Needs.{needs}
+use Rattle.rules.specs.Numbers.{refused-trace}
 use Rattle.rules.specs.Image.{Profile}
 use Rattle.rules.specs.Refusals.{_when_, First}
 use Rattle.rules.specs.Refresh.{Trace}
 use Rattle.rules.proofs.Refusals.{first-stops}
-use Rattle.measure.specs.Measure.{Ceilings, faults}
+use Rattle.trace.specs.Measure.{Ceilings, faults}
 use Rattle.refresh.specs.Refresh.{own}
 use Rattle.refresh.proofs.Grounds.{room-grounds, rest-grounds, few-records, after-trace, after-faults}
 use Rattle.refresh.proofs.own_refusal.Statement.{statement}
 use Rattle.refresh.proofs.own_refusal.Tie as tie
 
 -- the trace is not refused as a whole
-whole : (c : tie.Else1) → First (14 when Trace (now (c .before .before .before .args .trace)) ∷ []) 0
+whole : (c : tie.Else1) → First (refused-trace when Trace (now (c .before .before .before .args .trace)) ∷ []) 0
 whole c = rw (c .if1 .left) at (c .before .trace-refusal .ensures)
 
 -- none of its records is at fault
@@ -32,7 +33,7 @@ returns : tie.Need-returns
 returns c =
     let x = c .before .before .before .args in record {
       number = λ F has.
-          first-stops (14 when Trace (now (x .trace)) ∷ []) (rest-grounds F (now (x .trace)) (x .needed) (x .room)) _
+          first-stops (refused-trace when Trace (now (x .trace)) ∷ []) (rest-grounds F (now (x .trace)) (x .needed) (x .room)) _
           (c .before .trace-refusal .ensures) (c .if1 .taken);
       weighs = λ none. absurd (c .if1 .taken none);
     }

@@ -10,9 +10,9 @@ use borrow.Author.Tests.{ne-eqb}
 use Rattle.rules.specs.Image.{profile}
 use Rattle.rules.specs.Refusals.{Ground, First}
 use Rattle.fields.proofs.Bytes.{Bytes}
-use Rattle.records.specs.Reading.{HasRecords}
-use Rattle.records.proofs.Reading.{has-accepted}
-use Rattle.measure.proofs.Tallies.{none-tallied}
+use Rattle.image_fields.specs.Reading.{HasRecords}
+use Rattle.image_fields.proofs.Reading.{has-accepted}
+use Rattle.trace.proofs.Tallies.{none-tallied}
 use Rattle.refresh.specs.Refresh.{own}
 use Rattle.refresh.proofs.Grounds.{gives-none, enough, after-image}
 use Rattle.refresh.proofs.Records.{copies, new-written}

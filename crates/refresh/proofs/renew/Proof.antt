@@ -6,12 +6,13 @@ use native.Mathlib.Omega.{arith}
 use lib.ListN.{length}
 use borrow.Author.Needs.{needs}
 use Rattle.rules.specs.Words.{cat}
-use Rattle.rules.specs.Image.{header-bytes, levels, record-at, profile, record-image}
+use Rattle.rules.specs.Numbers.{header-bytes}
+use Rattle.rules.specs.Image.{levels, record-at, profile, record-image}
 use Rattle.rules.specs.Refresh.{refreshed}
 use Rattle.fields.specs.Fields.{splice}
 use Rattle.fields.proofs.Cats.{cat-none, cat-done}
-use Rattle.records.proofs.Reading.{has-record}
-use Rattle.measure.specs.Measure.{Weighs}
+use Rattle.image_fields.proofs.Reading.{has-record}
+use Rattle.trace.specs.Measure.{Weighs}
 use Rattle.refresh.specs.Refresh.{Copied}
 use Rattle.refresh.proofs.Records.{record-more}
 use Rattle.refresh.proofs.renew.Statement.{statement}

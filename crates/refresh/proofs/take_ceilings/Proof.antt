@@ -3,7 +3,7 @@ use Prim.Native.Nat.{_-_, _≤_}
 use mathlib.Core.Path.{_≡_}
 use native.Mathlib.Omega.{arith}
 use borrow.Author.Needs.{needs}
-use Rattle.records.proofs.Reading.{has-record}
+use Rattle.image_fields.proofs.Reading.{has-record}
 use Rattle.refresh.specs.Refresh.{Ceiled}
 use Rattle.refresh.proofs.Ceilings.{more-ceiled}
 use Rattle.refresh.proofs.take_ceilings.Statement.{statement}

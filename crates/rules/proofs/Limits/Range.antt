@@ -8,6 +8,7 @@ use native.Mathlib.Omega.{arith}
 use borrow.Author.Tests.{le-ltb}
 use lib.IntN.{ℤ, pos, negsuc, _-ℤ_}
 use lib.Signed.{mag}
+use Rattle.rules.specs.Numbers.{last-clock, clock-end, longest-time}
 use Rattle.rules.specs.Words.{sum, span, least-of}
 use Rattle.rules.specs.Limits.{Tables, mixed, limit, absent, coast-bound}
 use Rattle.rules.proofs.Sums.{sum-longer}
@@ -18,8 +19,8 @@ use Rattle.rules.proofs.Limits.Rows.{mixed-later, limit-at-most}
 -- the ranges of a profile, by position
 pub record Small (S : Tables) : Type 0 where
   pub few : S .n ≤ 64
-  pub time : (p q : ℕ) → p < S .n → q < S .levels → S .worst p q ≤ 16777215
-  pub due : (k : ℕ) → k < S .n → S .deadline k ≤ 1073741823
+  pub time : (p q : ℕ) → p < S .n → q < S .levels → S .worst p q ≤ longest-time
+  pub due : (k : ℕ) → k < S .n → S .deadline k ≤ last-clock
 
 -- a stretch of times up to c is at most c for each position
 pub span-cap : (f : ℕ → ℕ) (c i j : ℕ) → i ≤ j → ((p : ℕ) → i ≤ p → p < j → f p ≤ c) → span f i j ≤ (j - i) * c
@@ -43,21 +44,21 @@ module _ (S : Tables) (sound : Sound S) (small : Small S) (i q : ℕ) (m : q < S
   mixed-cap : (j k : ℕ) → j ≤ k → k < S .n → mixed S j k q ≤ 1073741760
   mixed-cap j k a b = bounds-mixed S sound j k q 1073741760 a b m (λ x c e. omega (
     arith,
-    span-cap (λ p. S .average p q) 16777215 j x c (λ p u v. omega (arith, sound .ordered p q (omega arith) m, small .time p q (omega arith) m)),
+    span-cap (λ p. S .average p q) longest-time j x c (λ p u v. omega (arith, sound .ordered p q (omega arith) m, small .time p q (omega arith) m)),
     small .time x q (omega arith) m,
-    span-cap (λ p. S .worst p 0) 16777215 (suc x) (suc k) (omega arith) (λ p u v. small .time p 0 (omega arith) (sound .some-level)),
+    span-cap (λ p. S .worst p 0) longest-time (suc x) (suc k) (omega arith) (λ p u v. small .time p 0 (omega arith) (sound .some-level)),
     small .few,
   ))
 
-  pub limit-range : i < S .n → mag (limit S i q) < 1073741824
-  limit-range l = in-range 1073741824 1073741760 1073741824 (limit S i q) (omega arith) (omega arith)
+  pub limit-range : i < S .n → mag (limit S i q) < clock-end
+  limit-range l = in-range clock-end 1073741760 clock-end (limit S i q) (omega arith) (omega arith)
       (limit-at-most S i q l 0 1073741760 .1 (λ k a b. omega (arith, mixed-later S 1073741760 i k q, mixed-cap i k a b)))
-      (λ h. omega (arith, limit-at-most S i q l 1073741824 0 .0 h i (le-refl i) l, small .due i l))
+      (λ h. omega (arith, limit-at-most S i q l clock-end 0 .0 h i (le-refl i) l, small .due i l))
 
   pub bound-range : (r : ℕ) → 0 < r → r ≤ 16 → i + r ≤ S .n → mag (coast-bound S (limit S) i q r) < 2147483647
   unfolding coast-bound
   bound-range r some most room = rw (le-ltb (S .n - i) r (omega arith))
-      (in-range 1073741824 1325399985 2147483647 (least-of f i (r - 1)) (omega arith) (omega arith) low high)
+      (in-range clock-end 1325399985 2147483647 (least-of f i (r - 1)) (omega arith) (omega arith) low high)
     where
       f : ℕ → ℤ
       f j = limit S j q -ℤ pos (span (λ p. S .worst p q) i j)
@@ -68,14 +69,14 @@ module _ (S : Tables) (sound : Sound S) (small : Small S) (i q : ℕ) (m : q < S
             arith,
             mixed-later S 1325399985 j k q,
             mixed-cap j k c e,
-            span-cap (λ p. S .worst p q) 16777215 i j a (λ p u v. small .time p q (omega arith) m),
+            span-cap (λ p. S .worst p q) longest-time i j a (λ p u v. small .time p q (omega arith) m),
           ))))
 
-      high : AtMost 1073741824 0 (least-of f i (r - 1)) → ⊥
+      high : AtMost clock-end 0 (least-of f i (r - 1)) → ⊥
       high h = omega (
         arith,
-        limit-at-most S i q (omega arith) (1073741824 + span (λ p. S .worst p q) i i) 0 .0
-            (at-most-less 1073741824 0 (limit S i q) (span (λ p. S .worst p q) i i) .0 (least-all f 1073741824 0 i (r - 1) h i (le-refl i) (omega arith)))
+        limit-at-most S i q (omega arith) (clock-end + span (λ p. S .worst p q) i i) 0 .0
+            (at-most-less clock-end 0 (limit S i q) (span (λ p. S .worst p q) i i) .0 (least-all f clock-end 0 i (r - 1) h i (le-refl i) (omega arith)))
             i (le-refl i) (omega arith),
         small .due i (omega arith),
       )

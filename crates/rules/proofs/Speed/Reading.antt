@@ -13,6 +13,7 @@ use lib.IntN.{ℤ, pos, negsuc, _-ℤ_}
 use lib.ListN.{getD}
 use lib.Signed.{leZ, ltZ, _≤ℤ_, _<ℤ_, leZ-yes, ltZ-yes, clashℤ}
 use lib.Ieee.{Float}
+use Rattle.rules.specs.Numbers.{last-clock, longest-time}
 use Rattle.rules.specs.Image.{Profile, due, be, levels, record-at, average-of, worst-of, profile}
 use Rattle.rules.specs.Order.{Order}
 use Rattle.rules.specs.Limits.{Tables, tables, average, margin, mixed}
@@ -118,20 +119,20 @@ pub average-small : (F : Profile) (o : Order (F .n)) (i k q : ℕ) → (Count F 
     → average (tables F o) i k q ≤ 1073741760
 average-small F o i k q count times K Q =
     let n : F .n ≤ 64 = not-above (λ h. count (inl (inr (inl h)))) in
-    omega (arith, average-within (tables F o) i k q 16777215 K (λ p l. not-above (λ h. times (o .at p, o .at-lt p l, (q, Q, inl h)))))
+    omega (arith, average-within (tables F o) i k q longest-time K (λ p l. not-above (λ h. times (o .at p, o .at-lt p l, (q, Q, inl h)))))
 
 -- A deadline is at most the cycle.
-pub due-small : (F : Profile) (a : ℕ) → (Count F → ⊥) → (Range F → ⊥) → a < F .n → due F a ≤ 1073741823
+pub due-small : (F : Profile) (a : ℕ) → (Count F → ⊥) → (Range F → ⊥) → a < F .n → due F a ≤ last-clock
 unfolding due
 due-small F a count range l = go (eqb (F .deadline a) 0)
   where
-    cycle : F .cycle ≤ 1073741823
+    cycle : F .cycle ≤ last-clock
     cycle = not-above (λ h. count (inr (inr h)))
 
     own : F .deadline a ≤ F .cycle
     own = not-above (λ h. range (a, l, inl h))
 
-    go : (b : Bool) → cond b (F .cycle) (F .deadline a) ≤ 1073741823
+    go : (b : Bool) → cond b (F .cycle) (F .deadline a) ≤ last-clock
     go true = cycle
     go false = le-trans own cycle
 
@@ -140,7 +141,7 @@ pub times-small : (s : List ℕ) → ((j : ℕ) → getD s j 0 < 256) → TimeOu
 unfolding profile average-of worst-of
 times-small s byte (a, l, (q, level, e)) = ⊎-elim (beyond (record-at (levels s) a + 12 + 6 * q)) (beyond (record-at (levels s) a + 15 + 6 * q)) e
   where
-    beyond : (at : ℕ) → 16777215 < be s at 3 → ⊥
+    beyond : (at : ℕ) → longest-time < be s at 3 → ⊥
     beyond at h = omega (arith, byte at, byte (at + 1), byte (at + 2))
 
 -- So the theorem holds at every position and level of an accepted image.

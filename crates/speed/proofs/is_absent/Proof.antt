@@ -2,7 +2,7 @@
 use mathlib.Core.Logic.{inl, inr}
 use Prim.Native.Nat.{ℕ, _≤_, _<_}
 use native.Mathlib.Omega.{arith}
-use Rattle.records.proofs.Faults.{said-yes, said-no}
+use Rattle.image_fields.proofs.Faults.{said-yes, said-no}
 use Rattle.speed.specs.Speed.{Absent}
 use Rattle.speed.proofs.is_absent.Statement.{statement}
 use Rattle.speed.proofs.is_absent.Tie as tie

@@ -3,7 +3,7 @@ use mathlib.Core.Path.{refl}
 use mathlib.Core.Logic.{inl, inr}
 use native.Mathlib.Omega.{arith}
 use borrow.Author.Needs.{needs}
-use Rattle.records.proofs.Faults.{denied}
+use Rattle.image_fields.proofs.Faults.{denied}
 use Rattle.speed.proofs.own_refusal.Statement.{statement}
 use Rattle.speed.proofs.own_refusal.Tie as tie
 

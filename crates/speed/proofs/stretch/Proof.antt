@@ -5,9 +5,9 @@ use native.Mathlib.Omega.{arith}
 use borrow.Author.Needs.{needs}
 use lib.ListN.{getD}
 use Rattle.rules.specs.Image.{profile}
-use Rattle.records.specs.Reading.{HasRecord}
-use Rattle.ratio.specs.Stretch.{Of, Small}
-use Rattle.ratio.proofs.Stretches.{Times, from-nothing, small}
+use Rattle.image_fields.specs.Reading.{HasRecord}
+use Rattle.speed_stretch.specs.Stretch.{Of, Small}
+use Rattle.speed_stretch.proofs.Stretches.{Times, from-nothing, small}
 use Rattle.speed.specs.Speed.{listed}
 use Rattle.speed.proofs.Listed.{listed-times}
 use Rattle.speed.proofs.stretch.Statement.{statement}

@@ -3,7 +3,7 @@ use mathlib.Core.Path.{sym, _∙_}
 use borrow.Author.Needs.{needs}
 use borrow.Author.Tests.{not-true, not-false}
 use Rattle.rules.specs.Run.{start}
-use Rattle.decision.proofs.Rows.{into, past}
+use Rattle.run_decision.proofs.Rows.{into, past}
 use Rattle.run.proofs.Ranges.{unfit-three}
 use Rattle.run.proofs.Run.start.Statement.{statement}
 use Rattle.run.proofs.Run.start.Tie as tie

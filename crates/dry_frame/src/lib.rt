@@ -1,0 +1,83 @@
+// A frame run dry: an image is planned and its cycle run over given durations, in one call. Demand 3 is its promise.
+use rules::Refusal;
+ghost use mathlib.Core.Path.{_≡_};
+ghost use mathlib.Core.Bool.{false};
+ghost use Rattle.dry_frame.specs.Frame.{Frames};
+
+// The refusal; without one the number of positions, the decisions made, the clock at the end and the two marks, else 0 and no.
+#[repr(C)]
+pub struct Framed {
+    pub refusal: Refusal,
+    pub n: usize,
+    pub decisions: u32,
+    pub end: u32,
+    pub overrun: bool,
+    pub late: bool,
+}
+
+// What a refused call answers.
+fn refused(refusal: Refusal) -> Framed
+    ensures { λ r. ⌜ r ≡ record { refusal = refusal; n = 0; decisions = 0; end = 0; overrun = false; late = false } ⌝ }
+{
+    Framed {
+        refusal,
+        n: 0,
+        decisions: 0,
+        end: 0,
+        overrun: false,
+        late: false,
+    }
+}
+
+// Plans the image, runs its cycle over n by L durations by position, and writes the order, the levels given and the decided marks. A refusal
+// leaves the slices untouched, so the order is kept apart until the durations are judged.
+pub fn dry_frame(
+    image: &[u8],
+    durations: &[u32],
+    order: &mut [u8],
+    given: &mut [u8],
+    marks: &mut [u8],
+) -> Framed
+    ensures { λ r. ⌜ Frames (now (image .entry)) (now (durations .entry)) (now (order .entry)) (now (given .entry)) (now (marks .entry))
+        (now (order .exit)) (now (given .exit)) (now (marks .exit)) r ⌝ }
+{
+    let mut actions = [0u8; 64];
+    let mut limits = [0i32; 512];
+    let mut worst = [0u32; 512];
+    let mut bounds = [0i32; 8192];
+    let planned = planner::plan(image, &mut actions, &mut limits, &mut worst, &mut bounds);
+    let refusal = planned.refusal;
+    if refusal.number != 0 {
+        return refused(refusal);
+    }
+    let n = planned.n;
+    if order.len() < n {
+        return refused(Refusal {
+            number: rules::REFUSED_ROOM,
+        });
+    }
+    let dried = dry_cycle::dry_run(
+        n,
+        planned.levels,
+        &limits,
+        &worst,
+        &bounds,
+        durations,
+        given,
+        marks,
+    );
+    if dried.refusal != 0 {
+        return refused(Refusal {
+            number: dried.refusal,
+        });
+    }
+    fields::copy_front(&actions, n, order);
+    Framed {
+        refusal,
+        n,
+        decisions: dried.decisions,
+        end: dried.end,
+        overrun: dried.overrun,
+        late: dried.late,
+    }
+}

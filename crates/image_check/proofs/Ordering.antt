@@ -1,0 +1,68 @@
+-- The order of an image's actions, judged on its columns.
+use mathlib.Core.Path.{_≡_, _∙_}
+use mathlib.Core.List.{List}
+use mathlib.Core.Logic.{inr}
+use Prim.Native.Nat.{ℕ}
+use native.Mathlib.Nat.{le-refl, mul-one}
+use native.Mathlib.Omega.{arith}
+use lib.ListN.{getD}
+use Rattle.rules.specs.Image.{due, profile}
+use Rattle.rules.specs.Refusals.{First}
+use Rattle.rules.proofs.Refusals.{first-none}
+use Rattle.rules.proofs.Order.Alike.{Alike, alike-back}
+use Rattle.sets.proofs.Laws.{below-exact}
+use Rattle.fields.proofs.Bytes.{Bytes}
+use Rattle.order.specs.Lent.{lent, Masked, Timed}
+use Rattle.order.specs.Judged.{Verdict}
+use Rattle.order.proofs.Judging.{verdict-alike}
+use Rattle.image_fields.specs.declared.Header.{Header}
+use Rattle.image_fields.specs.Reading.{HeaderOf, Opened, Columns}
+use Rattle.image_fields.proofs.Reading.{worst-short}
+use Rattle.image_check.specs.declared.Checked.{Checked}
+use Rattle.image_check.specs.Checks.{record-checks, Found}
+use Rattle.image_check.proofs.Checks.{record-numbered}
+
+module _ {s : List ℕ} {h : Header} {m d w : List ℕ} (x : Opened s h) (y : Columns s (h .n) m d w) where
+  -- with none of 5 to 7 a mask names actions only
+  pub masked : First (record-checks s) 0 → Masked (h .n) m
+  unfolding profile
+  masked none =
+      let (_, (not-range, _)) = first-none (record-checks s) (record-numbered s) .0 none in
+      record {
+        few = x .records .few-actions;
+        long = y .masks .room;
+        below = λ a l. below-exact (getD m a 0) (h .n) .1
+            (λ b. not-range (a, omega (arith, x .header .n), inr (rw (x .header .n, y .masks .each a l) at b)));
+      }
+
+  pub timed : Bytes s → Timed (h .n) d w 1
+  timed bytes = record {
+    apart = le-refl 1;
+    dues = y .deadlines .room;
+    times = rw mul-one (y .worst .room);
+    short = λ a l. rw (mul-one, y .worst .each a l) (worst-short s a 0 bytes);
+  }
+
+  -- the columns say of the order what the profile says
+  alike : Alike (lent (h .n) (h .cycle) m d w 1) (profile s)
+  unfolding profile due
+  alike = record {
+    n = x .header .n;
+    masks = λ a b l k. rw (y .masks .each a l);
+    deadlines = λ a l. rw (y .deadlines .each a l, x .header .cycle);
+    times = λ a l. rw mul-one (y .worst .each a l);
+  }
+
+  pub verdict : {k : ℕ} {l : List ℕ} → Verdict (lent (h .n) (h .cycle) m d w 1) k l → Verdict (profile s) k l
+  verdict v = verdict-alike (alike-back alike) v
+
+-- without a refusal the header's counts are found, and the actions in order
+pub found : {s : List ℕ} {h : Header} {r : Checked} {k : ℕ} → HeaderOf s h → Verdict (profile s) k (r .order) → k ≡ 0
+    → r .n ≡ h .n → r .levels ≡ h .levels → r .cycle ≡ h .cycle → Found s r
+unfolding profile
+found x v e n levels cycle = record {
+  n = n ∙ x .n;
+  levels = levels ∙ x .levels;
+  cycle = cycle ∙ x .cycle;
+  order = v .order (λ z. omega arith);
+}

@@ -1,0 +1,68 @@
+use mathlib.Core.Path.{refl}
+use denote.Ref.{now}
+use borrow.Author.Needs.{needs}
+use Rattle.rules.specs.Image.{profile}
+use Rattle.rules.specs.Refusals.{First}
+use Rattle.rules.proofs.Refusals.{first-stops, first-goes-on}
+use Rattle.fields.proofs.Bytes.{Bytes}
+use Rattle.order.specs.Judged.{Verdict}
+use Rattle.image_check.specs.Checks.{record-checks, order-checks, rest-checks}
+use Rattle.image_check.proofs.Checks.{record-numbered}
+use Rattle.image_check.proofs.Ordering.{masked, timed, verdict, found}
+use Rattle.image_check.proofs.Answers.{refused-answers, accepted-answers}
+use Rattle.image_check.proofs.whole.checked_columns.Statement.{statement}
+use Rattle.image_check.proofs.whole.checked_columns.Tie as tie
+
+returns : tie.Need-returns
+returns c =
+    let p = c .before .before .before in
+    let s = now (p .before .before .before .before .before .args .image) in
+    refused-answers (p .record-refusal .result)
+    (first-stops (record-checks s) (order-checks s) _ (p .record-refusal .ensures) (c .before .if1 .taken))
+    (c .before .if1 .taken) (c .refused .ensures)
+
+-- none of 5 to 7 is given
+none : (c : tie.Else1) → First (record-checks (now (c .before .before .before .before .before .before .before .args .image))) 0
+none c = rw (c .if1 .left) at (c .before .before .record-refusal .ensures)
+
+judge-requires : tie.Need-judge-requires
+judge-requires c κs =
+    let start = c .before .before .before .before .before .before .before in
+    let bytes : Bytes (now (start .args .image)) = λ k. c .before .before .before .before .before .before .shared-slice-known .given k .fits in
+    (masked (start .pre .0) (start .pre .1) (none c), timed (start .pre .0) (start .pre .1) bytes)
+
+-- 8, 9 or none, of the profile
+judged : (c : tie.After-judge)
+    → let s = now (c .before .before .before .before .before .before .before .before .args .image) in
+    Verdict (profile s) (c .judge .result .refusal) (c .judge .result .order)
+judged c = let pre = c .before .before .before .before .before .before .before .before .pre in verdict (pre .0) (pre .1) (c .judge .ensures)
+
+-- so the number of 5 to 9
+number : (c : tie.After-judge)
+    → let s = now (c .before .before .before .before .before .before .before .before .args .image) in
+    First (rest-checks s) (c .judge .result .refusal)
+number c =
+    let s = now (c .before .before .before .before .before .before .before .before .args .image) in
+    first-goes-on (record-checks s) (order-checks s) _ (record-numbered s) (none (c .before)) (judged c .number)
+
+returns-2 : tie.Need-returns-2
+returns-2 c =
+    refused-answers (record { number = c .before .before .judge .result .refusal }) (number (c .before .before)) (c .before .if2 .taken) (c .refused2 .ensures)
+
+returns-3 : tie.Need-returns-3
+returns-3 c =
+    let p = c .before .before in
+    let header = p .before .before .before .before .before .before .before .before .pre .0 .header in
+    accepted-answers (rw (c .before .if2 .left) at (number p)) (p .before .if1 .left) (found header (judged p) (c .before .if2 .left) refl refl refl)
+
+pub checked-columns-spec : {M : Type 1} → statement M
+checked-columns-spec =
+    tie.close
+    (tie.spec
+    (λ c κs. search needs)
+    (λ c κs. search needs)
+    returns
+    judge-requires
+    (λ c κs. search needs)
+    returns-2
+    returns-3)

@@ -1,0 +1,49 @@
+-- What the whole check answers.
+use Prim.Native.Nat.{ℕ}
+use mathlib.Core.Path.{_≡_}
+use mathlib.Core.Logic.{_≢_}
+use mathlib.Core.List.{List, [], _∷_, _++_}
+use lib.ListN.{replicate}
+use Rattle.rules.specs.Numbers.{refused-version, refused-count, refused-length, refused-spare, refused-range, refused-table, refused-loop, refused-unfit}
+use Rattle.rules.specs.Image.{profile}
+use Rattle.rules.specs.Order.{Order, TheOrder}
+use Rattle.rules.specs.Refusals.{Ground, _when_, First, Count, Range, Table, Looped, Unfit, Version, Length, Spare, image-checks}
+use Rattle.order.specs.Arranged.{Lists}
+use Rattle.image_check.specs.declared.Checked.{Checked}
+
+-- the image checks in parts: after 1 those of the header, of the records, of the order
+abbrev pub head-checks : List ℕ → List Ground
+head-checks s = refused-version when Version s ∷ refused-count when Count (profile s) ∷ refused-length when Length s ∷ []
+
+abbrev pub record-checks : List ℕ → List Ground
+record-checks s = refused-spare when Spare s ∷ refused-range when Range (profile s) ∷ refused-table when Table (profile s) ∷ []
+
+abbrev pub order-checks : List ℕ → List Ground
+order-checks s = refused-loop when Looped (profile s) ∷ refused-unfit when Unfit (profile s) ∷ []
+
+abbrev pub rest-checks : List ℕ → List Ground
+rest-checks s = record-checks s ++ order-checks s
+
+-- with a refusal: nothing else is said
+pub record Blank (r : Checked) : Type 0 where
+  pub n : r .n ≡ 0
+  pub levels : r .levels ≡ 0
+  pub cycle : r .cycle ≡ 0
+  pub order : r .order ≡ replicate 64 0
+
+-- without one: the profile's n, levels and cycle, and its actions in order
+pub record Found (s : List ℕ) (r : Checked) : Type 0 where
+  pub n : r .n ≡ profile s .n
+  pub levels : r .levels ≡ profile s .levels
+  pub cycle : r .cycle ≡ profile s .cycle
+  pub order : (o : Order (profile s .n)) × TheOrder (profile s) o × Lists (r .order) o
+
+-- r is what the checks in the row answer of the image s
+pub record Answers (row : List Ground) (s : List ℕ) (r : Checked) : Type 0 where
+  pub number : First row (r .refusal .number)
+  pub refused : r .refusal .number ≢ 0 → Blank r
+  pub accepted : r .refusal .number ≡ 0 → Found s r
+
+-- r is what the whole check answers
+abbrev pub Judged : List ℕ → Checked → Type 0
+Judged s r = Answers (image-checks s) s r

@@ -1,0 +1,24 @@
+// The check of a profile image, refusals 1 to 9.
+use rules::Refusal;
+
+pub mod whole;
+
+ghost use Rattle.rules.specs.Refusals.{First, image-checks};
+
+// What the whole check finds: with a refusal all else is 0; without one what the header says, and the order of the n actions.
+pub struct Checked {
+    pub refusal: Refusal,
+    pub n: usize,
+    pub levels: usize,
+    pub cycle: u32,
+    pub order: [u8; 64],
+}
+
+// The check of an image: refusals 1 to 9, in this order, over the whole image.
+pub fn check(image: &[u8]) -> Refusal
+    ensures { λ r. ⌜ First (image-checks (now (image .entry))) (r .number) ⌝ }
+{
+    let checked = whole::checked(image);
+    let refusal = checked.refusal;
+    refusal
+}

@@ -1,0 +1,145 @@
+// The check of a whole image.
+use crate::Checked;
+use image_fields::Header;
+use image_fields::column;
+use image_fields::read;
+use image_fields::scan;
+use rules::Refusal;
+ghost use mathlib.Core.Path.{_≡_};
+ghost use Rattle.rules.specs.Image.{mask-of, deadline-of};
+ghost use Rattle.rules.specs.Refusals.{First};
+ghost use Rattle.image_fields.specs.Reading.{HeaderOf, Opened, Column, Columns};
+ghost use Rattle.image_check.specs.Checks.{head-checks, record-checks, rest-checks, Blank, Answers, Judged};
+
+// What a refused image answers.
+fn refused(refusal: Refusal) -> Checked
+    ensures { λ r. ⌜ (r .refusal ≡ refusal) × Blank r ⌝ }
+{
+    Checked {
+        refusal,
+        n: 0,
+        levels: 0,
+        cycle: 0,
+        order: [0u8; 64],
+    }
+}
+
+// 2 to 4.
+fn head_refusal(image: &[u8], head: Header) -> Refusal
+    requires { ⌜ HeaderOf (now image) head ⌝ }
+    ensures { λ r. ⌜ First (head-checks (now (image .entry))) (r .number) ⌝ }
+{
+    if head.version != rules::VERSION {
+        return Refusal {
+            number: rules::REFUSED_VERSION,
+        };
+    }
+    if scan::count_out(head.n, head.levels, head.cycle) {
+        return Refusal {
+            number: rules::REFUSED_COUNT,
+        };
+    }
+    if image.len() != read::record_at(head.levels, head.n) {
+        return Refusal {
+            number: rules::REFUSED_LENGTH,
+        };
+    }
+    Refusal { number: 0 }
+}
+
+// 5 to 7.
+fn record_refusal(image: &[u8], head: Header, masks: &[u64], deadlines: &[u32]) -> Refusal
+    requires { ⌜ Opened (now image) head ⌝ }
+    requires { ⌜ Column (mask-of (now image)) (head .n) (now masks) × Column (deadline-of (now image)) (head .n) (now deadlines) ⌝ }
+    ensures { λ r. ⌜ First (record-checks (now (image .entry))) (r .number) ⌝ }
+{
+    let n = head.n;
+    let levels = head.levels;
+    if head.spare != 0 {
+        return Refusal {
+            number: rules::REFUSED_SPARE,
+        };
+    }
+    if scan::spare_fault(image, levels, n) < n {
+        return Refusal {
+            number: rules::REFUSED_SPARE,
+        };
+    }
+    if scan::range_fault(masks, deadlines, head.cycle, n) < n {
+        return Refusal {
+            number: rules::REFUSED_RANGE,
+        };
+    }
+    if scan::table_fault(image, levels, n) < n {
+        return Refusal {
+            number: rules::REFUSED_TABLE,
+        };
+    }
+    Refusal { number: 0 }
+}
+
+// 5 to 9, by the image's columns.
+fn checked_columns(
+    image: &[u8],
+    head: Header,
+    masks: &[u64],
+    deadlines: &[u32],
+    worst: &[u32],
+) -> Checked
+    requires { ⌜ Opened (now image) head × Columns (now image) (head .n) (now masks) (now deadlines) (now worst) ⌝ }
+    ensures { λ r. ⌜ Answers (rest-checks (now (image .entry))) (now (image .entry)) r ⌝ }
+{
+    let refusal = record_refusal(image, head, masks, deadlines);
+    if refusal.number != 0 {
+        return refused(refusal);
+    }
+    let judged = order::judge(masks, deadlines, head.cycle, worst, 1, head.n);
+    let number = judged.refusal;
+    if number != 0 {
+        return refused(Refusal { number });
+    }
+    let order = judged.order;
+    Checked {
+        refusal,
+        n: head.n,
+        levels: head.levels,
+        cycle: head.cycle,
+        order,
+    }
+}
+
+// 5 to 9.
+fn checked_records(image: &[u8], head: Header) -> Checked
+    requires { ⌜ Opened (now image) head ⌝ }
+    ensures { λ r. ⌜ Answers (rest-checks (now (image .entry))) (now (image .entry)) r ⌝ }
+{
+    let mut masks = [0u64; 64];
+    let mut deadlines = [0u32; 64];
+    let mut worst = [0u32; 64];
+    column::take_columns(
+        image,
+        head.levels,
+        head.n,
+        &mut masks,
+        &mut deadlines,
+        &mut worst,
+    );
+    checked_columns(image, head, &masks, &deadlines, &worst)
+}
+
+// The whole check, with what an accepted image says.
+pub fn checked(image: &[u8]) -> Checked
+    ensures { λ r. ⌜ Judged (now (image .entry)) r ⌝ }
+{
+    if image.len() < rules::HEADER_BYTES {
+        return refused(Refusal {
+            number: rules::REFUSED_SHORT,
+        });
+    }
+    let head = read::header(image);
+    let refusal = head_refusal(image, head);
+    if refusal.number != 0 {
+        return refused(refusal);
+    }
+    checked_records(image, head)
+}

@@ -1,0 +1,49 @@
+use Prim.Native.Nat.{_≤_, _-_}
+use native.Mathlib.Omega.{arith}
+use borrow.Author.Needs.{needs}
+use borrow.Author.Count.{below-none, below-more}
+use Rattle.rules.specs.Image.{average-of, worst-of}
+use Rattle.image_fields.specs.Faults.{RowBreaks}
+use Rattle.image_fields.proofs.Reading.{has-record}
+use Rattle.image_fields.proofs.Faults.{denied, Faultless, lowest-here, lowest-none}
+use Rattle.image_fields.proofs.scan.table_fault.Statement.{statement}
+use Rattle.image_fields.proofs.scan.table_fault.Tie as tie
+
+abbrev Inv-loop : tie.InvT-loop
+Inv-loop image levels n a₀ a = (a ≤ n) × Faultless (λ k. RowBreaks levels (average-of image k) (worst-of image k)) a
+
+abbrev μ-loop : tie.MeasureT-loop
+μ-loop image levels n a₀ a = n - a
+
+loop-holds : tie.Need-loop-holds Inv-loop μ-loop
+loop-holds c = (search needs, below-none _)
+
+row-breaks-requires : tie.Need-row-breaks-requires Inv-loop μ-loop
+row-breaks-requires c κs = has-record _ (c .before .before .before .pre) (omega arith)
+
+returns : tie.Need-returns Inv-loop μ-loop
+returns c =
+    lowest-here (omega arith) (c .before .before .before .loop .inv .1) (c .before .row-breaks .ensures .0 (c .if1 .taken))
+
+loop-again : tie.Need-loop-again Inv-loop μ-loop
+loop-again c = (
+  search needs,
+  below-more _ _ (c .before .before .before .loop .inv .1) (denied (c .before .row-breaks .ensures) (c .if1 .left)),
+)
+
+returns-2 : tie.Need-returns-2 Inv-loop μ-loop
+returns-2 c = lowest-none (omega arith) (c .before .loop .inv .1)
+
+pub table-fault-spec : {M : Type 1} → statement M
+table-fault-spec =
+    tie.close
+    (tie.spec
+    Inv-loop
+    μ-loop
+    loop-holds
+    row-breaks-requires
+    returns
+    (λ c. search needs)
+    (λ c. search needs)
+    loop-again
+    returns-2)

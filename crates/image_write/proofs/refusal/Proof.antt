@@ -1,0 +1,172 @@
+-- Each test settles a ground of the row, in the row's order. Assumes nothing.
+use Prim.Native.Nat.{ℕ, _^_, _≤_, _<_}
+use mathlib.Core.Path.{refl}
+use mathlib.Core.List.{List, [], _∷_}
+use mathlib.Core.Logic.{_⊎_, inl, inr, ⊎-elim, _↔_}
+use native.Mathlib.Omega.{arith}
+use borrow.Author.Needs.{needs}
+use borrow.Author.Tests.{leb-true}
+use Rattle.rules.specs.Numbers.{refused-range, refused-table, refused-loop, refused-unfit}
+use Rattle.rules.specs.Image.{Profile, image-bytes, of-tables}
+use Rattle.rules.specs.Refusals.{_when_, First, Count, Range, TimeOut, Table, Looped, Unfit, Tight, write-call}
+use Rattle.image_fields.proofs.Faults.{denied, some-fault, no-fault}
+use Rattle.image_pack.specs.Packing.{Roomy}
+use Rattle.image_write.specs.Faults.{RangeFault}
+use Rattle.image_write.specs.Writing.{table-rooms, rooms}
+use Rattle.image_write.proofs.Answers.{tight-and}
+use Rattle.image_write.proofs.Faults.{range-faults}
+use Rattle.image_write.proofs.Accepting.{counted, roomy}
+use Rattle.image_write.proofs.Judging.{masked, timed, judged}
+use Rattle.image_write.proofs.refusal.Statement.{statement}
+use Rattle.image_write.proofs.refusal.Tie as tie
+
+-- ---- the tables' profile, what is lent, and the row from 6 on
+
+abbrev F : tie.Start → Profile
+F s =
+    let x = s .args in
+    of-tables (x .n) (x .levels) (x .cycle) (x .masks .now) (x .deadlines .now) (x .averages .now) (x .worst .now)
+
+abbrev Tables : tie.Start → List (ℕ × ℕ)
+Tables s =
+    let x = s .args in
+    table-rooms (x .n) (x .levels) (x .masks .now) (x .deadlines .now) (x .averages .now) (x .worst .now)
+
+abbrev Short : tie.Start → Type 0
+Short s = s .args .room < image-bytes (s .args .n) (s .args .levels)
+
+abbrev Rooms : tie.Start → List (ℕ × ℕ)
+Rooms s =
+    let x = s .args in
+    rooms (x .n) (x .levels) (x .masks .now) (x .deadlines .now) (x .averages .now) (x .worst .now) (x .room)
+
+abbrev Rest : tie.Start → ℕ → Type 0
+Rest s k = First (refused-range when (Range (F s) ⊎ TimeOut (F s)) ∷ refused-table when Table (F s) ∷ refused-loop when Looped (F s) ∷ refused-unfit when Unfit (F s) ∷ []) k
+
+-- a table is too short, or the image
+tight-says : (s : tie.Start) → (Tight (Tables s) ⊎ Short s) ↔ Tight (Rooms s)
+tight-says s = tight-and (Tables s) (s .args .room, image-bytes (s .args .n) (s .args .levels))
+
+-- ---- past the tests for 3, 17, 6 and 7
+
+abbrev past-3 : tie.Else1 → tie.Start
+past-3 c = c .before .before .before .before .before .before
+
+abbrev past-17 : tie.Else3 → tie.Start
+past-17 c = past-3 (c .before .before .before .before)
+
+abbrev past-6 : tie.Else4 → tie.Start
+past-6 c = past-17 (c .before .before .before)
+
+not-3 : (c : tie.Else1) → Count (F (past-3 c)) → ⊥
+unfolding of-tables
+not-3 c = denied (c .before .count-out .ensures) (c .if1 .left)
+
+tables-fit : (c : tie.Else2) → Tight (Tables (past-3 (c .before .before))) → ⊥
+tables-fit c = denied (c .before .tight .ensures) (c .if2 .left)
+
+not-17 : (c : tie.Else3) → Tight (Rooms (past-17 c)) → ⊥
+not-17 c t =
+    let fits : Short (past-17 c) → ⊥ = λ l. omega (arith, c .before .image-bytes .ensures) in
+    ⊎-elim (tables-fit (c .before .before)) fits (tight-says (past-17 c) .1 t)
+
+in-range : (c : tie.Else4) (a : ℕ) → a < past-6 c .args .n → RangeFault (F (past-6 c)) a → ⊥
+in-range c a h f = no-fault (some-fault (c .before .range .ensures)) (c .if4 .left) (a, h, f)
+
+not-6 : (c : tie.Else4) → Range (F (past-6 c)) ⊎ TimeOut (F (past-6 c)) → ⊥
+unfolding of-tables
+not-6 c f =
+    let w = range-faults (F (past-6 c)) .1 f in
+    in-range c (w .0) (w .1) (w .2)
+
+not-7 : (c : tie.Else5) → Table (F (past-6 (c .before))) → ⊥
+unfolding of-tables
+not-7 c = no-fault (some-fault (c .before .before .before .table .ensures)) (c .if5 .left)
+
+rest : (c : tie.Else3) (k : ℕ) → Rest (past-17 c) k → First (write-call (F (past-17 c)) (Rooms (past-17 c))) k
+rest c k p = inr (not-3 (c .before .before .before .before), inr (not-17 c, p))
+
+counts : (c : tie.Else1) → let x = past-3 c .args in (x .n ≤ 64) × (1 ≤ x .levels) × (x .levels ≤ 8) × (x .cycle < 2 ^ 30)
+unfolding of-tables
+counts c = counted _ _ _ (not-3 c)
+
+room : (c : tie.Else3) → let x = past-17 c .args in Roomy (x .n) (x .levels) (x .masks .now) (x .deadlines .now) (x .averages .now) (x .worst .now)
+room c =
+    let k = counts (c .before .before .before .before) in
+    roomy _ _ _ _ _ _ (past-17 c .args .room) (not-17 c) (k .0) (k .2)
+
+-- ---- the needs
+
+returns : tie.Need-returns
+unfolding of-tables
+returns c = inl (c .before .count-out .ensures .0 (c .if1 .taken), refl)
+
+tight-requires : tie.Need-tight-requires
+tight-requires c κs = (counts c .0, counts c .2)
+
+returns-2 : tie.Need-returns-2
+returns-2 c = inr (not-3 (c .before .before), inl (tight-says (past-3 (c .before .before)) .0 (inl (c .before .tight .ensures .0 (c .if2 .taken))), refl))
+
+image-bytes-requires : tie.Need-image-bytes-requires
+image-bytes-requires c κs =
+    let k = counts (c .before .before) in
+    (k .0, k .2)
+
+returns-3 : tie.Need-returns-3
+returns-3 c =
+    let e = c .before .before .before .before in
+    let short : Short (past-3 e) = omega (arith, c .before .image-bytes .ensures) in
+    inr (not-3 e, inl (tight-says (past-3 e) .0 (inr short), refl))
+
+table-requires : tie.Need-table-requires
+table-requires c κs =
+    let r = room c in
+    (r .averages-room, r .worst-room)
+
+range-requires : tie.Need-range-requires
+range-requires c κs =
+    let k = counts (c .before .before .before .before .before) in
+    ((room (c .before), k .1), λ e a h f. no-fault (some-fault (c .table .ensures)) (leb-true _ _ e) (a, h, f))
+
+returns-4 : tie.Need-returns-4
+unfolding of-tables
+returns-4 c =
+    let e = c .before .before .before in
+    rest e 6 (inl (range-faults (F (past-17 e)) .0 (some-fault (c .before .range .ensures) .0 (c .if4 .taken)), refl))
+
+returns-5 : tie.Need-returns-5
+unfolding of-tables
+returns-5 c =
+    rest (c .before .before .before .before) 7
+    (inr (not-6 (c .before), inl (some-fault (c .before .before .before .table .ensures) .0 (c .if5 .taken), refl)))
+
+judge-requires : tie.Need-judge-requires
+judge-requires c κs =
+    let e = c .before .before .before .before in
+    let l = counts (e .before .before .before .before) .1 in
+    (masked _ _ _ _ _ _ _ (room e) (in-range (c .before)), timed _ _ _ _ _ _ _ (room e) (in-range (c .before)) l)
+
+returns-6 : tie.Need-returns-6
+unfolding of-tables
+returns-6 c =
+    let e = c .before .before .before .before .before in
+    let x = past-17 e .args in
+    let verdict = judged (x .n) (x .levels) (x .cycle) (x .masks .now) (x .deadlines .now) (x .averages .now) (x .worst .now) (c .judge .ensures) in
+    rest e _ (inr (not-6 (c .before .before), inr (not-7 (c .before), verdict .number)))
+
+pub refusal-spec : {M : Type 1} → statement M
+refusal-spec =
+    tie.close
+    (tie.spec
+    (λ c κs. search needs)
+    returns
+    tight-requires
+    returns-2
+    image-bytes-requires
+    returns-3
+    table-requires
+    range-requires
+    returns-4
+    returns-5
+    judge-requires
+    returns-6)

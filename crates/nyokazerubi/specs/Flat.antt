@@ -1,0 +1,51 @@
+-- The answers that are laid flat for a host, since an enum does not cross to C.
+use Prim.Native.Nat.{ℕ}
+use mathlib.Core.Path.{_≡_}
+use mathlib.Core.Bool.{true, false}
+use mathlib.Core.List.{List}
+use lib.IntN.{pos}
+use lib.Ieee.{Float, fin}
+use Rattle.rules.specs.Run as rules
+use Rattle.rules.specs.Speed.{ratio, spent}
+use Rattle.speed_stretch.specs.Ratio.{Answer, gives, refuses, reading-of}
+use Rattle.speed_stretch.specs.declared.Reading.{Reading}
+use Rattle.run.specs.declared.Run.{Run}
+use Rattle.run.specs.Calls.{run-of}
+use Rattle.speed.specs.Speed.{Reads}
+use Rattle.nyokazerubi.specs.declared.runs.Given.{Given}
+use Rattle.nyokazerubi.specs.declared.readings.Read.{Read}
+
+-- ---- asking
+
+-- With a refusal its number, and all else is 0 or no.
+abbrev pub given-of : rules.Answer → Given
+given-of (rules.refused number r) = record { refusal = number; action = 0; level = 0; decided = false; late = false }
+given-of (rules.gives action level decided late r) =
+    record { refusal = 0; action = action; level = level; decided = decided; late = late }
+
+-- The next record; with a refusal the one that was handed.
+abbrev pub next-run : rules.Answer → rules.Run
+next-run (rules.refused number r) = r
+next-run (rules.gives action level decided late r) = r
+
+-- An asking that answers x says g, and leaves the record r.
+pub record Asks (x : rules.Answer) (r : Run) (g : Given) : Type 0 where
+  pub given : g ≡ given-of x
+  pub run : run-of r ≡ next-run x
+
+-- ---- the speed reading
+
+-- The float 0 stands where there is no ratio.
+abbrev pub none : Float
+none = fin false 0 (pos 0)
+
+abbrev pub read-of : Answer → Read
+read-of (gives (ratio x)) = record { refusal = 0; spent = false; ratio = x }
+read-of (gives spent) = record { refusal = 0; spent = true; ratio = none }
+read-of (refuses number) = record { refusal = number; spent = false; ratio = none }
+
+-- r is the speed reading of positions first to last at the level and time t.
+pub record ReadsFlat (s : List ℕ) (first last level t : ℕ) (r : Read) : Type 0 where
+  pub reading : Reading
+  pub reads : Reads s first last level t reading
+  pub flat : r ≡ read-of (reading-of reading)

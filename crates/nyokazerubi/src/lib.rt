@@ -1,0 +1,141 @@
+// The boundary for hosts in C and Rust: every public call under a name of its own, on numbers, slices and `#[repr(C)]` records. Each contract is
+// that of the call behind it. include/nyokazerubi.h declares the functions for C.
+use dry_cycle::Dried;
+use dry_frame::Framed;
+use planner::Planned;
+use profile::Place;
+use profile::Unpacked;
+use profile::Written;
+use refresh::Refreshed;
+use rules::Refusal;
+ghost use Rattle.rules.specs.Refusals.{First, image-checks, lookup-call};
+ghost use Rattle.image_write.specs.Writing.{Writes};
+ghost use Rattle.profile.specs.Calls.{Reads, Places};
+ghost use Rattle.planner.specs.Planning.{Plans};
+ghost use Rattle.encoder.specs.Times.{masks, deadlines, averages, worsts};
+ghost use Rattle.dry_cycle.specs.Dry.{tables, Dries};
+ghost use Rattle.dry_frame.specs.Frame.{Frames};
+ghost use Rattle.refresh.specs.Refresh.{Refreshes};
+
+pub mod readings;
+pub mod runs;
+
+// ---- the profile
+
+#[no_mangle]
+pub extern "C" fn nyokazerubi_check(image: &[u8]) -> Refusal
+    ensures { λ r. ⌜ First (image-checks (now (image .entry))) (r .number) ⌝ }
+{
+    profile::check(image)
+}
+
+#[no_mangle]
+pub extern "C" fn nyokazerubi_read(
+    image: &[u8],
+    masks: &mut [u64],
+    deadlines: &mut [u32],
+    averages: &mut [u32],
+    worst: &mut [u32],
+) -> Unpacked
+    ensures { λ r. ⌜ Reads (now (image .entry))
+        (now (masks .entry)) (now (deadlines .entry)) (now (averages .entry)) (now (worst .entry))
+        (now (masks .exit)) (now (deadlines .exit)) (now (averages .exit)) (now (worst .exit)) r ⌝ }
+{
+    profile::read(image, masks, deadlines, averages, worst)
+}
+
+#[no_mangle]
+pub extern "C" fn nyokazerubi_write(
+    n: usize,
+    levels: usize,
+    cycle: u32,
+    masks: &[u64],
+    deadlines: &[u32],
+    averages: &[u32],
+    worst: &[u32],
+    image: &mut [u8],
+) -> Written
+    ensures { λ r. ⌜ Writes n levels cycle (now (masks .entry)) (now (deadlines .entry)) (now (averages .entry)) (now (worst .entry))
+        (now (image .entry)) (now (image .exit)) (r .refusal .number) (r .bytes) ⌝ }
+{
+    profile::write(n, levels, cycle, masks, deadlines, averages, worst, image)
+}
+
+#[no_mangle]
+pub extern "C" fn nyokazerubi_write_encoder(image: &mut [u8]) -> Written
+    ensures { λ r. ⌜ Writes 9 8 320000 masks deadlines averages worsts (now (image .entry)) (now (image .exit)) (r .refusal .number) (r .bytes) ⌝ }
+{
+    encoder::write_image(image)
+}
+
+// No slice can be handed back to C: the host takes the part that lies at the place.
+#[no_mangle]
+pub extern "C" fn nyokazerubi_lookup(image: &[u8], action: usize) -> Place
+    ensures { λ r. ⌜ Places (now (image .entry)) action r ⌝ }
+{
+    profile::lookup_place(image, action)
+}
+
+#[no_mangle]
+pub extern "C" fn nyokazerubi_lookup_refusal(image: &[u8], action: usize) -> Refusal
+    ensures { λ r. ⌜ First (lookup-call (now (image .entry)) action) (r .number) ⌝ }
+{
+    profile::lookup_refusal(image, action)
+}
+
+// ---- the plan and the dry run
+
+#[no_mangle]
+pub extern "C" fn nyokazerubi_plan(
+    image: &[u8],
+    order: &mut [u8],
+    limits: &mut [i32],
+    worst: &mut [u32],
+    bounds: &mut [i32],
+) -> Planned
+    ensures { λ r. ⌜ Plans (now (image .entry)) (now (order .entry)) (now (limits .entry)) (now (worst .entry)) (now (bounds .entry))
+        (now (order .exit)) (now (limits .exit)) (now (worst .exit)) (now (bounds .exit)) r ⌝ }
+{
+    planner::plan(image, order, limits, worst, bounds)
+}
+
+#[no_mangle]
+pub extern "C" fn nyokazerubi_dry_run(
+    n: usize,
+    levels: usize,
+    limits: &[i32],
+    worst: &[u32],
+    bounds: &[i32],
+    durations: &[u32],
+    given: &mut [u8],
+    marks: &mut [u8],
+) -> Dried
+    ensures { λ r. ⌜ Dries n levels (tables (now (limits .entry)) (now (worst .entry)) (now (bounds .entry)) (now (durations .entry)))
+        (now (given .entry)) (now (given .exit)) (now (marks .entry)) (now (marks .exit)) r ⌝ }
+{
+    dry_cycle::dry_run(n, levels, limits, worst, bounds, durations, given, marks)
+}
+
+// A frame run dry, from an image.
+#[no_mangle]
+pub extern "C" fn nyokazerubi_dry_frame(
+    image: &[u8],
+    durations: &[u32],
+    order: &mut [u8],
+    given: &mut [u8],
+    marks: &mut [u8],
+) -> Framed
+    ensures { λ r. ⌜ Frames (now (image .entry)) (now (durations .entry)) (now (order .entry)) (now (given .entry)) (now (marks .entry))
+        (now (order .exit)) (now (given .exit)) (now (marks .exit)) r ⌝ }
+{
+    dry_frame::dry_frame(image, durations, order, given, marks)
+}
+
+// ---- the refresh
+
+#[no_mangle]
+pub extern "C" fn nyokazerubi_refresh(image: &[u8], trace: &[u8], out: &mut [u8]) -> Refreshed
+    ensures { λ r. ⌜ Refreshes (now (image .entry)) (now (trace .entry)) (now (out .entry)) (now (out .exit)) (r .refusal .number) (r .bytes) ⌝ }
+{
+    refresh::refresh(image, trace, out)
+}

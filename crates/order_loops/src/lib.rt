@@ -1,0 +1,69 @@
+// The actions on a loop of lent masks, from the sets of all that comes before each action.
+
+use sets::member;
+ghost use mathlib.Core.Path.{_≡_};
+ghost use mathlib.Core.List.{List};
+ghost use Prim.Native.Nat.{ℕ, _+_, _≤_, _<_};
+ghost use lib.ListN.{length, getD};
+ghost use Rattle.order_loops.specs.Looped.{Rows, FirstLooped};
+
+// The masks of the n actions.
+fn copied(masks: &[u64], n: usize) -> [u64; 64]
+    requires { ⌜ (n ≤ 64) × (n ≤ length (now masks)) ⌝ }
+    ensures long { λ r. ⌜ length r ≡ 64 ⌝ }
+    ensures each { λ r. ⌜ ((a : ℕ) → a < n → getD r a 0 ≡ getD (now (masks .entry)) a 0) ⌝ }
+{
+    let mut all = [0u64; 64];
+    let mut a: usize = 0;
+    while a < n {
+        all[a] = masks[a];
+        a += 1;
+    }
+    all
+}
+
+// Where k comes before an action, so does all that comes before k.
+fn through(all: &mut [u64; 64], n: usize, k: usize)
+    requires { ⌜ (n ≤ 64) × (k < n) ⌝ }
+    ensures { λ _. ⌜ ((masks : List ℕ) → Rows masks n k (now (all .entry)) → Rows masks n (k + 1) (now (all .exit))) ⌝ }
+{
+    let far = all[k];
+    let mut b: usize = 0;
+    while b < n {
+        let near = all[b];
+        if member(near, k) {
+            all[b] = near | far;
+        }
+        b += 1;
+    }
+}
+
+// For each action the set of those that it must follow.
+fn closed(masks: &[u64], n: usize) -> [u64; 64]
+    requires { ⌜ (n ≤ 64) × (n ≤ length (now masks)) ⌝ }
+    ensures { λ r. ⌜ Rows (now (masks .entry)) n n r ⌝ }
+{
+    let mut all = copied(masks, n);
+    let mut k: usize = 0;
+    while k < n {
+        through(&mut all, n, k);
+        k += 1;
+    }
+    all
+}
+
+// The lowest action on a loop, n where there is none.
+pub fn first_looped(masks: &[u64], n: usize) -> usize
+    requires { ⌜ (n ≤ 64) × (n ≤ length (now masks)) ⌝ }
+    ensures { λ r. ⌜ FirstLooped n (now (masks .entry)) r ⌝ }
+{
+    let all = closed(masks, n);
+    let mut a: usize = 0;
+    while a < n {
+        if member(all[a], a) {
+            return a;
+        }
+        a += 1;
+    }
+    n
+}
