@@ -3,11 +3,12 @@
 //!
 //! - [`calls`]: the public calls as a trait, and the values that they hand over.
 //! - [`reference`]: the calls by the document's definitions. Slow, plain, and the judge.
-//! - [`product`]: the product's own calls, linked.
+//! - [`boundary`]: the header in Rust; [`product`]: the product's own calls, linked, each in a safe function.
 //! - [`fast`]: the same calls as a good engineer would write them for speed; [`c`] binds the same in C (`c/fast.c`).
 //! - [`text`]: what the two programs print.
 //! - [`draw`]: inputs from a seed; [`compare`]: two implementations side by side over such inputs; [`outside`]: vectors in files.
 
+pub mod boundary;
 pub mod c;
 pub mod calls;
 pub mod compare;
@@ -18,4 +19,4 @@ pub mod product;
 pub mod reference;
 pub mod text;
 
-pub use calls::{Answer, Asked, Calls, Counts, Cycle, Reading, Run, Tables};
+pub use calls::{Answer, Calls, Counts, Dried, Given, Reading, Run, Tables};

@@ -16,4 +16,4 @@ pub use order::{Follows, Order};
 pub use profile::Profile;
 pub use refresh::refresh;
 pub use run::{ask, asked, dry_run, fields_out, granted, in_range, report, start, Bounds};
-pub use speed::{on_time, reading};
+pub use speed::{on_time, speed_reading};
