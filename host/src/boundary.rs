@@ -1,7 +1,7 @@
 //! `include/nyokazerubi.h` for a host in Rust: the same types, names, numbers and calls, in the same order. It stands on `core` alone and can be taken as
 //! it is. What a call asks of the memory that it is lent, what it answers and what it writes is said in the header.
 
-#![allow(clippy::too_many_arguments)]
+#![allow(dead_code, clippy::too_many_arguments)]
 
 /// The version of this boundary; [`nyokazerubi_boundary`] has that of the archive that is linked.
 pub const BOUNDARY: u32 = 1;

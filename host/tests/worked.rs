@@ -6,6 +6,8 @@ use nyokazerubi_host::boundary::{Refusal, Run, BOUNDARY};
 use nyokazerubi_host::calls::{Calls, Counts, Reading};
 use nyokazerubi_host::product::Product;
 use nyokazerubi_host::text;
+use std::fs;
+use std::path::Path;
 
 /// The planned tables of an accepted image.
 struct Plan {
@@ -108,6 +110,23 @@ fn refused_start(calls: &dyn Calls) {
 fn boundary_of_the_product() {
     assert_eq!(Product.boundary(), BOUNDARY);
     assert_eq!((std::mem::size_of::<Run>(), std::mem::size_of::<Refusal>()), (32, 4));
+}
+
+/// The files to try the programs on: the product's encoder with its averages as durations, and Three with the durations of case 1.
+#[test]
+fn examples() {
+    let file = |name: &str| {
+        let path = Path::new(env!("CARGO_MANIFEST_DIR")).join("../examples").join(name);
+        fs::read(&path).unwrap_or_else(|error| panic!("{}: {error}", path.display()))
+    };
+    let mut image = vec![0; 546];
+    assert_eq!(Product.write_encoder(&mut image), Ok(546));
+    assert_eq!(file("encoder.image"), image);
+    let (mut masks, mut deadlines, mut averages, mut worst) = ([0; 9], [0; 9], [0; 72], [0; 72]);
+    Product.read(&image, &mut masks, &mut deadlines, &mut averages, &mut worst).expect("accepted");
+    assert_eq!(file("encoder.durations"), averages.map(u32::to_be_bytes).concat());
+    assert_eq!(file("three.image"), common::three(20));
+    assert_eq!(file("three.durations"), twice([6, 8, 4]));
 }
 
 /// The product's own profile of the encoder, and a lent image that is too short or longer.
