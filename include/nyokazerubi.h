@@ -11,14 +11,15 @@
  * and writes the rest. Until it returns, the host sees to it that
  *   - each pointer is aligned and not null, with length 0 too, and has as many entries as it says;
  *   - what the call writes overlaps nothing else that it is lent, and no other thread touches it meanwhile; what it reads, any thread may read;
- *   - the three bools of the run record are 0 or 1 when it is lent to ask and to report. A start writes all of the record and reads none of it, so
+ *   - the three bools of the run record are 0 or 1 when it is lent to ask and to report. A start writes every field of the record and reads none, so
  *     it may be made over any bytes; after it, accepted or refused, they are, as long as the host does not write the record itself.
  * Nothing else is asked. Counts, positions, clocks and entries may have any value, which is refused if it does not fit. A table may be longer than
  * needed: its tail is kept. Calls may be made at any time and by several threads at once, each with a run record of its own, all over one plan.
  *
- * REFUSALS. Every answer has a refusal, whose number is 0 (accepted) or the first that applies of those that stand at the call, in that order.
- * With a number other than 0 the call has written nothing, the run record is as it was, and all else in the answer is 0 or false. One exception: a
- * refused start leaves a record of zero actions, on which ask and report answer 11 until a start is accepted.
+ * REFUSALS. Every answer has a refusal (but those of on_time and of boundary, which are plain): its number is 0, accepted, or the first that applies
+ * of those that stand at the call, in that order. With a number other than 0 the call has written nothing, the run record is as it was, and all else
+ * in the answer is 0 or false. One exception: a refused start leaves a record of zero actions, on which ask and report answer 11 until a start is
+ * accepted.
  *
  * A CYCLE, for profiles of up to 9 actions and 8 levels; encode() is the host's own. host/check compiles and runs these lines as they stand.
  *
@@ -274,8 +275,8 @@ struct nyokazerubi_given nyokazerubi_ask(
     const int32_t *limits, size_t limits_length,
     const int32_t *bounds, size_t bounds_length);
 
-/* The running action ended, by the clock since the cycle began, which may equal the last one. 11 (a field outside its range), 17, 11 (none runs),
- * 12, 13. */
+/* The running action ended, by the clock since the cycle began. Its duration is the clock less the last accepted one, 0 at the start, so that waiting
+ * before the asking is part of it; it may be 0. 11 (a field outside its range), 17, 11 (none runs), 12, 13. */
 struct nyokazerubi_refusal nyokazerubi_report(
     struct nyokazerubi_run *run, uint32_t clock,
     const uint32_t *worst_by_position, size_t worst_by_position_length);

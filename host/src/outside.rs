@@ -33,7 +33,7 @@ pub struct Written {
 
 const INTRODUCTION: &str = "# Vectors
 
-Made from the definitions of document 01, by a seed.
+Made from the definitions of the rules, by a seed.
 
 - NNN.profile (an image, any bytes), NNN.durations; NNN.plan is what the plan program prints for the image, NNN.dry what the dry-run program prints for both.
 - tNN.profile, tNN.trace; tNN.refreshed is the new image, empty with a refusal, whose number stands in the table below.

@@ -1,5 +1,5 @@
-//! Document 01 by its definitions: sums are summed, least and greatest are sought over all candidates, bits are taken one by one.
-//! Nothing here is worked out from its neighbour. Whole numbers are `i64`, in which no value of the document overflows.
+//! The rules by their definitions: sums are summed, least and greatest are sought over all candidates, bits are taken one by one.
+//! Nothing here is worked out from its neighbour. Whole numbers are `i64`, in which no value of the rules overflows.
 
 mod bits;
 mod image;

@@ -1,4 +1,4 @@
-//! Laws of the document that follow from its definitions, on drawn inputs.
+//! Laws of the rules that follow from its definitions, on drawn inputs.
 
 mod common;
 

@@ -1,4 +1,4 @@
-//! The document's worked values.
+//! The rules' worked values.
 
 mod common;
 

@@ -288,7 +288,7 @@ fn frame(sides: &Sides) {
     }
 }
 
-/// The document's encoder.
+/// The rules' encoder.
 fn encoder() -> Vec<u8> {
     let mut image = vec![0; 546];
     assert_eq!(Product.write_encoder(&mut image), Ok(546));

@@ -57,7 +57,7 @@ pub fn profile(sketch: &Sketch) -> Profile {
     }
 }
 
-/// The document's Three, with any cycle.
+/// The rules' Three, with any cycle.
 pub fn three(cycle: u32) -> Vec<u8> {
     Sketch {
         n: 3,
@@ -72,7 +72,7 @@ pub fn three(cycle: u32) -> Vec<u8> {
     .image()
 }
 
-/// The document's case 8.
+/// The rules' case 8.
 pub fn case_8() -> Vec<u8> {
     Sketch {
         n: 3,
@@ -87,7 +87,7 @@ pub fn case_8() -> Vec<u8> {
     .image()
 }
 
-/// The document's encoder.
+/// The rules' encoder.
 pub fn encoder() -> Vec<u8> {
     const MOTION: [(u32, u32); 8] = [
         (215, 1000),
