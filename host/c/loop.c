@@ -28,7 +28,8 @@ int main(void) {
     static uint8_t image[NYOKAZERUBI_IMAGE_BYTES(9, 8)];
     hold(nyokazerubi_boundary() == NYOKAZERUBI_BOUNDARY, "the archive is of this header");
     hold(nyokazerubi_write_encoder(image, sizeof image).bytes == sizeof image, "the encoder's profile");
-    hold(nyokazerubi_read(image, sizeof image, masks, ACTIONS, deadlines, ACTIONS, averages, TABLE, worst_by_action, TABLE).n == ACTIONS, "its times");
+    hold(nyokazerubi_read(image, sizeof image, masks, ACTIONS, deadlines, ACTIONS, averages, TABLE, worst_by_action, TABLE).n == ACTIONS,
+         "its times");
     struct nyokazerubi_planned planned = prepare(image, sizeof image);
     hold(planned.refusal.number == NYOKAZERUBI_ACCEPTED && planned.n == ACTIONS && planned.cycle == 320000, "its plan");
     hold(prepare(image, sizeof image - 1).refusal.number == NYOKAZERUBI_REFUSED_LENGTH, "a byte less");

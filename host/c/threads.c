@@ -1,5 +1,6 @@
-/* Several threads at once over one plan: each has a run record of its own, reads the same tables, and holds its cycles to the dry run over the same
- * durations, while the others run theirs, plan the same image into tables of their own and read the speed. A checker of threads sees two that meet. */
+/* Several threads at once over one plan: each has a run record of its own, reads the same tables, and holds its cycles to the dry run over the
+ * same durations, while the others run theirs, plan the same image into tables of their own and read the speed. A checker of threads sees where two
+ * would meet. */
 #include "../../include/nyokazerubi.h"
 
 #include <pthread.h>
