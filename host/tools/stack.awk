@@ -13,22 +13,43 @@ function hex(digits,    k, n) {
     return n
 }
 function unknown() { print "stack.awk: " name ": not known: " $0 > "/dev/stderr"; failed = 1 }
-function calls(callee) { sub(/^\.text\./, "", callee); sub(/[-+]0x[0-9a-f]+$/, "", callee); if (!edge[name, callee]) { edge[name, callee] = 1; callees[name] = callees[name] " " callee } }
+function calls(callee) {
+    sub(/^\.text\./, "", callee)
+    sub(/[-+]0x[0-9a-f]+$/, "", callee)
+    if ((name, callee) in edge) return
+    edge[name, callee] = 1
+    callees[name] = callees[name] " " callee
+}
 
-/^[0-9a-f]+ <.*>:$/ { name = $2; gsub(/[<>:]+$|^</, "", name); names[++count] = name; frame[name] = 8; probe = 0; last = ""; next }
-/R_X86_64_/ { if (last ~ /^(call|jmp)$/) calls($3); last = ""; next }
+/^[0-9a-f]+ <.*>:$/ {
+    name = $2
+    gsub(/>:$|^</, "", name)
+    names[++count] = name
+    frame[name] = 8
+    probe = 0
+    last = ""
+    next
+}
+# A relocation of a branch names a function; a jump there is as good as a call.
+/R_X86_64_/ { if (last || /R_X86_64_PLT32/) calls($3); last = ""; next }
 name == "" || $1 !~ /^[0-9a-f]+:$/ { next }
 {
-    word = $2; last = ""
-    operand = $3; way = operand; sub(/.*,/, "", way)
-    amount = operand; sub(/,.*/, "", amount)
+    word = $2
+    last = ""
+    operand = way = amount = $3
+    sub(/.*,/, "", way)
+    sub(/,.*/, "", amount)
 }
 word ~ /^push/ { frame[name] += 8; next }
 word == "call" || word == "jmp" {
     if (operand ~ /^\*/) { if (word == "call") unknown(); next }
     last = word
     # A call of itself needs no relocation.
-    if ($0 !~ /\+0x/) { target = $0; sub(/.*</, "", target); sub(/>.*/, "", target); if (word == "call") calls(target) }
+    if (word == "call" && $0 !~ /\+0x/) {
+        target = $0
+        gsub(/.*<|>.*/, "", target)
+        calls(target)
+    }
     next
 }
 # The stack is touched page by page on the way down: so far.
@@ -48,25 +69,49 @@ function cost(f,    k, g, n, list, most, c, sum) {
     if (f in known) return known[f]
     most = 0
     if (reach[f, f]) {
-        for (k = 1; k <= count; k++) if (reach[f, names[k]] && reach[names[k], f]) {
-            sum += frame[names[k]]
-            c = beyond(f, names[k]); if (c > most) most = c
+        for (k = 1; k <= count; k++) {
+            g = names[k]
+            if (!reach[f, g] || !reach[g, f]) continue
+            sum += frame[g]
+            c = beyond(f, g)
+            if (c > most) most = c
         }
         return known[f] = TURNS * sum + most
     }
     n = split(callees[f], list, " ")
-    for (k = 1; k <= n; k++) { c = cost(list[k]); if (c > most) most = c }
+    for (k = 1; k <= n; k++) {
+        c = cost(list[k])
+        if (c > most) most = c
+    }
     return known[f] = frame[f] + most
 }
+
+# The most of what g calls and what does not lead back to f.
 function beyond(f, g,    k, n, list, most, c) {
     n = split(callees[g], list, " ")
-    for (k = 1; k <= n; k++) if (!reach[list[k], f]) { c = cost(list[k]); if (c > most) most = c }
+    for (k = 1; k <= n; k++) {
+        if (reach[list[k], f]) continue
+        c = cost(list[k])
+        if (c > most) most = c
+    }
     return most
 }
+
+# Whether a function leads to another, through any that is between.
+function close_reach(    i, j, k, at) {
+    for (at in edge) reach[at] = 1
+    for (k = 1; k <= count; k++)
+        for (i = 1; i <= count; i++) {
+            if (!reach[names[i], names[k]]) continue
+            for (j = 1; j <= count; j++) if (reach[names[k], names[j]]) reach[names[i], names[j]] = 1
+        }
+}
 END {
-    for (i = 1; i <= count; i++) { n = split(callees[names[i]], list, " "); for (k = 1; k <= n; k++) reach[names[i], list[k]] = 1 }
-    for (k = 1; k <= count; k++) for (i = 1; i <= count; i++) if (reach[names[i], names[k]]) for (j = 1; j <= count; j++) if (reach[names[k], names[j]]) reach[names[i], names[j]] = 1
-    for (i = 1; i <= count; i++) if (names[i] ~ /^nyokazerubi_/) { print names[i], cost(names[i]) + BELOW; found++ }
+    close_reach()
+    for (i = 1; i <= count; i++) if (names[i] ~ /^nyokazerubi_/) {
+        print names[i], cost(names[i]) + BELOW
+        found = 1
+    }
     if (!found) { print "stack.awk: no exported call" > "/dev/stderr"; failed = 1 }
     exit failed
 }
