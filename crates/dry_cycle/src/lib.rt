@@ -1,5 +1,6 @@
 // The dry run of a whole cycle over given durations: deciding and coasting call each other until no action remains.
 ghost use mathlib.Core.Path.{_≡_};
+ghost use mathlib.Core.List.{[]};
 ghost use Prim.Native.Nat.{_+_, _≤_, _<_};
 ghost use lib.Dec.{leb};
 ghost use lib.ListN.{length, getD};
@@ -9,7 +10,7 @@ ghost use Rattle.rules.specs.Refusals.{First};
 ghost use Rattle.rules.specs.Run.{ended};
 ghost use Rattle.rules.specs.Dry.{cell, dry-call};
 ghost use Rattle.run.specs.Calls.{run-of};
-ghost use Rattle.dry_cycle.specs.Dry.{tables, rooms, Dries};
+ghost use Rattle.dry_cycle.specs.Dry.{dry-rooms, Dries};
 ghost use Rattle.dry_cycle.specs.Cycle.{Ready, Running, Rest};
 use run::Run;
 
@@ -25,7 +26,7 @@ pub struct Dried {
 
 // The running action takes its duration at its level, and ends.
 fn passed(run: Run, worst: &[u32], durations: &[u32]) -> Run
-    requires { ⌜ Running (now worst) (now durations) (run-of run) ⌝ }
+    requires { ⌜ Running (record { order = []; limits = []; worst = now worst; bounds = [] }) (now durations) (run-of run) ⌝ }
     ensures { λ r. ⌜ run-of r ≡ ended (cell (now (worst .entry)) (run .levels) (run .position) (run .level))
         (run .clock + cell (now (durations .entry)) (run .levels) (run .position) (run .level)) (run-of run) ⌝ }
 {
@@ -43,10 +44,12 @@ fn decide(
     marks: &mut [u8],
     run: Run,
 ) -> Run
-    requires { ⌜ Ready (tables (now limits) (now worst) (now bounds) (now durations)) (length (now given)) (length (now marks)) (run-of run) ⌝ }
+    requires { ⌜ Ready (record { order = []; limits = now limits; worst = now worst; bounds = now bounds }) (now durations)
+        (record { levels = now given; decided = now marks }) (run-of run) ⌝ }
     requires { ⌜ (run .left ≡ 0) × (run .position < run .n) ⌝ }
-    ensures { λ r. ⌜ Rest (tables (now (limits .entry)) (now (worst .entry)) (now (bounds .entry)) (now (durations .entry)))
-        (now (given .entry)) (now (given .exit)) (now (marks .entry)) (now (marks .exit)) (run-of run) (run-of r) ⌝ }
+    ensures { λ r. ⌜ Rest (record { order = []; limits = now (limits .entry); worst = now (worst .entry); bounds = now (bounds .entry) })
+        (now (durations .entry)) (record { levels = now (given .entry); decided = now (marks .entry) })
+        (record { levels = now (given .exit); decided = now (marks .exit) }) (run-of run) (run-of r) ⌝ }
 {
     let mut next = run;
     loop {
@@ -83,9 +86,11 @@ fn coast(
     marks: &mut [u8],
     run: Run,
 ) -> Run
-    requires { ⌜ Ready (tables (now limits) (now worst) (now bounds) (now durations)) (length (now given)) (length (now marks)) (run-of run) ⌝ }
-    ensures { λ r. ⌜ Rest (tables (now (limits .entry)) (now (worst .entry)) (now (bounds .entry)) (now (durations .entry)))
-        (now (given .entry)) (now (given .exit)) (now (marks .entry)) (now (marks .exit)) (run-of run) (run-of r) ⌝ }
+    requires { ⌜ Ready (record { order = []; limits = now limits; worst = now worst; bounds = now bounds }) (now durations)
+        (record { levels = now given; decided = now marks }) (run-of run) ⌝ }
+    ensures { λ r. ⌜ Rest (record { order = []; limits = now (limits .entry); worst = now (worst .entry); bounds = now (bounds .entry) })
+        (now (durations .entry)) (record { levels = now (given .entry); decided = now (marks .entry) })
+        (record { levels = now (given .exit); decided = now (marks .exit) }) (run-of run) (run-of r) ⌝ }
 {
     let mut next = run;
     while 0 < next.left {
@@ -131,11 +136,12 @@ fn dry_refusal(
     worst: &[u32],
     bounds: &[i32],
     durations: &[u32],
-    given: usize,
-    marks: usize,
+    given: &[u8],
+    marks: &[u8],
 ) -> u32
-    ensures { λ r. ⌜ First (dry-call n levels (now (durations .entry))
-        (rooms n levels (tables (now (limits .entry)) (now (worst .entry)) (now (bounds .entry)) (now (durations .entry))) given marks)) r ⌝ }
+    ensures { λ r. ⌜ First (dry-call n levels (now (durations .entry)) (dry-rooms n levels
+        (record { order = []; limits = now (limits .entry); worst = now (worst .entry); bounds = now (bounds .entry) })
+        (now (durations .entry)) (record { levels = now (given .entry); decided = now (marks .entry) }))) r ⌝ }
 {
     if !run::counts_fit(n, levels) {
         return rules::REFUSED_COUNT;
@@ -145,8 +151,8 @@ fn dry_refusal(
         | (worst.len() < cells)
         | (bounds.len() < cells * rules::LONGEST_COAST)
         | (durations.len() < cells)
-        | (given < n)
-        | (marks < n)
+        | (given.len() < n)
+        | (marks.len() < n)
     {
         return rules::REFUSED_ROOM;
     }
@@ -167,8 +173,9 @@ pub fn dry_run(
     given: &mut [u8],
     marks: &mut [u8],
 ) -> Dried
-    ensures { λ r. ⌜ Dries n levels (tables (now (limits .entry)) (now (worst .entry)) (now (bounds .entry)) (now (durations .entry)))
-        (now (given .entry)) (now (given .exit)) (now (marks .entry)) (now (marks .exit)) r ⌝ }
+    ensures { λ r. ⌜ Dries n levels (record { order = []; limits = now (limits .entry); worst = now (worst .entry); bounds = now (bounds .entry) })
+        (now (durations .entry)) (record { levels = now (given .entry); decided = now (marks .entry) })
+        (record { levels = now (given .exit); decided = now (marks .exit) }) r ⌝ }
 {
     let refusal = dry_refusal(
         n,
@@ -177,8 +184,8 @@ pub fn dry_run(
         worst,
         bounds,
         durations,
-        given.len(),
-        marks.len(),
+        given,
+        marks,
     );
     if refusal != 0 {
         return Dried {

@@ -1,8 +1,10 @@
 // The run record and its calls: start, ask and report. Each call takes the record and hands the next one back.
 ghost use mathlib.Core.Path.{_≡_};
 ghost use mathlib.Core.Bool.{not, cond};
+ghost use mathlib.Core.List.{[]};
 ghost use Prim.Native.Nat.{_+_, _*_, _<_, _≤_};
 ghost use lib.Dec.{eqb};
+ghost use Rattle.rules.specs.Numbers.{most-actions, longest-coast};
 ghost use Rattle.rules.specs.Words.{one-if};
 ghost use Rattle.rules.specs.Run.{in-range, begun, coast, decide, ended, fits, lent, start-refusal, start, ask-refusal, ask, report-refusal, report};
 ghost use Rattle.run.specs.Calls.{run-of, answer-of, next-of, start-of, Open};
@@ -148,10 +150,11 @@ impl Run {
 
     // A decision here and now takes the level given, leaves r - 1 to coast, counts, and sets the late mark where no level fits.
     pub fn decided(self, limits: &[i32], bounds: &[i32]) -> Decided
-        requires { ⌜ Open (now limits) (now bounds) (run-of self) ⌝ }
-        ensures run { λ r. ⌜ run-of (r .run) ≡ decide 16 (lent (self .n) (self .levels) (now (limits .entry)) (now (bounds .entry))) (run-of self) ⌝ }
-        ensures late { λ r. ⌜ r .late
-            ≡ not (fits (lent (self .n) (self .levels) (now (limits .entry)) (now (bounds .entry))) (self .clock) (self .position)) ⌝ }
+        requires { ⌜ Open (record { order = []; limits = now limits; worst = []; bounds = now bounds }) (run-of self) ⌝ }
+        ensures run { λ r. ⌜ run-of (r .run) ≡ decide longest-coast
+            (lent (self .n) (self .levels) (record { order = []; limits = now (limits .entry); worst = []; bounds = now (bounds .entry) })) (run-of self) ⌝ }
+        ensures late { λ r. ⌜ r .late ≡ not (fits
+            (lent (self .n) (self .levels) (record { order = []; limits = now (limits .entry); worst = []; bounds = now (bounds .entry) })) (self .clock) (self .position)) ⌝ }
     {
         let n = self.n as usize;
         let levels = self.levels as usize;
@@ -201,7 +204,7 @@ impl Run {
     // The action's end at a clock, where its worst time at its level is `worst`: a longer duration sets the overrun mark and cancels the rest of
     // the coast.
     pub fn ended(self, worst: u32, clock: u32) -> Run
-        requires { ⌜ (self .position < 64) × (self .clock ≤ clock) ⌝ }
+        requires { ⌜ (self .position < most-actions) × (self .clock ≤ clock) ⌝ }
         ensures { λ r. ⌜ run-of r ≡ ended worst clock (run-of self) ⌝ }
     {
         let over = worst < clock - self.clock;
@@ -239,7 +242,8 @@ impl Run {
 
     // Fields out of range 11, room 17, an action runs 11, all done 10.
     fn ask_refusal(self, order: &[u8], limits: &[i32], bounds: &[i32]) -> u32
-        ensures { λ r. ⌜ r ≡ ask-refusal (now (order .entry)) (now (limits .entry)) (now (bounds .entry)) (run-of self) ⌝ }
+        ensures { λ r. ⌜ r ≡ ask-refusal
+            (record { order = now (order .entry); limits = now (limits .entry); worst = []; bounds = now (bounds .entry) }) (run-of self) ⌝ }
     {
         if !self.in_range() {
             return rules::REFUSED_TURN;
@@ -263,7 +267,8 @@ impl Run {
 
     // Asking takes no clock and sets the action running. A refusal gives back the record.
     pub fn ask(self, order: &[u8], limits: &[i32], bounds: &[i32]) -> Asked
-        ensures { λ r. ⌜ answer-of r ≡ ask (now (order .entry)) (now (limits .entry)) (now (bounds .entry)) (run-of self) ⌝ }
+        ensures { λ r. ⌜ answer-of r ≡ ask
+            (record { order = now (order .entry); limits = now (limits .entry); worst = []; bounds = now (bounds .entry) }) (run-of self) ⌝ }
     {
         let refusal = self.ask_refusal(order, limits, bounds);
         if refusal != 0 {

@@ -1,12 +1,14 @@
 -- The row of refusals, ground by ground. Assumes nothing.
 use mathlib.Core.Path.{refl, sym, _∙_}
+use mathlib.Core.List.{[]}
 use mathlib.Core.Logic.{inl, inr}
 use native.Mathlib.Omega.{arith}
 use borrow.Author.Needs.{needs}
 use borrow.Author.Tests.{not-true, not-false}
+use Rattle.rules.specs.Limits.{LentTables}
 use Rattle.rules.specs.Refusals.{Tight}
 use Rattle.run.proofs.Ranges.{Counts, fit-counts}
-use Rattle.dry_cycle.specs.Dry.{Tables, tables, rooms}
+use Rattle.dry_cycle.specs.Dry.{DryLists, dry-rooms}
 use Rattle.dry_cycle.proofs.Refusing.{counts-in, unfit-counts-out, few-cells, tested-tight, tested-roomy, room, one-long, none-long}
 use Rattle.dry_cycle.proofs.dry_refusal.Statement.{statement}
 use Rattle.dry_cycle.proofs.dry_refusal.Tie as tie
@@ -15,12 +17,15 @@ use Rattle.dry_cycle.proofs.dry_refusal.Tie as tie
 counted : (c : tie.Else1) → let a = c .before .before .before .before .args in Counts (a .n) (a .levels)
 counted c = fit-counts _ _ (sym (not-false _ (c .if1 .left)) ∙ c .before .counts-fit .ensures)
 
-abbrev lent : tie.Else1 → Tables
-lent c = let a = c .before .before .before .before .args in tables (a .limits .now) (a .worst .now) (a .bounds .now) (a .durations .now)
+abbrev lent : tie.Else1 → LentTables
+lent c = let a = c .before .before .before .before .args in record { order = []; limits = a .limits .now; worst = a .worst .now; bounds = a .bounds .now }
+
+abbrev lists : tie.Else1 → DryLists
+lists c = let a = c .before .before .before .before .args in record { levels = a .given .now; decided = a .marks .now }
 
 roomy : (c : tie.Else2) → let a = c .before .before .before .before .before .args in
-    Tight (rooms (a .n) (a .levels) (lent (c .before)) (a .given) (a .marks)) → ⊥
-roomy c = tested-roomy _ _ (lent (c .before)) _ _ (c .if2 .left)
+    Tight (dry-rooms (a .n) (a .levels) (lent (c .before)) (a .durations .now) (lists (c .before))) → ⊥
+roomy c = tested-roomy _ _ (lent (c .before)) _ (lists (c .before)) (c .if2 .left)
 
 returns : tie.Need-returns
 returns c = inl (unfit-counts-out _ _ (sym (not-true _ (c .if1 .taken)) ∙ c .before .counts-fit .ensures), refl)
@@ -32,10 +37,10 @@ mul-if2 : tie.Need-mul-if2
 mul-if2 c = omega (arith, few-cells (counted c))
 
 returns-2 : tie.Need-returns-2
-returns-2 c = inr (counts-in (counted (c .before)), inl (tested-tight _ _ (lent (c .before)) _ _ (c .if2 .taken), refl))
+returns-2 c = inr (counts-in (counted (c .before)), inl (tested-tight _ _ (lent (c .before)) _ (lists (c .before)) (c .if2 .taken), refl))
 
 all-short-requires : tie.Need-all-short-requires
-all-short-requires c κs = room _ _ (lent (c .before)) _ _ (roomy c) .lasting
+all-short-requires c κs = room _ _ (lent (c .before)) _ (lists (c .before)) (roomy c) .lasting
 
 returns-3 : tie.Need-returns-3
 returns-3 c =

@@ -1,7 +1,9 @@
 -- Refused, decided or coasted. Assumes nothing.
 use mathlib.Core.Path.{_≡_, sym, ap, _∙_}
+use mathlib.Core.List.{[]}
 use native.Mathlib.Omega.{arith}
 use borrow.Author.Needs.{needs}
+use Rattle.rules.specs.Limits.{LentTables}
 use Rattle.rules.specs.Run.{ask-refusal}
 use Rattle.rules.specs.Run.Answer.{refused}
 use Rattle.run.specs.Calls.{run-of}
@@ -10,19 +12,22 @@ use Rattle.run.proofs.Turns.{ask-refuses, ask-decides, ask-coasts}
 use Rattle.run.proofs.Run.ask.Statement.{statement}
 use Rattle.run.proofs.Run.ask.Tie as tie
 
--- after the test of the refusal
+-- after the test of the refusal: the tables, and that none is given
+abbrev lent : tie.Else1 → LentTables
+lent c = let a = c .before .before .before .args in record { order = a .order .now; limits = a .limits .now; worst = []; bounds = a .bounds .now }
+
 none : (c : tie.Else1) → let a = c .before .before .before .args in
-    0 ≡ ask-refusal (a .order .now) (a .limits .now) (a .bounds .now) (run-of (a .self))
+    0 ≡ ask-refusal (lent c) (run-of (a .self))
 none c = sym (c .if1 .left) ∙ c .before .ask-refusal .ensures
 
 ready : (c : tie.Else1) → let a = c .before .before .before .args in
-    Askable (a .order .now) (a .limits .now) (a .bounds .now) (run-of (a .self))
-ready c = askable _ _ _ _ (none c)
+    Askable (lent c) (run-of (a .self))
+ready c = askable _ _ (none c)
 
 returns : tie.Need-returns
 returns c =
     let d = c .before .before in
-    ap (refused (d .ask-refusal .result)) (c .kept .ensures) ∙ ask-refuses _ _ _ _ _ (d .ask-refusal .ensures) (c .before .if1 .taken)
+    ap (refused (d .ask-refusal .result)) (c .kept .ensures) ∙ ask-refuses _ _ _ (d .ask-refusal .ensures) (c .before .if1 .taken)
 
 shared-slice-read-action : tie.Need-shared-slice-read-action
 shared-slice-read-action c = omega (arith, ready (c .before .before), ready (c .before .before) .is-open .more)
@@ -36,10 +41,10 @@ decided-requires c κs = ready (c .before .before .before .before) .is-open
 returns-2 : tie.Need-returns-2
 returns-2 c =
     let d = c .before .decided .ensures in
-    ask-decides _ _ _ _ (none (c .before .before .before .before .before .before)) _ _ (c .before .before .if2 .taken) (d .0) (d .1)
+    ask-decides _ _ (none (c .before .before .before .before .before .before)) _ _ (c .before .before .if2 .taken) (d .0) (d .1)
 
 returns-3 : tie.Need-returns-3
-returns-3 c = ask-coasts _ _ _ _ (none (c .before .before .before .before .before)) _ (c .before .if2 .left) (c .coasted .ensures)
+returns-3 c = ask-coasts _ _ (none (c .before .before .before .before .before)) _ (c .before .if2 .left) (c .coasted .ensures)
 
 pub ask-spec : {M : Type 1} → statement M
 ask-spec =

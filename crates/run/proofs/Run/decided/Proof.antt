@@ -44,7 +44,7 @@ add-t15 c = let o = c .before .before .before .before .before .before .before .p
 returns : tie.Need-returns
 returns c =
     let left = c .before .before in
-    decided-is _ _ (run-of (left .before .before .before .before .before .before .args .self)) _ _ _ (left .before .before .last-within .ensures)
+    decided-is _ (run-of (left .before .before .before .before .before .before .args .self)) _ _ _ (left .before .before .last-within .ensures)
     (left .before .within .ensures) (left .left-granted .ensures)
 
 pub decided-spec : {M : Type 1} → statement M
