@@ -45,14 +45,14 @@ run-of-one r s e = ap back e
 
 pub start-of-one : (a b : Started) → start-of a ≡ start-of b → a ≡ b
 unfolding back
-start-of-one a b e = ap (λ (x : rules.Next). record { run = back (x .run); refusal = x .number }) e
+start-of-one a b e = ap (λ (x : rules.Next). record { run = back (x .run); refusal = record { number = x .number } }) e
 
 pub next-of-one : (a b : Reported) → next-of a ≡ next-of b → a ≡ b
 unfolding back
-next-of-one a b e = ap (λ (x : rules.Next). record { run = back (x .run); refusal = x .number }) e
+next-of-one a b e = ap (λ (x : rules.Next). record { run = back (x .run); refusal = record { number = x .number } }) e
 
 back-asked : rules.Answer → Asked
-back-asked (rules.refused k r) = record { run = back r; answer = Refused k }
+back-asked (rules.refused k r) = record { run = back r; answer = Refused (record { number = k }) }
 back-asked (rules.gives a q d l r) = record { run = back r; answer = Given a q d l }
 
 pub answer-of-one : (a b : Asked) → answer-of a ≡ answer-of b → a ≡ b
@@ -112,8 +112,8 @@ module _ (T : LentTables) where
 
 module _ (worst : List ℕ) (t : ℕ) where
   pub record ReportKept (r : Run) (a : Reported) : Type 0 where
-    pub refused : a .refusal ≢ 0 → a .run ≡ r
-    pub accepted : a .refusal ≡ 0 → rules.in-range (run-of (a .run)) ≡ true
+    pub refused : a .refusal .number ≢ 0 → a .run ≡ r
+    pub accepted : a .refusal .number ≡ 0 → rules.in-range (run-of (a .run)) ≡ true
 
   pub reported-kept : (r : Run) (a : Reported) → next-of a ≡ rules.report worst t (run-of r) → ReportKept r a
   unfolding rules.report
@@ -144,8 +144,8 @@ module _ (worst : List ℕ) (t : ℕ) where
 
 -- a refused start gives a record of zero actions
 pub record StartKept (n L : ℕ) (a : Started) : Type 0 where
-  pub refused : a .refusal ≢ 0 → run-of (a .run) ≡ rules.begun 0 0 0
-  pub accepted : a .refusal ≡ 0 → rules.in-range (run-of (a .run)) ≡ true
+  pub refused : a .refusal .number ≢ 0 → run-of (a .run) ≡ rules.begun 0 0 0
+  pub accepted : a .refusal .number ≡ 0 → rules.in-range (run-of (a .run)) ≡ true
 
 pub started-kept : (n L : ℕ) (a : Started) → start-of a ≡ rules.start n L → StartKept n L a
 unfolding rules.start

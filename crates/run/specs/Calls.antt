@@ -30,14 +30,14 @@ run-of r = record {
 
 -- What a start and a report answer: the number of the refusal, 0 for none, and the next record.
 abbrev pub start-of : Started → rules.Next
-start-of a = record { number = a .refusal; run = run-of (a .run) }
+start-of a = record { number = a .refusal .number; run = run-of (a .run) }
 
 abbrev pub next-of : Reported → rules.Next
-next-of a = record { number = a .refusal; run = run-of (a .run) }
+next-of a = record { number = a .refusal .number; run = run-of (a .run) }
 
 -- What an asking answers: the number of the refusal, or action, level, whether decided and late; and the next record.
 abbrev pub with-run : Answer → rules.Run → rules.Answer
-with-run (Refused number) r = rules.refused number r
+with-run (Refused refusal) r = rules.refused (refusal .number) r
 with-run (Given action level decided late) r = rules.gives action level decided late r
 
 abbrev pub answer-of : Asked → rules.Answer

@@ -1,11 +1,10 @@
 -- Refused, decided or coasted. Assumes nothing.
-use mathlib.Core.Path.{_≡_, sym, ap, _∙_}
+use mathlib.Core.Path.{_≡_, sym, _∙_}
 use mathlib.Core.List.{[]}
 use native.Mathlib.Omega.{arith}
 use borrow.Author.Needs.{needs}
 use Rattle.rules.specs.Limits.{LentTables}
 use Rattle.rules.specs.Run.{ask-refusal}
-use Rattle.rules.specs.Run.Answer.{refused}
 use Rattle.run.specs.Calls.{run-of}
 use Rattle.run.proofs.Refusing.{Askable, askable}
 use Rattle.run.proofs.Turns.{ask-refuses, ask-decides, ask-coasts}
@@ -26,8 +25,7 @@ ready c = askable _ _ (none c)
 
 returns : tie.Need-returns
 returns c =
-    let d = c .before .before in
-    ap (refused (d .ask-refusal .result)) (c .kept .ensures) ∙ ask-refuses _ _ _ (d .ask-refusal .ensures) (c .before .if1 .taken)
+    ask-refuses _ _ _ (c .before .ask-refusal .ensures) (c .if1 .taken)
 
 shared-slice-read-action : tie.Need-shared-slice-read-action
 shared-slice-read-action c = omega (arith, ready (c .before .before), ready (c .before .before) .is-open .more)
@@ -50,7 +48,6 @@ pub ask-spec : {M : Type 1} → statement M
 ask-spec =
     tie.close
     (tie.spec
-    (λ c κs. search needs)
     (λ c κs. search needs)
     returns
     (λ c. search needs)

@@ -1,4 +1,6 @@
 // The dry run of a whole cycle over given durations: deciding and coasting call each other until no action remains.
+use crate::Run;
+use rules::Refusal;
 ghost use mathlib.Core.Path.{_≡_};
 ghost use mathlib.Core.List.{[]};
 ghost use Prim.Native.Nat.{_+_, _≤_, _<_};
@@ -9,15 +11,14 @@ ghost use Rattle.rules.specs.Words.{all-pass};
 ghost use Rattle.rules.specs.Refusals.{First};
 ghost use Rattle.rules.specs.Run.{ended};
 ghost use Rattle.rules.specs.Dry.{cell, dry-call};
 ghost use Rattle.run.specs.Calls.{run-of};
-ghost use Rattle.dry_cycle.specs.Dry.{dry-rooms, Dries};
-ghost use Rattle.dry_cycle.specs.Cycle.{Ready, Running, Rest};
-use run::Run;
+ghost use Rattle.run.specs.Dry.{dry-rooms, Dries};
+ghost use Rattle.run.specs.Cycle.{Ready, Running, Rest};
 
-// The number of the refusal, 0 for none; the decisions made, the clock at the end, and the two marks.
+// The refusal; the decisions made, the clock at the end, and the two marks.
 #[repr(C)]
 pub struct Dried {
-    pub refusal: u32,
+    pub refusal: Refusal,
     pub decisions: u32,
     pub end: u32,
     pub overrun: bool,
@@ -143,7 +144,7 @@ fn dry_refusal(
         (record { order = []; limits = now (limits .entry); worst = now (worst .entry); bounds = now (bounds .entry) })
         (now (durations .entry)) (record { levels = now (given .entry); decided = now (marks .entry) }))) r ⌝ }
 {
-    if !run::counts_fit(n, levels) {
+    if !crate::counts_fit(n, levels) {
         return rules::REFUSED_COUNT;
     }
     let cells = n * levels;
@@ -177,29 +178,20 @@ pub fn dry_run(
         (now (durations .entry)) (record { levels = now (given .entry); decided = now (marks .entry) })
         (record { levels = now (given .exit); decided = now (marks .exit) }) r ⌝ }
 {
-    let refusal = dry_refusal(
-        n,
-        levels,
-        limits,
-        worst,
-        bounds,
-        durations,
-        given,
-        marks,
-    );
-    if refusal != 0 {
+    let number = dry_refusal(n, levels, limits, worst, bounds, durations, given, marks);
+    if number != 0 {
         return Dried {
-            refusal,
+            refusal: Refusal { number },
             decisions: 0,
             end: 0,
             overrun: false,
             late: false,
         };
     }
-    let run = run::begun(n as u32, levels as u32);
+    let run = crate::begun(n as u32, levels as u32);
     let last = decide(limits, worst, bounds, durations, given, marks, run);
     Dried {
-        refusal: 0,
+        refusal: Refusal { number: 0 },
         decisions: last.decisions,
         end: last.clock,
         overrun: last.overrun,

@@ -20,10 +20,10 @@ use Rattle.rules.specs.Dry.{LongEntry, dry-call}
 use Rattle.rules.proofs.Tests.{or-true, all-pass-each}
 use Rattle.rules.proofs.Refusals.{None, first-none}
 use Rattle.rules.proofs.Calls.{facts-in-range, begun-in-range}
 use Rattle.run.proofs.Ranges.{Counts}
 use Rattle.run.proofs.Refusing.{neither}
-use Rattle.dry_cycle.specs.Dry.{DryLists, dry-rooms}
-use Rattle.dry_cycle.specs.Cycle.{Ready}
+use Rattle.run.specs.Dry.{DryLists, dry-rooms}
+use Rattle.run.specs.Cycle.{Ready}
 
 -- ---- 3
 

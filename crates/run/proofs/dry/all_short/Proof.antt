@@ -6,9 +6,9 @@ use lib.Dec.{leb}
 use borrow.Author.Needs.{needs}
 use Rattle.rules.specs.Numbers.{longest-time}
 use Rattle.rules.specs.Words.{all-pass}
-use Rattle.dry_cycle.proofs.Refusing.{short, all-short-more}
-use Rattle.dry_cycle.proofs.all_short.Statement.{statement}
-use Rattle.dry_cycle.proofs.all_short.Tie as tie
+use Rattle.run.proofs.dry.Refusing.{short, all-short-more}
+use Rattle.run.proofs.dry.all_short.Statement.{statement}
+use Rattle.run.proofs.dry.all_short.Tie as tie
 
 abbrev Inv-loop : tie.InvT-loop
 Inv-loop durations cells all₀ k₀ all k = (k ≤ cells) × (all-pass (short durations) k ≡ leb all longest-time)

@@ -12,13 +12,13 @@ use Rattle.rules.specs.Run.{Run, begun}
 use Rattle.rules.specs.Dry.{dry-end, dry-call}
 use Rattle.rules.proofs.Refusals.{first-one}
 use Rattle.fields.specs.Fields.{splice}
-use Rattle.dry_cycle.specs.declared.Dried.{Dried}
-use Rattle.dry_cycle.specs.Dry.{DryLists, dry-rooms, Dries}
-use Rattle.dry_cycle.specs.Cycle.{levels-on, marks-on, onward, Rest}
-use Rattle.dry_cycle.proofs.Onward.{levels-whole, marks-whole, ends-whole}
+use Rattle.run.specs.declared.dry.Dried.{Dried}
+use Rattle.run.specs.Dry.{DryLists, dry-rooms, Dries}
+use Rattle.run.specs.Cycle.{levels-on, marks-on, onward, Rest}
+use Rattle.run.proofs.dry.Onward.{levels-whole, marks-whole, ends-whole}
 
 unfoldable pub made : ℕ → ℕ → ℕ → Bool → Bool → Dried
-made refusal decisions end overrun late = record { refusal = refusal; decisions = decisions; end = end; overrun = overrun; late = late }
+made refusal decisions end overrun late = record { refusal = record { number = refusal }; decisions = decisions; end = end; overrun = overrun; late = late }
 
 module _ (n L : ℕ) (T : LentTables) (durations : List ℕ) (before : DryLists) where
   abbrev Given : ℕ → Type 0
@@ -70,10 +70,10 @@ made-one p q r s t = cc
 -- Two answers to one call are the same, and so are the lists they leave.
 module _ {n L : ℕ} {T : LentTables} {durations : List ℕ} {before a b : DryLists} {r s : Dried}
     (p : Dries n L T durations before a r) (q : Dries n L T durations before b s) where
-  same : r .refusal ≡ s .refusal
-  same = first-one (dry-call n L durations (dry-rooms n L T durations before)) (r .refusal) (s .refusal) (p .refused) (q .refused)
+  same : r .refusal .number ≡ s .refusal .number
+  same = first-one (dry-call n L durations (dry-rooms n L T durations before)) (r .refusal .number) (s .refusal .number) (p .refused) (q .refused)
 
-  as-one : {A : Type 0} (new old : A) {x y : A} → x ≡ kept (r .refusal) new old → y ≡ kept (s .refusal) new old → x ≡ y
+  as-one : {A : Type 0} (new old : A) {x y : A} → x ≡ kept (r .refusal .number) new old → y ≡ kept (s .refusal .number) new old → x ≡ y
   as-one new old e f = e ∙ ap (λ (k : ℕ). kept k new old) same ∙ sym f
 
   pub lists-one : a ≡ b

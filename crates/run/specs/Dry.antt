@@ -9,7 +9,7 @@ use Rattle.rules.specs.Limits.{LentTables}
 use Rattle.rules.specs.Refusals.{First, kept}
 use Rattle.rules.specs.Dry.{dry-levels, dry-marks, dry-end, dry-call}
 use Rattle.fields.specs.Fields.{splice}
-use Rattle.dry_cycle.specs.declared.Dried.{Dried}
+use Rattle.run.specs.declared.dry.Dried.{Dried}
 
 -- The two lists that the dry run writes, as they are lent: a level and a decided mark (1 or 0) for each position.
 pub record DryLists : Type 0 where
@@ -29,10 +29,10 @@ dry-rooms n L T durations lists =
 
 -- The answer r, and what the two lists hold before and after: n levels and n decided marks, their tails kept, and with a refusal all of it.
 pub record Dries (n L : ℕ) (T : LentTables) (durations : List ℕ) (before after : DryLists) (r : Dried) : Type 0 where
-  pub refused : First (dry-call n L durations (dry-rooms n L T durations before)) (r .refusal)
-  pub levels : after .levels ≡ kept (r .refusal) (splice (before .levels) 0 (dry-levels n L T durations)) (before .levels)
-  pub decided : after .decided ≡ kept (r .refusal) (splice (before .decided) 0 (dry-marks n L T durations)) (before .decided)
-  pub decisions : r .decisions ≡ kept (r .refusal) (dry-end n L T durations .decisions) 0
-  pub end : r .end ≡ kept (r .refusal) (dry-end n L T durations .clock) 0
-  pub overrun : r .overrun ≡ kept (r .refusal) (dry-end n L T durations .overrun) false
-  pub late : r .late ≡ kept (r .refusal) (dry-end n L T durations .late) false
+  pub refused : First (dry-call n L durations (dry-rooms n L T durations before)) (r .refusal .number)
+  pub levels : after .levels ≡ kept (r .refusal .number) (splice (before .levels) 0 (dry-levels n L T durations)) (before .levels)
+  pub decided : after .decided ≡ kept (r .refusal .number) (splice (before .decided) 0 (dry-marks n L T durations)) (before .decided)
+  pub decisions : r .decisions ≡ kept (r .refusal .number) (dry-end n L T durations .decisions) 0
+  pub end : r .end ≡ kept (r .refusal .number) (dry-end n L T durations .clock) 0
+  pub overrun : r .overrun ≡ kept (r .refusal .number) (dry-end n L T durations .overrun) false
+  pub late : r .late ≡ kept (r .refusal .number) (dry-end n L T durations .late) false

@@ -10,7 +10,7 @@ use Rattle.rules.specs.Limits.{LentTables}
 use Rattle.rules.specs.Run.{Run, in-range, decides, lent}
 use Rattle.rules.specs.Dry.{step, cell}
 use Rattle.fields.specs.Fields.{splice}
-use Rattle.dry_cycle.specs.Dry.{DryLists}
+use Rattle.run.specs.Dry.{DryLists}
 
 -- One action on, at n and L.
 abbrev pub one-on : LentTables → List ℕ → ℕ → ℕ → Run → Run

@@ -14,8 +14,8 @@ use Rattle.fields.specs.Fields.{splice}
 use Rattle.fields.proofs.Splice.{splice-nil, set-splice, splice-join}
 use Rattle.fields.proofs.Cats.{cat-front}
 use Rattle.fields.proofs.Tabs.{tab-ext}
-use Rattle.dry_cycle.specs.Dry.{DryLists}
-use Rattle.dry_cycle.specs.Cycle.{one-on, onward, levels-on, marks-on, Rest}
+use Rattle.run.specs.Dry.{DryLists}
+use Rattle.run.specs.Cycle.{one-on, onward, levels-on, marks-on, Rest}
 
 -- what the record reads
 abbrev pub plan : LentTables → Run → Plan
