@@ -150,10 +150,10 @@ impl Run {
     // A decision here and now takes the level given, leaves r - 1 to coast, counts, and sets the late mark where no level fits.
     fn decided(self, limits: &[i32], bounds: &[i32]) -> Decided
         requires { ⌜ Open (record { order = []; limits = now limits; worst = []; bounds = now bounds }) (run-of self) ⌝ }
-        ensures run { λ r. ⌜ run-of (r .run) ≡ decide longest-coast
-            (lent (self .n) (self .levels) (record { order = []; limits = now (limits .entry); worst = []; bounds = now (bounds .entry) })) (run-of self) ⌝ }
-        ensures late { λ r. ⌜ r .late ≡ not (fits
-            (lent (self .n) (self .levels) (record { order = []; limits = now (limits .entry); worst = []; bounds = now (bounds .entry) })) (self .clock) (self .position)) ⌝ }
+        ensures run { λ r. ⌜ run-of (r .run) ≡ decide longest-coast (lent (self .n) (self .levels)
+            (record { order = []; limits = now (limits .entry); worst = []; bounds = now (bounds .entry) })) (run-of self) ⌝ }
+        ensures late { λ r. ⌜ r .late ≡ not (fits (lent (self .n) (self .levels)
+            (record { order = []; limits = now (limits .entry); worst = []; bounds = now (bounds .entry) })) (self .clock) (self .position)) ⌝ }
     {
         let n = self.n as usize;
         let levels = self.levels as usize;

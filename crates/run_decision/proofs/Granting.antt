@@ -121,7 +121,9 @@ module _ (n L : ℕ) (T : LentTables) (t i q : ℕ) where
       not-true (Rises x) .0 (all-pass-each (λ j. not (Rises j)) (suc y) all x (omega arith)) rise
     where
       all : all-pass (λ j. not (Rises j)) (suc y) ≡ true
-      all = ap (λ (b : Bool). b || all-pass (λ j. not (Rises j)) (suc y)) (sym (lt-leb L (suc q) below)) ∙ and-true (leZ (pos t) (getD (T .bounds) ((i * L + q) * 16 + (suc y - 1)) (pos 0))) (leb L (suc q) || all-pass (λ j. not (Rises j)) (suc y)) .0 p .1
+      all =
+          ap (λ (b : Bool). b || all-pass (λ j. not (Rises j)) (suc y)) (sym (lt-leb L (suc q) below))
+          ∙ and-true (leZ (pos t) (getD (T .bounds) ((i * L + q) * 16 + (suc y - 1)) (pos 0))) (leb L (suc q) || all-pass (λ j. not (Rises j)) (suc y)) .0 p .1
 
   pub going-stops : (x left m : ℕ) → Going x left → suc q < L → Rises x ≡ true → x ≤ m → left ≡ last-passing passes m
   going-stops x left m g below r l = g .found ∙ sym (last-below passes x m l (λ y h. failed (passes y) (too-long x y below r h)))

@@ -18,7 +18,7 @@ use Rattle.run.specs.Cycle.{levels-on, marks-on, onward, Rest}
 use Rattle.run.proofs.dry.Onward.{levels-whole, marks-whole, ends-whole}
 
 unfoldable pub made : ℕ → ℕ → ℕ → Bool → Bool → Dried
-made refusal decisions end overrun late = record { refusal = record { number = refusal }; decisions = decisions; end = end; overrun = overrun; late = late }
+made number decisions end overrun late = record { refusal = record { number = number }; decisions = decisions; end = end; overrun = overrun; late = late }
 
 module _ (n L : ℕ) (T : LentTables) (durations : List ℕ) (before : DryLists) where
   abbrev Given : ℕ → Type 0

@@ -7,7 +7,7 @@ use native.Mathlib.Omega.{arith}
 use lib.ListN.{length, set}
 use Rattle.rules.specs.Words.{cat, one-if}
 use Rattle.rules.specs.Limits.{LentTables, Plan}
-use Rattle.rules.specs.Run.{Run, decides, given, ended, lent, begun}
+use Rattle.rules.specs.Run.{Run, decides, ended, lent, begun}
 use Rattle.rules.specs.Dry.{step, before, cell, dry-levels, dry-marks, dry-end}
 use Rattle.rules.proofs.Demand.Record.{given-same}
 use Rattle.fields.specs.Fields.{splice}
@@ -97,7 +97,8 @@ module _ {T : LentTables} {durations : List ℕ} {r next : Run} {level mark : �
   rest-more lists after in-levels in-marks rest = record {
     levels = behind (lists .levels) _ (levels-on T durations) (levels-front T durations r left) (st .level-is) in-levels (rest .levels);
     decided = behind (lists .decided) _ (marks-on T durations) (marks-front T durations r left) (st .mark-is) in-marks (rest .decided);
-    ends = rest .ends ∙ ap (λ (s : Run). onward T durations s left) (st .is) ∙ sym (onward-front T durations r left) ∙ ap (onward T durations r) (sym fewer);
+    ends = rest .ends ∙ ap (λ (s : Run). onward T durations s left) (st .is) ∙ sym (onward-front T durations r left)
+        ∙ ap (onward T durations r) (sym fewer);
   }
     where
       left : ℕ

@@ -69,7 +69,8 @@ pub record Turn (T : LentTables) (durations : List ℕ) (lists₀ : DryLists) (r
   pub is : asked ≡ given 16 (plan T r) r
   pub mark-is : mark ≡ one-if (decides r)
 
-module _ {T : LentTables} {durations : List ℕ} {lists₀ : DryLists} {r₀ : Run} {lists : DryLists} {r : Run} (going : Going T durations lists₀ r₀ lists r) where
+module _ {T : LentTables} {durations : List ℕ} {lists₀ : DryLists} {r₀ : Run} {lists : DryLists} {r : Run}
+    (going : Going T durations lists₀ r₀ lists r) where
   -- a decision, where no coast is left
   pub is-open : r .position < r .n → Open (read T) r
   is-open more =
@@ -132,7 +133,10 @@ module _ {T : LentTables} {durations : List ℕ} {lists₀ : DryLists} {r₀ : R
     runs = ap (λ (s : Run). s .running) (turn .is) ∙ given-runs;
     timed = omega (arith, cells, ready .timed);
     lasting = omega (arith, cells, ready .lasting);
-    early = omega (arith, ready .early, ap (λ (s : Run). s .clock) (turn .is) ∙ same .clock, ap (λ (s : Run). s .position) (turn .is) ∙ same .position);
+    early =
+        let clock = ap (λ (s : Run). s .clock) (turn .is) ∙ same .clock in
+        let position = ap (λ (s : Run). s .position) (turn .is) ∙ same .position in
+        omega (arith, ready .early);
     short = λ k l. ready .short k (omega (arith, cells));
   }
 
@@ -175,7 +179,9 @@ module _ {T : LentTables} {durations : List ℕ} {lists₀ : DryLists} {r₀ : R
         next-n = ap (λ (s : Run). s .n) is-stepped ∙ n-stays T durations r
 
         next-cells : next .n * next .levels ≡ r .n * r .levels
-        next-cells = ap (λ (x : ℕ). x * next .levels) next-n ∙ ap (λ (x : ℕ). r .n * x) (ap (λ (s : Run). s .levels) is-stepped ∙ levels-stay T durations r)
+        next-cells =
+            ap (λ (x : ℕ). x * next .levels) next-n
+            ∙ ap (λ (x : ℕ). r .n * x) (ap (λ (s : Run). s .levels) is-stepped ∙ levels-stay T durations r)
 
     -- fewer remain
     pub turn-less : next .n - next .position < r .n - r .position

@@ -122,7 +122,9 @@ or-short : (a b : ℕ) → leb a longest-time && leb b longest-time ≡ leb (bit
 or-short a b = by (leb a longest-time) (leb b longest-time) refl refl
   where
     by : (p q : Bool) → leb a longest-time ≡ p → leb b longest-time ≡ q → p && q ≡ leb (bitOr a b) longest-time
-    by true true h k = sym (le-leb (bitOr a b) longest-time (omega (arith, or-lt 24 a b (omega (arith, leb-true a longest-time h)) (omega (arith, leb-true b longest-time k)))))
+    by true true h k =
+        let both = or-lt 24 a b (omega (arith, leb-true a longest-time h)) (omega (arith, leb-true b longest-time k)) in
+        sym (le-leb (bitOr a b) longest-time (omega (arith, both)))
     by true false h k = sym (lt-leb (bitOr a b) longest-time (omega (arith, or-add-and a b, and-le-l a b, leb-false b longest-time k)))
     by false q h k = sym (lt-leb (bitOr a b) longest-time (omega (arith, or-add-and a b, and-le-r a b, leb-false a longest-time h)))
 
@@ -152,7 +154,8 @@ none-long cells durations h e =
 
 -- ---- where none is given
 
-module _ (n L : ℕ) (T : LentTables) (durations : List ℕ) (lists : DryLists) (none : First (dry-call n L durations (dry-rooms n L T durations lists)) 0) where
+module _ (n L : ℕ) (T : LentTables) (durations : List ℕ) (lists : DryLists)
+    (none : First (dry-call n L durations (dry-rooms n L T durations lists)) 0) where
   none-of : None (dry-call n L durations (dry-rooms n L T durations lists))
   none-of = first-none (dry-call n L durations (dry-rooms n L T durations lists)) (lit< tt, (lit< tt, (lit< tt, tt))) .0 none
 

@@ -17,7 +17,8 @@ use Rattle.run_decision.proofs.left_granted.Statement.{statement}
 use Rattle.run_decision.proofs.left_granted.Tie as tie
 
 abbrev Inv-loop : tie.InvT-loop
-Inv-loop limits bounds n levels position level t end from above left₀ x₀ left x = (x ≤ end) × Going n levels (record { order = []; limits = limits; worst = []; bounds = bounds }) t position level x left
+Inv-loop limits bounds n levels position level t end from above left₀ x₀ left x =
+    (x ≤ end) × Going n levels (record { order = []; limits = limits; worst = []; bounds = bounds }) t position level x left
 
 abbrev μ-loop : tie.MeasureT-loop
 μ-loop limits bounds n levels position level t end from above left₀ x₀ left x = end - x
@@ -37,7 +38,8 @@ last-within-requires c κs = omega (arith, placed (c .before .before .pre .0), c
 cast-result : tie.Need-cast-result Inv-loop μ-loop
 cast-result c =
     let a = c .before .before .before .args in
-    omega (arith, last-low (λ k. leZ (pos (a .t)) (getD (a .bounds .now) ((a .position * a .levels + a .level) * 16 + k) (pos 0))) (c .before .before .most .result))
+    let from = (a .position * a .levels + a .level) * 16 in
+    omega (arith, last-low (λ k. leZ (pos (a .t)) (getD (a .bounds .now) (from + k) (pos 0))) (c .before .before .most .result))
 
 returns : tie.Need-returns Inv-loop μ-loop
 returns c =

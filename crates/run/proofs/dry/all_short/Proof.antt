@@ -21,7 +21,9 @@ unfolding all-pass
 loop-holds c = (search needs, refl)
 
 loop-again : tie.Need-loop-again Inv-loop μ-loop
-loop-again c = let at = c .before .before in (search needs, all-short-more (at .before .args .durations .now) (at .loop .k) (at .loop .all) (at .loop .inv .1))
+loop-again c =
+    let at = c .before .before in
+    (search needs, all-short-more (at .before .args .durations .now) (at .loop .k) (at .loop .all) (at .loop .inv .1))
 
 returns : tie.Need-returns Inv-loop μ-loop
 returns c =
@@ -29,4 +31,6 @@ returns c =
     sym (rw e at (c .before .loop .inv .1))
 
 pub all-short-spec : {M : Type 1} → statement M
-all-short-spec = tie.close (tie.spec Inv-loop μ-loop loop-holds (λ c. search needs) (λ c. search needs) (λ c. search needs) (λ c. search needs) loop-again returns)
+all-short-spec =
+    tie.close
+    (tie.spec Inv-loop μ-loop loop-holds (λ c. search needs) (λ c. search needs) (λ c. search needs) (λ c. search needs) loop-again returns)

@@ -3,7 +3,6 @@ use Prim.Native.Nat.{ℕ, _-_, _<_}
 use mathlib.Core.Path.{_≡_, refl, _∙_}
 use mathlib.Core.List.{List, []}
 use native.Mathlib.Omega.{arith}
-use lib.ListN.{set}
 use borrow.Author.Needs.{needs}
 use Rattle.rules.specs.Run.{Run}
 use Rattle.rules.specs.Limits.{LentTables}
@@ -125,7 +124,10 @@ module _ (t : ℕ) where
   abbrev last : Calling → Ended
   last c = c .before .before .before .before
 
-  abbrev call : lts.After-slice-known4 (calls t) (decide-at t) decide.Post Inv-loop μ-loop → lts.After-coast (calls t) (decide-at t) decide.Post Inv-loop μ-loop
+  abbrev Called : Type 0
+  Called = lts.After-slice-known4 (calls t) (decide-at t) decide.Post Inv-loop μ-loop
+
+  abbrev call : Called → lts.After-coast (calls t) (decide-at t) decide.Post Inv-loop μ-loop
   call c = c .before .before .before .before
 
   pub coast-requires : lts.Need-coast-requires (calls t) (decide-at t) decide.Post Inv-loop μ-loop
