@@ -4,31 +4,31 @@ use mathlib.Core.List.{[]}
 use native.Mathlib.Omega.{arith}
 use borrow.Author.Needs.{needs}
 use Rattle.rules.specs.Limits.{LentTables}
-use Rattle.rules.specs.Run.{ask-refusal}
+use Rattle.rules.specs.Run.{Run, ask-refusal}
 use Rattle.run.specs.Calls.{run-of}
 use Rattle.run.proofs.Refusing.{Askable, askable}
 use Rattle.run.proofs.Turns.{ask-refuses, ask-decides, ask-coasts}
 use Rattle.run.proofs.Run.ask.Statement.{statement}
 use Rattle.run.proofs.Run.ask.Tie as tie
 
--- after the test of the refusal: the tables, and that none is given
+-- after the test of the refusal: the record asked and the tables, that none is given, and what follows
+abbrev asked : tie.Else1 → Run
+asked c = run-of (c .before .before .before .args .self)
+
 abbrev lent : tie.Else1 → LentTables
 lent c = let a = c .before .before .before .args in record { order = a .order .now; limits = a .limits .now; worst = []; bounds = a .bounds .now }
 
-none : (c : tie.Else1) → let a = c .before .before .before .args in
-    0 ≡ ask-refusal (lent c) (run-of (a .self))
+none : (c : tie.Else1) → 0 ≡ ask-refusal (lent c) (asked c)
 none c = sym (c .if1 .left) ∙ c .before .ask-refusal .ensures
 
-ready : (c : tie.Else1) → let a = c .before .before .before .args in
-    Askable (lent c) (run-of (a .self))
+ready : (c : tie.Else1) → Askable (lent c) (asked c)
 ready c = askable _ _ (none c)
 
 returns : tie.Need-returns
-returns c =
-    ask-refuses _ _ _ (c .before .ask-refusal .ensures) (c .if1 .taken)
+returns c = ask-refuses _ _ _ (c .before .ask-refusal .ensures) (c .if1 .taken)
 
 shared-slice-read-action : tie.Need-shared-slice-read-action
-shared-slice-read-action c = omega (arith, ready (c .before .before), ready (c .before .before) .is-open .more)
+shared-slice-read-action c = let may = ready (c .before .before) in omega (arith, may, may .is-open .more)
 
 cast-action : tie.Need-cast-action
 cast-action c = omega (arith, c .shared-slice-known2 .given (c .before .before .before .before .before .args .self .position))

@@ -44,10 +44,14 @@ module _ (t : ℕ) where
   abbrev head : Left → Head
   head c = c .before .before .before .before
 
-  -- the turn's own record, from all that is lent
+  -- the start of the call
+  abbrev start : Head → lts.Start (calls t) (coast-at t) coast.Post Inv-loop μ-loop
+  start h = h .before .before .before .before .before
+
+  -- the turn at its head, with `asked` the record that asks for its action
   abbrev Turn-at : Head → Run → Type 0
   Turn-at h asked =
-      let a = h .before .before .before .before .before .args in
+      let a = start h .args in
       let l = h .loop in
       Turn (record { order = []; limits = a .limits .now; worst = a .worst .now; bounds = a .bounds .now }) (a .durations .now)
       (record { levels = a .given .now; decided = a .marks .now }) (run-of (a .run))
@@ -105,7 +109,7 @@ module _ (t : ℕ) where
   decide-requires c κs =
       let h = last-head c in
       let going = h .loop .inv in
-      (omega (arith, h .before .before .before .before .before .pre .0, going .fewer), (going .ready, (omega arith, c .before .before .if2 .taken)))
+      (omega (arith, start h .pre .0, going .fewer), (going .ready, (omega arith, c .before .before .if2 .taken)))
 
   pub same-length : lts.Need-same-length (calls t) (coast-at t) coast.Post Inv-loop μ-loop
   same-length c = call c .decide .kept .1 .1 .1 .1 .0 ∙ last-head (call c .before) .loop .inv .same-levels
