@@ -11,7 +11,7 @@ use lib.ListN.{length, getD}
 use Rattle.rules.specs.Numbers.{refused-duration, refused-room}
 use Rattle.rules.specs.Words.{tab}
 use Rattle.rules.specs.Image.{profile}
-use Rattle.rules.specs.Limits.{tables as by-position}
+use Rattle.rules.specs.Limits.{LentTables, tables}
 use Rattle.rules.specs.Refusals.{Ground, _when_, First, CountsOut, Tight, image-checks}
 use Rattle.rules.specs.Run.{Run}
 use Rattle.rules.specs.Dry.{LongEntry, dry-call, frame-call}
@@ -25,8 +25,8 @@ use Rattle.rules.specs.declared.Refusal.{Refusal}
 use Rattle.planner.specs.declared.Planned.{Planned}
 use Rattle.planner.specs.Planning.{rooms as plan-rooms, Plans}
 use Rattle.planner.proofs.Answers.{kept-old, kept-new, by-number}
-use Rattle.dry_cycle.specs.declared.Dried.{Dried}
-use Rattle.dry_cycle.specs.Dry.{tables, needed, Dries}
+use Rattle.run.specs.declared.dry.Dried.{Dried}
+use Rattle.run.specs.Dry.{DryLists, dry-rooms, Dries}
 use Rattle.dry_frame.specs.declared.Framed.{Framed}
 use Rattle.dry_frame.specs.Frame.{rooms, run-at, Frames}
 use Rattle.dry_frame.proofs.Cycle.{Held, After, same-levels, same-marks, same-end, count-is, promise}
@@ -39,27 +39,32 @@ own n cells durations order given marks =
     refused-room when Tight (rooms n cells (length durations) order given marks) ∷ refused-duration when LongEntry cells durations ∷ []
 
 -- Where the planner's tables and the order have room, the frame's own refusal is the dry run's.
-own-of-dry : (n L : ℕ) (durations : List ℕ) (limits worst bounds order given marks k : ℕ) → (CountsOut n L → ⊥)
-    → n * L ≤ limits → n * L ≤ worst → n * L * 16 ≤ bounds → n ≤ order
-    → First (dry-call n L durations (needed n (n * L) limits worst bounds (length durations) given marks)) k
-    → First (own n (n * L) durations order given marks) k
-own-of-dry n L durations limits worst bounds order given marks k counts a b c d (inl p) = absurd (counts (p .0))
-own-of-dry n L durations limits worst bounds order given marks k counts a b c d (inr (_, inl (tight, is))) = inl (by tight, is)
-  where
-    by : Tight (needed n (n * L) limits worst bounds (length durations) given marks) → Tight (rooms n (n * L) (length durations) order given marks)
-    by (inl h) = absurd (omega arith)
-    by (inr (inl h)) = absurd (omega arith)
-    by (inr (inr (inl h))) = absurd (omega arith)
-    by (inr (inr (inr (inl h)))) = inl h
-    by (inr (inr (inr (inr (inl h))))) = inr (inr (inl h))
-    by (inr (inr (inr (inr (inr (inl h)))))) = inr (inr (inr (inl h)))
-own-of-dry n L durations limits worst bounds order given marks k counts a b c d (inr (_, inr (roomy, rest))) = inr ((λ t. roomy (by t)), rest)
-  where
-    by : Tight (rooms n (n * L) (length durations) order given marks) → Tight (needed n (n * L) limits worst bounds (length durations) given marks)
-    by (inl h) = inr (inr (inr (inl h)))
-    by (inr (inl h)) = absurd (omega arith)
-    by (inr (inr (inl h))) = inr (inr (inr (inr (inl h))))
-    by (inr (inr (inr (inl h)))) = inr (inr (inr (inr (inr (inl h)))))
+module _ (n L : ℕ) (T : LentTables) (durations : List ℕ) (lists : DryLists) (order : ℕ) where
+  abbrev dry : List (ℕ × ℕ)
+  dry = dry-rooms n L T durations lists
+
+  abbrev frame : List (ℕ × ℕ)
+  frame = rooms n (n * L) (length durations) order (length (lists .levels)) (length (lists .decided))
+
+  own-of-dry : (k : ℕ) → (CountsOut n L → ⊥) → n * L ≤ length (T .limits) → n * L ≤ length (T .worst) → n * L * 16 ≤ length (T .bounds) → n ≤ order
+      → First (dry-call n L durations dry) k → First (own n (n * L) durations order (length (lists .levels)) (length (lists .decided))) k
+  own-of-dry k counts a b c d (inl p) = absurd (counts (p .0))
+  own-of-dry k counts a b c d (inr (_, inl (tight, is))) = inl (by tight, is)
+    where
+      by : Tight dry → Tight frame
+      by (inl h) = absurd (omega arith)
+      by (inr (inl h)) = absurd (omega arith)
+      by (inr (inr (inl h))) = absurd (omega arith)
+      by (inr (inr (inr (inl h)))) = inl h
+      by (inr (inr (inr (inr (inl h))))) = inr (inr (inl h))
+      by (inr (inr (inr (inr (inr (inl h)))))) = inr (inr (inr (inl h)))
+  own-of-dry k counts a b c d (inr (_, inr (roomy, rest))) = inr ((λ t. roomy (by t)), rest)
+    where
+      by : Tight frame → Tight dry
+      by (inl h) = inr (inr (inr (inl h)))
+      by (inr (inl h)) = absurd (omega arith)
+      by (inr (inr (inl h))) = inr (inr (inr (inr (inl h))))
+      by (inr (inr (inr (inl h)))) = inr (inr (inr (inr (inr (inl h)))))
 
 -- ---- what is refused
 
@@ -160,27 +165,33 @@ module _ {s actions worst : List ℕ} {limits bounds : List ℤ} {p : Planned} (
         frames-not s durations order given marks (record { number = 17 }) (then-own none (inl (inr (inl (omega (arith, n-is none))), refl)))
         (λ z. omega arith) refl refl e
 
+    -- what the dry run is lent: the planner's tables without the order, and the two lists
+    abbrev T : LentTables
+    T = record { order = []; limits = limits; worst = worst; bounds = bounds }
+
+    abbrev lists : DryLists
+    lists = record { levels = given; decided = marks }
+
     module _ {given′ marks′ : List ℕ} {q : Dried} (none : p .refusal .number ≡ 0) (room : p .n ≤ length order)
-        (dries : Dries (p .n) (p .levels) (tables limits worst bounds durations) given given′ marks marks′ q) where
-      dries′ : Dries (profile s .n) (profile s .levels) (tables limits worst bounds durations) given given′ marks marks′ q
+        (dries : Dries (p .n) (p .levels) T durations lists (record { levels = given′; decided = marks′ }) q) where
+      dries′ : Dries (profile s .n) (profile s .levels) T durations lists (record { levels = given′; decided = marks′ }) q
       dries′ = rw (n-is none, levels-are none) at dries
 
-      own-is : First (rest s durations order given marks) (q .refusal)
+      own-is : First (rest s durations order given marks) (q .refusal .number)
       own-is =
           let h = sound none in
-          own-of-dry (profile s .n) (profile s .levels) durations (length limits) (length worst) (length bounds) (length order) (length given)
-          (length marks) (q .refusal) (λ c. h .not-count (inl c)) (omega (arith, few h .1, P .sized .limits-room))
-          (omega (arith, few h .1, P .sized .worst-room)) (omega (arith, few h .1, P .sized .bounds-room))
-          (omega (arith, n-is none)) (dries′ .refused)
+          own-of-dry (profile s .n) (profile s .levels) T durations lists (length order) (q .refusal .number) (λ c. h .not-count (inl c))
+          (omega (arith, few h .1, P .sized .limits-room)) (omega (arith, few h .1, P .sized .worst-room))
+          (omega (arith, few h .1, P .sized .bounds-room)) (omega (arith, n-is none)) (dries′ .refused)
 
-      pub dry-refused : {r : Framed} → q .refusal ≢ 0
-          → r ≡ record { refusal = record { number = q .refusal }; n = 0; decisions = 0; end = 0; overrun = false; late = false }
+      pub dry-refused : {r : Framed} → q .refusal .number ≢ 0
+          → r ≡ record { refusal = q .refusal; n = 0; decisions = 0; end = 0; overrun = false; late = false }
           → Frames s durations order given marks order given′ marks′ r
       dry-refused some e =
-          frames-not s durations order given marks (record { number = q .refusal }) (then-own none own-is) some
-          (dries′ .levels ∙ sym (kept-old (q .refusal) _ given some)) (dries′ .decided ∙ sym (kept-old (q .refusal) _ marks some)) e
+          frames-not s durations order given marks (q .refusal) (then-own none own-is) some
+          (dries′ .levels ∙ sym (kept-old (q .refusal .number) _ given some)) (dries′ .decided ∙ sym (kept-old (q .refusal .number) _ marks some)) e
 
-      held : Held (by-position (profile s) (P .plans .o)) limits worst bounds
+      held : Held (tables (profile s) (P .plans .o)) T
       held = record {
         limits₀ = (P .limits₀);
         worst₀ = (P .worst₀);
@@ -193,7 +204,7 @@ module _ {s actions worst : List ℕ} {limits bounds : List ℤ} {p : Planned} (
       level : 0 < profile s .levels
       level = some-level (profile s) (P .plans .o) (sound none .not-count)
 
-      module _ (dry-none : q .refusal ≡ 0) where
+      module _ (dry-none : q .refusal .number ≡ 0) where
         after : After s durations (P .plans .o) given given′ marks marks′
         after = record {
           levels = rw dry-none at (dries′ .levels) ∙ ap (splice given 0) (same-levels held level durations);

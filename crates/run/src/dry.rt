@@ -1,5 +1,8 @@
 // The dry run of a whole cycle over given durations: deciding and coasting call each other until no action remains.
+use crate::Run;
+use rules::Refusal;
 ghost use mathlib.Core.Path.{_≡_};
+ghost use mathlib.Core.List.{[]};
 ghost use Prim.Native.Nat.{_+_, _≤_, _<_};
 ghost use lib.Dec.{leb};
 ghost use lib.ListN.{length, getD};
@@ -8,15 +11,14 @@ ghost use Rattle.rules.specs.Words.{all-pass};
 ghost use Rattle.rules.specs.Refusals.{First};
 ghost use Rattle.rules.specs.Run.{ended};
 ghost use Rattle.rules.specs.Dry.{cell, dry-call};
 ghost use Rattle.run.specs.Calls.{run-of};
-ghost use Rattle.dry_cycle.specs.Dry.{tables, rooms, Dries};
-ghost use Rattle.dry_cycle.specs.Cycle.{Ready, Running, Rest};
-use run::Run;
+ghost use Rattle.run.specs.Dry.{dry-rooms, Dries};
+ghost use Rattle.run.specs.Cycle.{Ready, Running, Rest};
 
-// The number of the refusal, 0 for none; the decisions made, the clock at the end, and the two marks.
+// The refusal; the decisions made, the clock at the end, and the two marks.
 #[repr(C)]
 pub struct Dried {
-    pub refusal: u32,
+    pub refusal: Refusal,
     pub decisions: u32,
     pub end: u32,
     pub overrun: bool,
@@ -25,7 +27,7 @@ pub struct Dried {
 
 // The running action takes its duration at its level, and ends.
 fn passed(run: Run, worst: &[u32], durations: &[u32]) -> Run
-    requires { ⌜ Running (now worst) (now durations) (run-of run) ⌝ }
+    requires { ⌜ Running (record { order = []; limits = []; worst = now worst; bounds = [] }) (now durations) (run-of run) ⌝ }
     ensures { λ r. ⌜ run-of r ≡ ended (cell (now (worst .entry)) (run .levels) (run .position) (run .level))
         (run .clock + cell (now (durations .entry)) (run .levels) (run .position) (run .level)) (run-of run) ⌝ }
 {
@@ -43,10 +45,12 @@ fn decide(
     marks: &mut [u8],
     run: Run,
 ) -> Run
-    requires { ⌜ Ready (tables (now limits) (now worst) (now bounds) (now durations)) (length (now given)) (length (now marks)) (run-of run) ⌝ }
+    requires { ⌜ Ready (record { order = []; limits = now limits; worst = now worst; bounds = now bounds }) (now durations)
+        (record { levels = now given; decided = now marks }) (run-of run) ⌝ }
     requires { ⌜ (run .left ≡ 0) × (run .position < run .n) ⌝ }
-    ensures { λ r. ⌜ Rest (tables (now (limits .entry)) (now (worst .entry)) (now (bounds .entry)) (now (durations .entry)))
-        (now (given .entry)) (now (given .exit)) (now (marks .entry)) (now (marks .exit)) (run-of run) (run-of r) ⌝ }
+    ensures { λ r. ⌜ Rest (record { order = []; limits = now (limits .entry); worst = now (worst .entry); bounds = now (bounds .entry) })
+        (now (durations .entry)) (record { levels = now (given .entry); decided = now (marks .entry) })
+        (record { levels = now (given .exit); decided = now (marks .exit) }) (run-of run) (run-of r) ⌝ }
 {
     let mut next = run;
     loop {
@@ -83,9 +87,11 @@ fn coast(
     marks: &mut [u8],
     run: Run,
 ) -> Run
-    requires { ⌜ Ready (tables (now limits) (now worst) (now bounds) (now durations)) (length (now given)) (length (now marks)) (run-of run) ⌝ }
-    ensures { λ r. ⌜ Rest (tables (now (limits .entry)) (now (worst .entry)) (now (bounds .entry)) (now (durations .entry)))
-        (now (given .entry)) (now (given .exit)) (now (marks .entry)) (now (marks .exit)) (run-of run) (run-of r) ⌝ }
+    requires { ⌜ Ready (record { order = []; limits = now limits; worst = now worst; bounds = now bounds }) (now durations)
+        (record { levels = now given; decided = now marks }) (run-of run) ⌝ }
+    ensures { λ r. ⌜ Rest (record { order = []; limits = now (limits .entry); worst = now (worst .entry); bounds = now (bounds .entry) })
+        (now (durations .entry)) (record { levels = now (given .entry); decided = now (marks .entry) })
+        (record { levels = now (given .exit); decided = now (marks .exit) }) (run-of run) (run-of r) ⌝ }
 {
     let mut next = run;
     while 0 < next.left {
@@ -131,13 +137,14 @@ fn dry_refusal(
     worst: &[u32],
     bounds: &[i32],
     durations: &[u32],
-    given: usize,
-    marks: usize,
+    given: &[u8],
+    marks: &[u8],
 ) -> u32
-    ensures { λ r. ⌜ First (dry-call n levels (now (durations .entry))
-        (rooms n levels (tables (now (limits .entry)) (now (worst .entry)) (now (bounds .entry)) (now (durations .entry))) given marks)) r ⌝ }
+    ensures { λ r. ⌜ First (dry-call n levels (now (durations .entry)) (dry-rooms n levels
+        (record { order = []; limits = now (limits .entry); worst = now (worst .entry); bounds = now (bounds .entry) })
+        (now (durations .entry)) (record { levels = now (given .entry); decided = now (marks .entry) }))) r ⌝ }
 {
-    if !run::counts_fit(n, levels) {
+    if !crate::counts_fit(n, levels) {
         return rules::REFUSED_COUNT;
     }
     let cells = n * levels;
@@ -145,8 +152,8 @@ fn dry_refusal(
         | (worst.len() < cells)
         | (bounds.len() < cells * rules::LONGEST_COAST)
         | (durations.len() < cells)
-        | (given < n)
-        | (marks < n)
+        | (given.len() < n)
+        | (marks.len() < n)
     {
         return rules::REFUSED_ROOM;
     }
@@ -167,32 +174,24 @@ pub fn dry_run(
     given: &mut [u8],
     marks: &mut [u8],
 ) -> Dried
-    ensures { λ r. ⌜ Dries n levels (tables (now (limits .entry)) (now (worst .entry)) (now (bounds .entry)) (now (durations .entry)))
-        (now (given .entry)) (now (given .exit)) (now (marks .entry)) (now (marks .exit)) r ⌝ }
+    ensures { λ r. ⌜ Dries n levels (record { order = []; limits = now (limits .entry); worst = now (worst .entry); bounds = now (bounds .entry) })
+        (now (durations .entry)) (record { levels = now (given .entry); decided = now (marks .entry) })
+        (record { levels = now (given .exit); decided = now (marks .exit) }) r ⌝ }
 {
-    let refusal = dry_refusal(
-        n,
-        levels,
-        limits,
-        worst,
-        bounds,
-        durations,
-        given.len(),
-        marks.len(),
-    );
-    if refusal != 0 {
+    let number = dry_refusal(n, levels, limits, worst, bounds, durations, given, marks);
+    if number != 0 {
         return Dried {
-            refusal,
+            refusal: Refusal { number },
             decisions: 0,
             end: 0,
             overrun: false,
             late: false,
         };
     }
-    let run = run::begun(n as u32, levels as u32);
+    let run = crate::begun(n as u32, levels as u32);
     let last = decide(limits, worst, bounds, durations, given, marks, run);
     Dried {
-        refusal: 0,
+        refusal: Refusal { number: 0 },
         decisions: last.decisions,
         end: last.clock,
         overrun: last.overrun,

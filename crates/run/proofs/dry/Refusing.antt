@@ -13,16 +13,17 @@ use lib.ListN.{length, getD}
 use borrow.Author.Tests.{le-leb, lt-leb, ltb-true, ltb-false, leb-true, leb-false}
 use Rattle.rules.specs.Numbers.{longest-time}
 use Rattle.rules.specs.Words.{all-pass}
+use Rattle.rules.specs.Limits.{LentTables}
 use Rattle.rules.specs.Refusals.{first, First, CountsOut, Tight}
 use Rattle.rules.specs.Run.{begun, start-refusal}
 use Rattle.rules.specs.Dry.{LongEntry, dry-call}
 use Rattle.rules.proofs.Tests.{or-true, all-pass-each}
 use Rattle.rules.proofs.Refusals.{None, first-none}
 use Rattle.rules.proofs.Calls.{facts-in-range, begun-in-range}
 use Rattle.run.proofs.Ranges.{Counts}
 use Rattle.run.proofs.Refusing.{neither}
-use Rattle.dry_cycle.specs.Dry.{Tables, rooms}
-use Rattle.dry_cycle.specs.Cycle.{Ready}
+use Rattle.run.specs.Dry.{DryLists, dry-rooms}
+use Rattle.run.specs.Cycle.{Ready}
 
 -- ---- 3
 
@@ -71,44 +72,44 @@ not-tight (r ∷ rest) h t =
     let p = neither (ltb (r .0) (r .1)) (short-of rest) h in
     ⊎-elim (λ l. omega (arith, ltb-false (r .0) (r .1) (p .0))) (not-tight rest (p .1)) t
 
-pub record Room (n L : ℕ) (T : Tables) (given marks : ℕ) : Type 0 where
+pub record Room (n L : ℕ) (T : LentTables) (durations : List ℕ) (lists : DryLists) : Type 0 where
   pub limited : n * L ≤ length (T .limits)
   pub timed : n * L ≤ length (T .worst)
   pub bounded : n * L * 16 ≤ length (T .bounds)
-  pub lasting : n * L ≤ length (T .durations)
-  pub gives : n ≤ given
-  pub marked : n ≤ marks
+  pub lasting : n * L ≤ length durations
+  pub gives : n ≤ length (lists .levels)
+  pub marked : n ≤ length (lists .decided)
 
-module _ (n L : ℕ) (T : Tables) (given marks : ℕ) where
+module _ (n L : ℕ) (T : LentTables) (durations : List ℕ) (lists : DryLists) where
   -- the six tests, one after another
   abbrev tested : Bool
   tested =
       ltb (length (T .limits)) (n * L) || ltb (length (T .worst)) (n * L) || ltb (length (T .bounds)) (n * L * 16)
-      || ltb (length (T .durations)) (n * L) || ltb given n || ltb marks n
+      || ltb (length durations) (n * L) || ltb (length (lists .levels)) n || ltb (length (lists .decided)) n
 
-  tested-is : tested ≡ short-of (rooms n L T given marks)
+  tested-is : tested ≡ short-of (dry-rooms n L T durations lists)
   unfolding short-of
   tested-is =
       six (ltb (length (T .limits)) (n * L)) (ltb (length (T .worst)) (n * L)) (ltb (length (T .bounds)) (n * L * 16))
-      (ltb (length (T .durations)) (n * L)) (ltb given n) (ltb marks n)
+      (ltb (length durations) (n * L)) (ltb (length (lists .levels)) n) (ltb (length (lists .decided)) n)
     where
       six : (a b c d e f : Bool) → a || b || c || d || e || f ≡ a || (b || (c || (d || (e || (f || false)))))
       six a b c d e f = simp (or-assoc, or-false)
 
-  pub tested-tight : tested ≡ true → Tight (rooms n L T given marks)
+  pub tested-tight : tested ≡ true → Tight (dry-rooms n L T durations lists)
   tested-tight h = is-tight _ (sym tested-is ∙ h)
 
-  pub tested-roomy : tested ≡ false → Tight (rooms n L T given marks) → ⊥
+  pub tested-roomy : tested ≡ false → Tight (dry-rooms n L T durations lists) → ⊥
   tested-roomy h = not-tight _ (sym tested-is ∙ h)
 
-  pub room : (Tight (rooms n L T given marks) → ⊥) → Room n L T given marks
+  pub room : (Tight (dry-rooms n L T durations lists) → ⊥) → Room n L T durations lists
   room out =
       let a : (length (T .limits) < n * L → ⊥) = λ h. out (inl h) in
       let b : (length (T .worst) < n * L → ⊥) = λ h. out (inr (inl h)) in
       let c : (length (T .bounds) < n * L * 16 → ⊥) = λ h. out (inr (inr (inl h))) in
-      let d : (length (T .durations) < n * L → ⊥) = λ h. out (inr (inr (inr (inl h)))) in
-      let e : (given < n → ⊥) = λ h. out (inr (inr (inr (inr (inl h))))) in
-      let f : (marks < n → ⊥) = λ h. out (inr (inr (inr (inr (inr (inl h)))))) in
+      let d : (length durations < n * L → ⊥) = λ h. out (inr (inr (inr (inl h)))) in
+      let e : (length (lists .levels) < n → ⊥) = λ h. out (inr (inr (inr (inr (inl h))))) in
+      let f : (length (lists .decided) < n → ⊥) = λ h. out (inr (inr (inr (inr (inr (inl h)))))) in
       record { limited = omega arith; timed = omega arith; bounded = omega arith; lasting = omega arith; gives = omega arith; marked = omega arith }
 
 -- ---- 16
@@ -121,7 +122,9 @@ or-short : (a b : ℕ) → leb a longest-time && leb b longest-time ≡ leb (bit
 or-short a b = by (leb a longest-time) (leb b longest-time) refl refl
   where
     by : (p q : Bool) → leb a longest-time ≡ p → leb b longest-time ≡ q → p && q ≡ leb (bitOr a b) longest-time
-    by true true h k = sym (le-leb (bitOr a b) longest-time (omega (arith, or-lt 24 a b (omega (arith, leb-true a longest-time h)) (omega (arith, leb-true b longest-time k)))))
+    by true true h k =
+        let both = or-lt 24 a b (omega (arith, leb-true a longest-time h)) (omega (arith, leb-true b longest-time k)) in
+        sym (le-leb (bitOr a b) longest-time (omega (arith, both)))
     by true false h k = sym (lt-leb (bitOr a b) longest-time (omega (arith, or-add-and a b, and-le-l a b, leb-false b longest-time k)))
     by false q h k = sym (lt-leb (bitOr a b) longest-time (omega (arith, or-add-and a b, and-le-r a b, leb-false a longest-time h)))
 
@@ -151,18 +154,19 @@ none-long cells durations h e =
 
 -- ---- where none is given
 
-module _ (n L : ℕ) (T : Tables) (given marks : ℕ) (none : First (dry-call n L (T .durations) (rooms n L T given marks)) 0) where
-  none-of : None (dry-call n L (T .durations) (rooms n L T given marks))
-  none-of = first-none (dry-call n L (T .durations) (rooms n L T given marks)) (lit< tt, (lit< tt, (lit< tt, tt))) .0 none
+module _ (n L : ℕ) (T : LentTables) (durations : List ℕ) (lists : DryLists)
+    (none : First (dry-call n L durations (dry-rooms n L T durations lists)) 0) where
+  none-of : None (dry-call n L durations (dry-rooms n L T durations lists))
+  none-of = first-none (dry-call n L durations (dry-rooms n L T durations lists)) (lit< tt, (lit< tt, (lit< tt, tt))) .0 none
 
   pub is-counted : Counts n L
   is-counted = counts (none-of .0)
 
-  pub ready-begun : Ready T given marks (begun n L 0)
+  pub ready-begun : Ready T durations lists (begun n L 0)
   unfolding begun
   ready-begun =
       let c = is-counted in
-      let r = room n L T given marks (none-of .1 .0) in
+      let r = room n L T durations lists (none-of .1 .0) in
       record {
         ranged = facts-in-range _ (begun-in-range n L 0 (c .some-action) (c .few) (c .some-level) (c .few-levels) (omega arith));
         waits = refl;
@@ -176,5 +180,5 @@ module _ (n L : ℕ) (T : Tables) (given marks : ℕ) (none : First (dry-call n 
         short = λ k l. at-most k (λ h. none-of .1 .1 .0 (k, l, h));
       }
     where
-      at-most : (k : ℕ) → (longest-time < getD (T .durations) k 0 → ⊥) → getD (T .durations) k 0 ≤ longest-time
+      at-most : (k : ℕ) → (longest-time < getD durations k 0 → ⊥) → getD durations k 0 ≤ longest-time
       at-most k h = omega arith

@@ -1,9 +1,9 @@
 -- The cell of the running action lies in both tables, and its end within the clock limit. Assumes nothing.
 use native.Mathlib.Omega.{arith}
 use borrow.Author.Needs.{needs}
-use Rattle.dry_cycle.proofs.Readiness.{place}
-use Rattle.dry_cycle.proofs.passed.Statement.{statement}
-use Rattle.dry_cycle.proofs.passed.Tie as tie
+use Rattle.run.proofs.dry.Readiness.{place}
+use Rattle.run.proofs.dry.passed.Statement.{statement}
+use Rattle.run.proofs.dry.passed.Tie as tie
 
 mul-at : tie.Need-mul-at
 mul-at c = omega (arith, place (c .before .before .before .pre))

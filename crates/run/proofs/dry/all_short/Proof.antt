@@ -6,9 +6,9 @@ use lib.Dec.{leb}
 use borrow.Author.Needs.{needs}
 use Rattle.rules.specs.Numbers.{longest-time}
 use Rattle.rules.specs.Words.{all-pass}
-use Rattle.dry_cycle.proofs.Refusing.{short, all-short-more}
-use Rattle.dry_cycle.proofs.all_short.Statement.{statement}
-use Rattle.dry_cycle.proofs.all_short.Tie as tie
+use Rattle.run.proofs.dry.Refusing.{short, all-short-more}
+use Rattle.run.proofs.dry.all_short.Statement.{statement}
+use Rattle.run.proofs.dry.all_short.Tie as tie
 
 abbrev Inv-loop : tie.InvT-loop
 Inv-loop durations cells all₀ k₀ all k = (k ≤ cells) × (all-pass (short durations) k ≡ leb all longest-time)
@@ -21,7 +21,9 @@ unfolding all-pass
 loop-holds c = (search needs, refl)
 
 loop-again : tie.Need-loop-again Inv-loop μ-loop
-loop-again c = let at = c .before .before in (search needs, all-short-more (at .before .args .durations .now) (at .loop .k) (at .loop .all) (at .loop .inv .1))
+loop-again c =
+    let at = c .before .before in
+    (search needs, all-short-more (at .before .args .durations .now) (at .loop .k) (at .loop .all) (at .loop .inv .1))
 
 returns : tie.Need-returns Inv-loop μ-loop
 returns c =
@@ -29,4 +31,6 @@ returns c =
     sym (rw e at (c .before .loop .inv .1))
 
 pub all-short-spec : {M : Type 1} → statement M
-all-short-spec = tie.close (tie.spec Inv-loop μ-loop loop-holds (λ c. search needs) (λ c. search needs) (λ c. search needs) (λ c. search needs) loop-again returns)
+all-short-spec =
+    tie.close
+    (tie.spec Inv-loop μ-loop loop-holds (λ c. search needs) (λ c. search needs) (λ c. search needs) (λ c. search needs) loop-again returns)
