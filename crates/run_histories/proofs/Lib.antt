@@ -1,0 +1,4 @@
+pub mod Replies
+pub mod Accepting
+pub mod Marks
+pub mod Cycle
