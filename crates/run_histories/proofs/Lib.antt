@@ -2,3 +2,4 @@ pub mod Replies
 pub mod Accepting
 pub mod Marks
 pub mod Cycle
+pub mod Demand
