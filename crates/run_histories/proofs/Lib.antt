@@ -3,3 +3,5 @@ pub mod Accepting
 pub mod Marks
 pub mod Cycle
 pub mod Demand
+pub mod Planning
+pub mod Camera
