@@ -1,7 +1,8 @@
 -- What an accepted call says of the record that it met, and what it hands back. Assumes nothing.
-use Prim.Native.Nat.{ℕ, zero, suc, _+_, _*_, _≤_, _<_}
-use mathlib.Core.Path.{_≡_, refl, ap, sym, _∙_}
+use Prim.Native.Nat.{ℕ, zero, suc, _+_, _*_}
+use mathlib.Core.Path.{_≡_, refl, ap, sym}
 use mathlib.Core.Bool.{Bool, true, false, not, cond, _&&_}
+use mathlib.Core.List.{List}
 use lib.Dec.{eqb}
 use lib.ListN.{getD}
 use borrow.Author.Tests.{eqb-true, eqb-false}
@@ -10,7 +11,7 @@ use Rattle.rules.specs.Limits.{LentTables, Plan}
 use Rattle.rules.specs.Run.{Run, Next, Answer, begun, decide, coast, decides, given, ended, fits, lent, ask-refusal, ask, report-refusal, report}
 use Rattle.rules.specs.Dry.{step, before}
 use Rattle.run.proofs.Refusing.{Askable, askable, Reportable, reportable}
-use Rattle.run_histories.specs.History.{asks, reports, to-ask, ask-on, report-on, reply, number, Accepted}
+use Rattle.run_histories.specs.History.{asks, reports, to-ask, ask-on, reply, number, Accepted}
 
 -- ---- an asking
 
@@ -45,24 +46,24 @@ module _ (T : LentTables) (r : Run) where
 
 -- ---- a report
 
-module _ (T : LentTables) (t : ℕ) (r : Run) where
+module _ (worst : List ℕ) (t : ℕ) (r : Run) where
   pub record ReportTaken : Type 0 where
-    pub reportable : Reportable (T .worst) t r
-    pub answer : report-on T t r ≡ record { number = 0; run = ended (getD (T .worst) (r .position * r .levels + r .level) 0) t r }
+    pub reportable : Reportable worst t r
+    pub answer : report worst t r ≡ record { number = 0; run = ended (getD worst (r .position * r .levels + r .level) 0) t r }
 
-  pub report-taken : Accepted (reports T t) r → ReportTaken
+  pub report-taken : Accepted (reports worst t) r → ReportTaken
   unfolding reply number report
   report-taken h = by (eqb k 0) refl h
     where
       k : ℕ
-      k = report-refusal (T .worst) t r
+      k = report-refusal worst t r
 
       ends : Next
-      ends = record { number = 0; run = ended (getD (T .worst) (r .position * r .levels + r .level) 0) t r }
+      ends = record { number = 0; run = ended (getD worst (r .position * r .levels + r .level) 0) t r }
 
       by : (b : Bool) → eqb k 0 ≡ b → cond b ends (record { number = k; run = r }) .number ≡ 0 → ReportTaken
       by true e h = record {
-        reportable = reportable (T .worst) t r (sym (eqb-true k 0 e));
+        reportable = reportable worst t r (sym (eqb-true k 0 e));
         answer = ap (λ (b : Bool). cond b ends (record { number = k; run = r })) e;
       }
       by false e h = absurd (eqb-false k 0 e h)

@@ -1,6 +1,6 @@
 -- A history of calls on lists that read as one plan is a part of the dry run over its durations: the same records, levels, marks and clocks.
 -- Over any plan, whoever made it. Assumes nothing.
-use Prim.Native.Nat.{ℕ, suc, _+_, _-_, _*_, _≤_, _<_, zero-le}
+use Prim.Native.Nat.{ℕ, suc, _+_, _-_, _≤_, _<_, zero-le}
 use mathlib.Core.Path.{_≡_, refl, ap, sym, subst, _∙_}
 use mathlib.Core.Bool.{Bool, true, false, not, cond, _&&_}
 use mathlib.Core.List.{List, [], _∷_, _++_, append-assoc, append-nil}
@@ -19,14 +19,14 @@ use Rattle.rules.proofs.Calls.{in-range-facts}
 use Rattle.rules.proofs.Demand.Record.{Same, given-same, n-is, levels-is, position-is}
 use Rattle.rules.proofs.Demand.Alike.{Alike, fits-alike, given-alike}
 use Rattle.fields.proofs.Tabs.{length-tab}
-use Rattle.run_histories.specs.History.{Call, asks, reports, to-ask, to-report, ask-on, reply, number, handed, next, Accepted, Refused, after, along, EachAccepted, Asking, asking-of, clock-of, askings, clocks, clock-before, duration}
+use Rattle.run_histories.specs.History.{Call, asks, reports, to-ask, ask-on, reply, number, handed, next, Accepted, Refused, after, along, EachAccepted, Asking, asking-of, clock-of, askings, clocks, clock-before, duration}
 use Rattle.run_histories.proofs.Replies.{refused-stays, refused-asking, refused-clock}
 use Rattle.run_histories.proofs.Accepting.{lent-plan, gives-by, AskTaken, ask-taken, ReportTaken, report-taken, given-runs, before-waits}
 
 -- What a call takes reads as the plan P, as the worst times w by position and level, and as the actions by position, where a cycle reads it.
 abbrev pub OnPlan : (ℕ → ℕ) → Plan → (ℕ → ℕ → ℕ) → Call → Type 0
 OnPlan acts P w (asks T) = ((j : ℕ) → j < P .n → getD (T .order) j 0 ≡ acts j) × Alike longest-coast (lent-plan (P .n) (P .levels) T) P
-OnPlan acts P w (reports T t) = (i q : ℕ) → i < P .n → q < P .levels → cell (T .worst) (P .levels) i q ≡ w i q
+OnPlan acts P w (reports worst t) = (i q : ℕ) → i < P .n → q < P .levels → cell worst (P .levels) i q ≡ w i q
 
 -- the durations of a list of clocks, whatever the level
 abbrev pub taken : ℕ → List ℕ → ℕ → ℕ → ℕ
@@ -67,13 +67,17 @@ module _ (acts : ℕ → ℕ) (P : Plan) (w : ℕ → ℕ → ℕ) (t₀ : ℕ) 
 
   -- a refused call changes nothing
   stay : (c : Call) (ks : List ℕ) (xs : List Asking) (r : Run) → Refused c r → Standing ks xs r → Stepped c ks xs r
-  stay c ks xs r h (i, b, s) = (i, b, record {
-    run = refused-stays c r h ∙ s .run;
-    ends = ap (λ (l : List ℕ). ks ++ l) (refused-clock c (reply c r) h) ∙ append-nil ks ∙ s .ends;
-    asked = ap (λ (l : List Asking). xs ++ l) (refused-asking c (reply c r) h) ∙ append-nil xs ∙ s .asked;
-    time = s .time;
-    room = s .room;
-  })
+  stay c ks xs r h (i, b, s) = (
+    i,
+    b,
+    record {
+      run = refused-stays c r h ∙ s .run;
+      ends = ap (λ (l : List ℕ). ks ++ l) (refused-clock c (reply c r) h) ∙ append-nil ks ∙ s .ends;
+      asked = ap (λ (l : List Asking). xs ++ l) (refused-asking c (reply c r) h) ∙ append-nil xs ∙ s .asked;
+      time = s .time;
+      room = s .room;
+    },
+  )
 
   n-at : (i : ℕ) → at i .n ≡ P .n
   n-at i = n-is longest-coast P w (taken t₀ K) t₀ i
@@ -123,18 +127,22 @@ module _ (acts : ℕ → ℕ) (P : Plan) (w : ℕ → ℕ → ℕ) (t₀ : ℕ) 
 
     ask-on-plan : Stepped (asks T) ks xs r
     unfolding clock-of asking-of reply handed cat before step ended
-    ask-on-plan = (i, true, record {
-      run = ap (λ (x : Answer). handed (to-ask x)) by-plan;
-      ends = append-nil ks ∙ s .ends;
-      asked = ap (λ (l : List Asking). l ++ asking-of (asks T) (reply (asks T) r)) (s .asked)
-          ∙ ap (λ (x : Answer). answers i ++ asking-of (asks T) (to-ask x)) by-plan;
-      time = s .time;
-      room = more;
-    })
+    ask-on-plan = (
+      i,
+      true,
+      record {
+        run = ap (λ (x : Answer). handed (to-ask x)) by-plan;
+        ends = append-nil ks ∙ s .ends;
+        asked = ap (λ (l : List Asking). l ++ asking-of (asks T) (reply (asks T) r)) (s .asked)
+            ∙ ap (λ (x : Answer). answers i ++ asking-of (asks T) (to-ask x)) by-plan;
+        time = s .time;
+        room = more;
+      },
+    )
 
   -- an accepted report ends it
-  module _ (T : LentTables) (t : ℕ) (times : (i q : ℕ) → i < P .n → q < P .levels → cell (T .worst) (P .levels) i q ≡ w i q)
-      (ks : List ℕ) (xs : List Asking) (r : Run) (i : ℕ) (s : Stands i true ks xs r) (h : ReportTaken T t r)
+  module _ (worst : List ℕ) (t : ℕ) (times : (i q : ℕ) → i < P .n → q < P .levels → cell worst (P .levels) i q ≡ w i q)
+      (ks : List ℕ) (xs : List Asking) (r : Run) (i : ℕ) (s : Stands i true ks xs r) (h : ReportTaken worst t r)
       (rest : List ℕ) (whole : (ks ++ t ∷ []) ++ rest ≡ K) where
     same : Same longest-coast P (at i) (given longest-coast P (at i))
     same = given-same longest-coast P (at i)
@@ -163,13 +171,13 @@ module _ (acts : ℕ → ℕ) (P : Plan) (w : ℕ → ℕ → ℕ) (t₀ : ℕ) 
       levels-at i,
     )
 
-    ended-is : ended (cell (T .worst) (r .levels) (r .position) (r .level)) t r ≡ at (suc i)
+    ended-is : ended (cell worst (r .levels) (r .position) (r .level)) t r ≡ at (suc i)
     unfolding before step
     ended-is =
         let g = given longest-coast P (at i) in
-        ap (λ (x : Run). ended (cell (T .worst) (x .levels) (x .position) (x .level)) t x) (s .run)
-        ∙ ap (λ (p : ℕ). ended (cell (T .worst) (g .levels) p (g .level)) t g) (same .position)
-        ∙ ap (λ (L : ℕ). ended (cell (T .worst) L (at i .position) (g .level)) t g) (same .levels ∙ levels-at i)
+        ap (λ (x : Run). ended (cell worst (x .levels) (x .position) (x .level)) t x) (s .run)
+        ∙ ap (λ (p : ℕ). ended (cell worst (g .levels) p (g .level)) t g) (same .position)
+        ∙ ap (λ (L : ℕ). ended (cell worst L (at i .position) (g .level)) t g) (same .levels ∙ levels-at i)
         ∙ ap (λ (v : ℕ). ended v t g) (times (at i .position) (g .level) (omega (arith, position-at i, s .room)) level-low)
         ∙ ap (λ (u : ℕ). ended (w (at i .position) (g .level)) u g) (sym clock-is)
 
@@ -177,15 +185,19 @@ module _ (acts : ℕ → ℕ) (P : Plan) (w : ℕ → ℕ → ℕ) (t₀ : ℕ) 
     unfolding ended
     clock-next = ap (λ (x : Run). x .clock) (sym ended-is)
 
-    report-on-plan : Standing (ks ++ t ∷ []) (xs ++ asking-of (reports T t) (reply (reports T t) r)) (next (reports T t) r)
+    report-on-plan : Standing (ks ++ t ∷ []) (xs ++ asking-of (reports worst t) (reply (reports worst t) r)) (next (reports worst t) r)
     unfolding asking-of reply handed cat clock-before
-    report-on-plan = (suc i, false, record {
-      run = ap (λ (x : Next). x .run) (h .answer) ∙ ended-is;
-      ends = ap (λ (l : List ℕ). l ++ t ∷ []) (s .ends) ∙ ap (λ (k : ℕ). tab (λ j. at (suc j) .clock) i ++ k ∷ []) (sym clock-next);
-      asked = append-nil xs ∙ s .asked;
-      time = clock-next ∙ sym listed;
-      room = s .room;
-    })
+    report-on-plan = (
+      suc i,
+      false,
+      record {
+        run = ap (λ (x : Next). x .run) (h .answer) ∙ ended-is;
+        ends = ap (λ (l : List ℕ). l ++ t ∷ []) (s .ends) ∙ ap (λ (k : ℕ). tab (λ j. at (suc j) .clock) i ++ k ∷ []) (sym clock-next);
+        asked = append-nil xs ∙ s .asked;
+        time = clock-next ∙ sym listed;
+        room = s .room;
+      },
+    )
 
   -- The next call, whatever it is answered; `rest` are the clocks to come.
   stepped : (c : Call) (ks : List ℕ) (xs : List Asking) (r : Run) (rest : List ℕ) → (Accepted c r → OnPlan acts P w c)
@@ -198,16 +210,16 @@ module _ (acts : ℕ → ℕ) (P : Plan) (w : ℕ → ℕ → ℕ) (t₀ : ℕ) 
       by (yes h) (i, true, s) =
           absurd (not-both (ap (λ (x : Run). x .running) (s .run) ∙ given-runs longest-coast P (at i)) (ask-taken T r h .askable .is-open .waits))
       by (yes h) (i, false, s) = ask-on-plan T (on h .0) (on h .1) ks xs r i s (ask-taken T r h)
-  stepped (reports T t) ks xs r rest on whole now = by (ℕ-discrete (number (reply (reports T t) r)) 0) now
+  stepped (reports worst t) ks xs r rest on whole now = by (ℕ-discrete (number (reply (reports worst t) r)) 0) now
     where
-      by : Dec (Accepted (reports T t) r) → Standing ks xs r → Stepped (reports T t) ks xs r
-      by (no h) now = stay (reports T t) ks xs r h now
+      by : Dec (Accepted (reports worst t) r) → Standing ks xs r → Stepped (reports worst t) ks xs r
+      by (no h) now = stay (reports worst t) ks xs r h now
       by (yes h) (i, false, s) =
-          absurd (not-both (report-taken T t r h .reportable .runs) (ap (λ (x : Run). x .running) (s .run) ∙ before-waits longest-coast P w (taken t₀ K) t₀ i))
+          absurd (not-both (report-taken worst t r h .reportable .runs) (ap (λ (x : Run). x .running) (s .run) ∙ before-waits longest-coast P w (taken t₀ K) t₀ i))
       by (yes h) (i, true, s) =
-          let one : clock-of (reports T t) (reply (reports T t) r) ≡ t ∷ [] = ap (λ (k : ℕ). cond (eqb k 0) (t ∷ []) []) h in
-          subst (λ (l : List ℕ). Standing (ks ++ l) (xs ++ asking-of (reports T t) (reply (reports T t) r)) (next (reports T t) r)) (sym one)
-          (report-on-plan T t (on h) ks xs r i s (report-taken T t r h) rest (ap (λ (l : List ℕ). (ks ++ l) ++ rest) (sym one) ∙ whole))
+          let one : clock-of (reports worst t) (reply (reports worst t) r) ≡ t ∷ [] = ap (λ (k : ℕ). cond (eqb k 0) (t ∷ []) []) h in
+          subst (λ (l : List ℕ). Standing (ks ++ l) (xs ++ asking-of (reports worst t) (reply (reports worst t) r)) (next (reports worst t) r)) (sym one)
+          (report-on-plan worst t (on h) ks xs r i s (report-taken worst t r h) rest (ap (λ (l : List ℕ). (ks ++ l) ++ rest) (sym one) ∙ whole))
 
   walk : {cs : List Call} {r : Run} → EachAccepted (OnPlan acts P w) cs r → (ks : List ℕ) (xs : List Asking) → ks ++ clocks cs r ≡ K
       → Standing ks xs r → Standing K (xs ++ askings cs r) (after cs r)

@@ -5,3 +5,4 @@ pub mod Cycle
 pub mod Demand
 pub mod Planning
 pub mod Camera
+pub mod Worked

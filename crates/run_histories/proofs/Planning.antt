@@ -7,10 +7,8 @@ use mathlib.Core.Logic.{inl, inr, ⊎-elim}
 use native.Mathlib.Omega.{arith}
 use lib.Dec.{eqb}
 use lib.IntN.{pos}
-use lib.ListN.{getD}
 use Rattle.rules.specs.Numbers.{longest-coast, refused-room}
 use Rattle.rules.specs.Image.{profile}
-use Rattle.rules.specs.Order.{Order}
 use Rattle.rules.specs.Limits.{LentTables, Tables, tables, limit, coast-bound}
 use Rattle.rules.specs.Refusals.{_when_, Tight}
 use Rattle.rules.specs.Run.{Next, begun, lent, start, start-refusal}
@@ -65,7 +63,7 @@ module _ {s : List ℕ} {B T : LentTables} {p : Planned} (plans : PlansTables s 
           ∙ ap (coast-bound S (limit S) i q) one-less;
     },
   )
-  planned-on (reports A t) worst = λ i q l m. rows-written (S .worst) (B .worst) n L 0 (worst ∙ rw none at (plans .worst-is)) i q l m
+  planned-on (reports worst t) e = λ i q l m. rows-written (S .worst) (B .worst) n L 0 (e ∙ rw none at (plans .worst-is)) i q l m
 
   -- Starting with the counts that planning answers is not refused.
   pub planned-start : start (p .n) (p .levels) ≡ record { number = 0; run = begun (profile s .n) (profile s .levels) 0 }

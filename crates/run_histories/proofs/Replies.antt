@@ -7,7 +7,7 @@ use mathlib.Core.Logic.{_≢_}
 use borrow.Author.Tests.{eqb-false, ne-eqb}
 use lib.Dec.{eqb}
 use Rattle.rules.specs.Run.{Run, Next, Answer, ask, ask-refusal, report, report-refusal}
-use Rattle.run_histories.specs.History.{Call, Reply, asks, reports, to-ask, to-report, reply, number, handed, next, Refused, after, along, replies, accepted-calls, accepted-of, Asking, asking-of, clock-of}
+use Rattle.run_histories.specs.History.{Call, Reply, asks, reports, to-ask, to-report, reply, number, handed, next, Refused, after, along, replies, accepted-calls, accepted-of, asking-of, clock-of}
 
 -- ---- one call
 
@@ -29,10 +29,10 @@ refused-stays (asks T) r h = ask-stays (eqb k 0) _ k r refl h
   where
     k : ℕ
     k = ask-refusal (T .order) (T .limits) (T .bounds) r
-refused-stays (reports T t) r h = report-stays (eqb k 0) _ k r refl h
+refused-stays (reports worst t) r h = report-stays (eqb k 0) _ k r refl h
   where
     k : ℕ
-    k = report-refusal (T .worst) t r
+    k = report-refusal worst t r
 
 -- and gives neither an action nor a clock.
 pub refused-asking : (c : Call) (x : Reply) → number x ≢ 0 → asking-of c x ≡ []
@@ -44,7 +44,7 @@ refused-asking c (to-report x) h = refl
 pub refused-clock : (c : Call) (x : Reply) → number x ≢ 0 → clock-of c x ≡ []
 unfolding clock-of
 refused-clock (asks T) x h = refl
-refused-clock (reports T t) x h = ap (λ (b : Bool). cond b (t ∷ []) []) (ne-eqb (number x) 0 h)
+refused-clock (reports worst t) x h = ap (λ (b : Bool). cond b (t ∷ []) []) (ne-eqb (number x) 0 h)
 
 -- ---- histories one after another
 

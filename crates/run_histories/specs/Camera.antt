@@ -6,14 +6,16 @@ use lib.ListN.{length}
 use Rattle.rules.specs.Image.{profile}
 use Rattle.rules.specs.Order.{Order}
 use Rattle.rules.specs.Limits.{LentTables, tables, limit}
+use Rattle.rules.specs.Run.{start, report}
 use Rattle.rules.specs.Demand.{Policy}
 use Rattle.planner.specs.declared.Planned.{Planned}
 use Rattle.planner.specs.Planning.{Plans}
 use Rattle.run.specs.declared.Run.{Run}
 use Rattle.run.specs.declared.Asked.{Asked}
+use Rattle.run.specs.declared.Started.{Started}
 use Rattle.run.specs.declared.Reported.{Reported}
-use Rattle.run.specs.Calls.{run-of, answer-of, next-of}
-use Rattle.run_histories.specs.History.{Call, asks, reports, ask-on, report-on, Reply, to-ask, to-report, number, Asking, asking-of, clock-of, asking-at}
+use Rattle.run.specs.Calls.{run-of, start-of, answer-of, next-of}
+use Rattle.run_histories.specs.History.{Call, asks, reports, ask-on, Reply, to-ask, to-report, number, Asking, asking-of, clock-of, asking-at}
 use Rattle.run_histories.specs.Demand.{CallsKeep}
 
 -- ---- planning
@@ -24,32 +26,32 @@ PlansTables s B T p = Plans s (B .order) (B .limits) (B .worst) (B .bounds) (T .
 
 -- ---- asking and reporting
 
--- A call made: what it was lent, and what it answered, with the next record.
+-- A call made: what it was lent, the clock of a report, and what it answered, with the next record.
 pub data Made : Type 0 where
   asked : LentTables → Asked → Made
-  reported : LentTables → ℕ → Reported → Made
+  reported : List ℕ → ℕ → Reported → Made
 
 abbrev pub call-of : Made → Call
 call-of (asked T a) = asks T
-call-of (reported T t a) = reports T t
+call-of (reported worst t a) = reports worst t
 
 abbrev pub reply-of : Made → Reply
 reply-of (asked T a) = to-ask (answer-of a)
-reply-of (reported T t a) = to-report (next-of a)
+reply-of (reported worst t a) = to-report (next-of a)
 
 abbrev pub run-after : Made → Run
 run-after (asked T a) = a .run
-run-after (reported T t a) = a .run
+run-after (reported worst t a) = a .run
 
 -- Made on the record r, it answered as its contract says: that of `ask`, and that of `report`.
 abbrev pub Answers : Made → Run → Type 0
 Answers (asked T a) r = answer-of a ≡ ask-on T (run-of r)
-Answers (reported T t a) r = next-of a ≡ report-on T t (run-of r)
+Answers (reported worst t a) r = next-of a ≡ report worst t (run-of r)
 
 -- What a call takes is what lies in the tables T.
 abbrev pub LentFrom : LentTables → Call → Type 0
 LentFrom T (asks A) = (A .order ≡ T .order) × (A .limits ≡ T .limits) × (A .bounds ≡ T .bounds)
-LentFrom T (reports A t) = A .worst ≡ T .worst
+LentFrom T (reports worst t) = worst ≡ T .worst
 
 -- Calls made one after another, the first on the record r, each other on the record that the one before it handed back, and s is the record
 -- then. Any of them may be refused; those accepted are lent the tables T.
@@ -69,6 +71,13 @@ made-askings l = said asking-of l
 
 abbrev pub made-clocks : List Made → List ℕ
 made-clocks l = said clock-of l
+
+-- A cycle as a camera calls it: planning, not refused; a start with the counts that it answers; then askings and reports on what it wrote.
+pub record CameraCycle (s : List ℕ) (B T : LentTables) (p : Planned) (b : Started) (l : List Made) (r : Run) : Type 0 where
+  pub plans : PlansTables s B T p
+  pub planned : p .refusal .number ≡ 0
+  pub starts : start-of b ≡ start (p .n) (p .levels)
+  pub traced : Traced T (b .run) l r
 
 -- ---- the demand
 

@@ -11,17 +11,14 @@ use Rattle.rules.specs.Run.{Run, Next, Answer, ask, report}
 
 -- ---- calls and what they answer
 
--- An asking, and a report by a clock, each on the tables that it is lent.
+-- An asking on the tables that it is lent, and a report on the worst times that it is lent, by a clock.
 pub data Call : Type 0 where
   asks : LentTables → Call
-  reports : LentTables → ℕ → Call
+  reports : List ℕ → ℕ → Call
 
--- An asking takes the order, the limits and the coast bounds; a report the worst times.
+-- An asking takes the order, the limits and the coast bounds.
 abbrev pub ask-on : LentTables → Run → Answer
 ask-on T r = ask (T .order) (T .limits) (T .bounds) r
-
-abbrev pub report-on : LentTables → ℕ → Run → Next
-report-on T t r = report (T .worst) t r
 
 pub data Reply : Type 0 where
   to-ask : Answer → Reply
@@ -29,7 +26,7 @@ pub data Reply : Type 0 where
 
 unfoldable pub reply : Call → Run → Reply
 reply (asks T) r = to-ask (ask-on T r)
-reply (reports T t) r = to-report (report-on T t r)
+reply (reports worst t) r = to-report (report worst t r)
 
 -- the number of a refusal, 0 for none
 unfoldable pub number : Reply → ℕ
@@ -103,7 +100,7 @@ asking-of c (to-report x) = []
 -- The clock of an accepted report.
 unfoldable pub clock-of : Call → Reply → List ℕ
 clock-of (asks T) x = []
-clock-of (reports T t) x = cond (eqb (number x) 0) (t ∷ []) []
+clock-of (reports worst t) x = cond (eqb (number x) 0) (t ∷ []) []
 
 -- of a history
 abbrev pub askings : List Call → Run → List Asking
