@@ -47,7 +47,8 @@ module _ {T : LentTables} where
   traced-after Traced.none = refl
   traced-after (Traced.more {m = m} {l = l} {r = r} h on rest) = ap (after (map call-of l)) (next-is m r h) ∙ traced-after rest
 
-  pub traced-along : {A : Type 0} (f : Call → Reply → List A) {r s : Run} {l : List Made} → Traced T r l s → along f (map call-of l) (run-of r) ≡ said f l
+  pub traced-along : {A : Type 0} (f : Call → Reply → List A) {r s : Run} {l : List Made} → Traced T r l s
+      → along f (map call-of l) (run-of r) ≡ said f l
   unfolding along said
   traced-along f Traced.none = refl
   traced-along {A} f (Traced.more {m = m} {l = l} {r = r} h on rest) =

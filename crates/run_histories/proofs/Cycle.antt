@@ -89,8 +89,8 @@ module _ (acts : ℕ → ℕ) (P : Plan) (w : ℕ → ℕ → ℕ) (t₀ : ℕ) 
   position-at i = position-is longest-coast P w (taken t₀ K) t₀ i
 
   -- an accepted asking gives the next action
-  module _ (T : LentTables) (names : (j : ℕ) → j < P .n → getD (T .order) j 0 ≡ acts j) (alike : Alike longest-coast (lent-plan (P .n) (P .levels) T) P)
-      (ks : List ℕ) (xs : List Asking) (r : Run) (i : ℕ) (s : Stands i false ks xs r) (h : AskTaken T r) where
+  module _ (T : LentTables) (names : (j : ℕ) → j < P .n → getD (T .order) j 0 ≡ acts j)
+      (alike : Alike longest-coast (lent-plan (P .n) (P .levels) T) P) (ks : List ℕ) (xs : List Asking) (r : Run) (i : ℕ) (s : Stands i false ks xs r) (h : AskTaken T r) where
     more : i < P .n
     more = omega (
       arith,
@@ -215,17 +215,20 @@ module _ (acts : ℕ → ℕ) (P : Plan) (w : ℕ → ℕ → ℕ) (t₀ : ℕ) 
       by : Dec (Accepted (reports worst t) r) → Standing ks xs r → Stepped (reports worst t) ks xs r
       by (no h) now = stay (reports worst t) ks xs r h now
       by (yes h) (i, false, s) =
-          absurd (not-both (report-taken worst t r h .reportable .runs) (ap (λ (x : Run). x .running) (s .run) ∙ before-waits longest-coast P w (taken t₀ K) t₀ i))
+          absurd (not-both (report-taken worst t r h .reportable .runs)
+          (ap (λ (x : Run). x .running) (s .run) ∙ before-waits longest-coast P w (taken t₀ K) t₀ i))
       by (yes h) (i, true, s) =
           let one : clock-of (reports worst t) (reply (reports worst t) r) ≡ t ∷ [] = ap (λ (k : ℕ). cond (eqb k 0) (t ∷ []) []) h in
-          subst (λ (l : List ℕ). Standing (ks ++ l) (xs ++ asking-of (reports worst t) (reply (reports worst t) r)) (next (reports worst t) r)) (sym one)
+          let x = reply (reports worst t) r in
+          subst (λ (l : List ℕ). Standing (ks ++ l) (xs ++ asking-of (reports worst t) x) (handed x)) (sym one)
           (report-on-plan worst t (on h) ks xs r i s (report-taken worst t r h) rest (ap (λ (l : List ℕ). (ks ++ l) ++ rest) (sym one) ∙ whole))
 
   walk : {cs : List Call} {r : Run} → EachAccepted (OnPlan acts P w) cs r → (ks : List ℕ) (xs : List Asking) → ks ++ clocks cs r ≡ K
       → Standing ks xs r → Standing K (xs ++ askings cs r) (after cs r)
   unfolding along after
   walk {r = r} EachAccepted.none ks xs e now =
-      subst (λ (l : List ℕ). Standing l (xs ++ []) r) (sym (append-nil ks) ∙ e) (subst (λ (l : List Asking). Standing ks l r) (sym (append-nil xs)) now)
+      subst (λ (l : List ℕ). Standing l (xs ++ []) r) (sym (append-nil ks) ∙ e)
+      (subst (λ (l : List Asking). Standing ks l r) (sym (append-nil xs)) now)
   walk {r = r} (EachAccepted.more {c = c} {cs = cs} on each) ks xs e now =
       let whole = append-assoc ks (clock-of c (reply c r)) (clocks cs (next c r)) ∙ e in
       subst (λ (l : List Asking). Standing K l (after cs (next c r))) (append-assoc xs (asking-of c (reply c r)) (askings cs (next c r)))
@@ -238,4 +241,6 @@ module _ (acts : ℕ → ℕ) (P : Plan) (w : ℕ → ℕ → ℕ) (t₀ : ℕ) 
 -- Any history whose accepted calls are on one plan, from a start at time t.
 pub cycle-part : (acts : ℕ → ℕ) (P : Plan) (w : ℕ → ℕ → ℕ) (t : ℕ) (cs : List Call) → let r = begun (P .n) (P .levels) t in
     EachAccepted (OnPlan acts P w) cs r → Standing acts P w t (clocks cs r) (clocks cs r) (askings cs r) (after cs r)
-cycle-part acts P w t cs on = walk acts P w t (clocks cs (begun (P .n) (P .levels) t)) on [] [] refl (0, false, begins acts P w t (clocks cs (begun (P .n) (P .levels) t)))
+cycle-part acts P w t cs on =
+    let ks = clocks cs (begun (P .n) (P .levels) t) in
+    walk acts P w t ks on [] [] refl (0, false, begins acts P w t ks)

@@ -105,17 +105,6 @@ module _ {S : Tables} (P : Policy S) (some : 0 < S .levels) (t : ℕ) (acts : �
         sym (clock-is longest-coast (plan-of P) (S .worst) (taken t ks) t (suc j))
         ∙ sym (ap (λ (y : List ℕ). getD y j 0) (s .ends) ∙ getD-tab (λ j. at (suc j) .clock) i j 0 (omega (arith, ended-many)))
 
-    -- where the record's overrun mark is not set, no duration was above worst
-    unmarked : last .overrun ≡ false → WithinAnswered S t ks xs
-    unmarked e j l =
-        subst (λ (q : ℕ). duration t ks j ≤ S .worst j q) (level-is j (omega (arith, ended-asked)))
-        (overrun-within longest-coast (plan-of P) (S .worst) (taken t ks) t i (by b (ap (λ (r : Run). r .overrun) (sym (s .run)) ∙ e))
-        j (omega (arith, ended-many)))
-      where
-        by : (b : Bool) → cond b (given longest-coast Q (at i)) (at i) .overrun ≡ false → at i .overrun ≡ false
-        by true h = sym (given-same longest-coast Q (at i) .overrun) ∙ h
-        by false h = h
-
     module _ (begins : Safe S t 0 0) (within : WithinAnswered S t ks xs) where
       -- what has not ended counts as taking no time
       all-within : WithinWorst longest-coast P t (taken t ks)
@@ -135,7 +124,8 @@ module _ {S : Tables} (P : Policy S) (some : 0 < S .levels) (t : ℕ) (acts : �
           (parts .0, ap (λ (c : ℕ). decides (at j) && not (fits Q c j)) (clock-is longest-coast Q (S .worst) (taken t ks) t j) ∙ parts .1)
 
       not-late : (j : ℕ) → j ≤ S .n → at j .late ≡ false
-      not-late j l = le-ind (λ (m : ℕ). at m .late ≡ false → at j .late ≡ false) (λ e. e) (λ m a ih e. ih (late-parts m e .0)) (S .n) l (three .no-late)
+      not-late j l =
+          le-ind (λ (m : ℕ). at m .late ≡ false → at j .late ≡ false) (λ e. e) (λ m a ih e. ih (late-parts m e .0)) (S .n) l (three .no-late)
 
       not-over : (j : ℕ) → j ≤ S .n → at j .overrun ≡ false
       not-over j l = no-overrun longest-coast (omega arith) some P t (taken t ks) all-within j l
@@ -179,6 +169,17 @@ module _ {S : Tables} (P : Policy S) (some : 0 < S .levels) (t : ℕ) (acts : �
             (count-is (S .n) ∙ ap (λ (g : ℕ). decided-count (tab answer g)) (sym all) ∙ ap decided-count (sym (s .asked)))
             (kept-alike (duration t ks) (λ j. asking-at xs j .level) (λ j l. refl) (λ j l. level-is j (omega (arith, asked-many))) (three .kept));
       }
+
+    -- where the record's overrun mark is not set, no duration was above worst
+    unmarked : last .overrun ≡ false → WithinAnswered S t ks xs
+    unmarked e j l =
+        subst (λ (q : ℕ). duration t ks j ≤ S .worst j q) (level-is j (omega (arith, ended-asked)))
+        (overrun-within longest-coast (plan-of P) (S .worst) (taken t ks) t i (by b (ap (λ (r : Run). r .overrun) (sym (s .run)) ∙ e))
+        j (omega (arith, ended-many)))
+      where
+        by : (b : Bool) → cond b (given longest-coast Q (at i)) (at i) .overrun ≡ false → at i .overrun ≡ false
+        by true h = sym (given-same longest-coast Q (at i) .overrun) ∙ h
+        by false h = h
 
   -- Demand 3 of the calls: the accepted ones are lent lists that read as the policy's tables; refused ones may be lent anything.
   pub demand-of-calls : Safe S t 0 0 → let r = begun (S .n) (S .levels) t in

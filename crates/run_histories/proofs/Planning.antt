@@ -58,8 +58,8 @@ module _ {s : List ℕ} {B T : LentTables} {p : Planned} (plans : PlansTables s 
       limit = λ i q l m. rows-written (limit S) (B .limits) n L (pos 0) (limits ∙ rw none at (plans .limits-are)) i q l m;
       bound = λ i q r m a b c.
           let one-less : suc (r - 1) ≡ r = omega arith in
-          blocks-written (λ i q x. coast-bound S (limit S) i q (suc x)) (B .bounds) n L longest-coast (pos 0) (bounds ∙ rw none at (plans .bounds-are)) i q (r - 1)
-          (omega arith) m (omega arith)
+          blocks-written (λ i q x. coast-bound S (limit S) i q (suc x)) (B .bounds) n L longest-coast (pos 0)
+          (bounds ∙ rw none at (plans .bounds-are)) i q (r - 1) (omega arith) m (omega arith)
           ∙ ap (coast-bound S (limit S) i q) one-less;
     },
   )

@@ -57,5 +57,7 @@ worked : (map number (replies first-case (begun 3 2 0)) ≡ 11 ∷ 17 ∷ 0 ∷ 
     × (decided-count (askings first-case (begun 3 2 0)) ≡ 3)
     × (clocks first-case (begun 3 2 0) ≡ 6 ∷ 14 ∷ 18 ∷ [])
     × (map (duration 0 (clocks first-case (begun 3 2 0))) (0 ∷ 1 ∷ 2 ∷ []) ≡ 6 ∷ 8 ∷ 4 ∷ [])
-unfolding along after reply handed number asking-of clock-of duration clock-before decided-count ask report ask-refusal report-refusal first in-range every begun given decides ended lent level-given fits qualifies left-granted last-passing all-pass
+unfolding along after reply handed number asking-of clock-of duration clock-before decided-count
+    ask report ask-refusal report-refusal first in-range every begun
+    given decides ended lent level-given fits qualifies left-granted last-passing all-pass
 worked = (refl, refl, refl, refl, refl)
