@@ -1,6 +1,6 @@
 -- The boundary's calls are the calls by value over the record that the host keeps, so that they keep demand 3. Assumes nothing.
 use Prim.Native.Nat.{ℕ}
-use mathlib.Core.Path.{_≡_, refl, ap, sym, subst, _∙_}
+use mathlib.Core.Path.{_≡_, refl, ap, _∙_}
 use mathlib.Core.Bool.{Bool, true, false, cond}
 use mathlib.Core.List.{List, map}
 use mathlib.Core.Logic.{_≢_}
@@ -16,10 +16,11 @@ use Rattle.run.specs.declared.Answer.the-variants.{Refused, Given}
 use Rattle.run.specs.declared.Started.{Started}
 use Rattle.run.specs.Calls.{run-of, with-run}
 use Rattle.nyokazerubi.specs.declared.runs.Given as flat
-use Rattle.nyokazerubi.specs.Flat.{given-of, next-run, Asks}
+use Rattle.nyokazerubi.specs.Flat.{Asks}
 use Rattle.run_histories.specs.History.{ask-on}
 use Rattle.run_histories.specs.Demand.{WithinAnswered}
 use Rattle.run_histories.specs.Camera.{Answers, Traced, CameraCycle, CameraKeeps}
+use Rattle.run_histories.proofs.Replies.{refusal-on}
 use Rattle.run_histories.proofs.Camera.{camera-keeps, camera-unmarked}
 use Rattle.host_histories.specs.Host.{HostMade, host-asked, host-reported, answer-from, by-value, HostAnswers, HostTraced, host-askings, host-clocks, HostCycle}
 
@@ -28,19 +29,16 @@ use Rattle.host_histories.specs.Host.{HostMade, host-asked, host-reporte
 -- A refusal of an asking has a number.
 abbrev Numbered : rules.Answer → Type 0
 Numbered (rules.refused k r) = k ≢ 0
-Numbered (rules.gives action level decided late r) = ⊤
+Numbered (rules.gives action level decided late r) = Unit {0}
 
 ask-numbered : (T : LentTables) (r : rules.Run) → Numbered (ask-on T r)
 unfolding rules.ask
-ask-numbered T r = by (eqb k 0) refl
+ask-numbered T r = by (refusal-on T r) (eqb (refusal-on T r) 0) _ _ _ _ _ refl
   where
-    k : ℕ
-    k = rules.ask-refusal (T .order) (T .limits) (T .bounds) r
-
-    by : (b : Bool) {action level : ℕ} {decided late : Bool} {s : rules.Run} → eqb k 0 ≡ b
+    by : (k : ℕ) (b : Bool) (action level : ℕ) (decided late : Bool) (s : rules.Run) → eqb k 0 ≡ b
         → Numbered (cond b (rules.gives action level decided late s) (rules.refused k r))
-    by true e = tt
-    by false e = eqb-false k 0 e
+    by k true action level decided late s e = tt
+    by k false action level decided late s e = eqb-false k 0 e
 
 back : (x : rules.Answer) (r : Run) (g : flat.Given) → Numbered x → Asks x r g → with-run (answer-from g) (run-of r) ≡ x
 back (rules.refused k s) r g some a =
@@ -69,8 +67,10 @@ module _ {s : List ℕ} {B T : LentTables} {p : Planned} {b : Started} {l : List
   -- Demand 3 of the boundary's calls, where no accepted report's duration is above worst at the level answered.
   pub host-keeps : WithinAnswered (tables (profile s) (c .plans .o)) 0 (host-clocks l) (host-askings l)
       → CameraKeeps s (c .plans .o) (map by-value l) r
+  unfolding cycle-by-value
   host-keeps = camera-keeps cycle-by-value
 
   -- The same from the overrun mark.
   pub host-unmarked : r .overrun ≡ false → CameraKeeps s (c .plans .o) (map by-value l) r
+  unfolding cycle-by-value
   host-unmarked = camera-unmarked cycle-by-value

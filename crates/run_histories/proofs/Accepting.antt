@@ -8,10 +8,11 @@ use lib.ListN.{getD}
 use borrow.Author.Tests.{eqb-true, eqb-false}
 use Rattle.rules.specs.Numbers.{longest-coast}
 use Rattle.rules.specs.Limits.{LentTables, Plan}
-use Rattle.rules.specs.Run.{Run, Next, Answer, begun, decide, coast, decides, given, ended, fits, lent, ask-refusal, ask, report-refusal, report}
+use Rattle.rules.specs.Run.{Run, Next, Answer, begun, decide, coast, decides, given, ended, fits, lent, ask, report-refusal, report}
 use Rattle.rules.specs.Dry.{step, before}
 use Rattle.run.proofs.Refusing.{Askable, askable, Reportable, reportable}
 use Rattle.run_histories.specs.History.{asks, reports, to-ask, ask-on, reply, number, Accepted}
+use Rattle.run_histories.proofs.Replies.{refusal-on}
 
 -- ---- an asking
 
@@ -35,7 +36,7 @@ module _ (T : LentTables) (r : Run) where
   ask-taken h = by (eqb k 0) refl h
     where
       k : ℕ
-      k = ask-refusal (T .order) (T .limits) (T .bounds) r
+      k = refusal-on T r
 
       by : (b : Bool) → eqb k 0 ≡ b → number (to-ask (cond b (gives-by T r (lent-plan (r .n) (r .levels) T)) (Answer.refused k r))) ≡ 0 → AskTaken
       by true e h = record {
