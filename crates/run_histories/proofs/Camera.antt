@@ -107,7 +107,7 @@ module _ {s : List ℕ} {B T : LentTables} {p : Planned} {b : Started} {l : List
   pub camera-actions : (j : ℕ) → j < length (made-askings l) → asking-at (made-askings l) j .action ≡ c .plans .o .at j
   camera-actions = rw (sym askings-are) (actions-are P level 0 (c .plans .o .at) cs on)
 
-  -- DEMAND 3 OF THE CALLS THAT A CAMERA MAKES, where no accepted report's duration is above worst at the level answered.
+  -- Demand 3 of the calls that a camera makes, where no accepted report's duration is above worst at the level answered.
   pub camera-keeps : WithinAnswered (tables (profile s) (c .plans .o)) 0 (made-clocks l) (made-askings l) → CameraKeeps s (c .plans .o) l r
   camera-keeps within = record {
     policy = P;
