@@ -90,7 +90,8 @@ module _ (acts : ℕ → ℕ) (P : Plan) (w : ℕ → ℕ → ℕ) (t₀ : ℕ) 
 
   -- an accepted asking gives the next action
   module _ (T : LentTables) (names : (j : ℕ) → j < P .n → getD (T .order) j 0 ≡ acts j)
-      (alike : Alike longest-coast (lent-plan (P .n) (P .levels) T) P) (ks : List ℕ) (xs : List Asking) (r : Run) (i : ℕ) (s : Stands i false ks xs r) (h : AskTaken T r) where
+      (alike : Alike longest-coast (lent-plan (P .n) (P .levels) T) P)
+      (ks : List ℕ) (xs : List Asking) (r : Run) (i : ℕ) (s : Stands i false ks xs r) (h : AskTaken T r) where
     more : i < P .n
     more = omega (
       arith,
@@ -112,18 +113,18 @@ module _ (acts : ℕ → ℕ) (P : Plan) (w : ℕ → ℕ → ℕ) (t₀ : ℕ) 
         ∙ ap (λ (n : ℕ). gives-by T (at i) (lent-plan n (at i .levels) T)) (n-at i)
         ∙ ap (λ (L : ℕ). gives-by T (at i) (lent-plan (P .n) L T)) (levels-at i)
 
-    abbrev gives : ℕ → ℕ → Bool → Run → Answer
-    gives a p f x = Answer.gives a (x .level) (decides (at i)) (decides (at i) && not f) x
+    abbrev gives : ℕ → Bool → Run → Answer
+    gives a f x = Answer.gives a (x .level) (decides (at i)) (decides (at i) && not f) x
 
-    by-plan : ask-on T r ≡ gives (acts i) i (fits P (at i .clock) i) (given longest-coast P (at i))
+    by-plan : ask-on T r ≡ gives (acts i) (fits P (at i .clock) i) (given longest-coast P (at i))
     unfolding lent
     by-plan =
         let Q = lent-plan (P .n) (P .levels) T in
         by-lent
-        ∙ ap (λ (p : ℕ). gives (getD (T .order) p 0) p (fits Q (at i .clock) p) (given longest-coast Q (at i))) (position-at i)
-        ∙ ap (λ (a : ℕ). gives a i (fits Q (at i .clock) i) (given longest-coast Q (at i))) (names i more)
-        ∙ ap (λ (f : Bool). gives (acts i) i f (given longest-coast Q (at i))) (fits-alike alike some (at i .clock) i more)
-        ∙ ap (gives (acts i) i (fits P (at i .clock) i)) (given-alike alike some (at i) (omega (arith, more, position-at i)))
+        ∙ ap (λ (p : ℕ). gives (getD (T .order) p 0) (fits Q (at i .clock) p) (given longest-coast Q (at i))) (position-at i)
+        ∙ ap (λ (a : ℕ). gives a (fits Q (at i .clock) i) (given longest-coast Q (at i))) (names i more)
+        ∙ ap (λ (f : Bool). gives (acts i) f (given longest-coast Q (at i))) (fits-alike alike some (at i .clock) i more)
+        ∙ ap (gives (acts i) (fits P (at i .clock) i)) (given-alike alike some (at i) (omega (arith, more, position-at i)))
 
     ask-on-plan : Stepped (asks T) ks xs r
     unfolding clock-of asking-of reply handed cat before step ended
