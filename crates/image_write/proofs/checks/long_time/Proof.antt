@@ -4,8 +4,9 @@ use mathlib.Core.Logic.{inl, inr, ⊎-elim}
 use native.Mathlib.Omega.{arith}
 use borrow.Author.Needs.{needs}
 use borrow.Author.Count.{below-none, below-more}
-use Rattle.image_fields.proofs.Faults.{said-yes, said-no, Faultless}
-use Rattle.image_write.specs.Faults.{times}
+use Rattle.rules.specs.Image.{times}
+use Rattle.rules.proofs.Faults.{Faultless}
+use Rattle.image_fields.proofs.Faults.{said-yes, said-no}
 use Rattle.image_write.proofs.Answers.{less-says}
 use Rattle.image_write.proofs.Levels.{LongAt, longest-top}
 use Rattle.image_write.proofs.checks.long_time.Statement.{statement}
