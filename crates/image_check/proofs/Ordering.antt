@@ -65,4 +65,5 @@ found x v e n levels cycle = record {
   levels = levels ∙ x .levels;
   cycle = cycle ∙ x .cycle;
   order = v .order (λ z. omega arith);
+  rest = v .rest;
 }

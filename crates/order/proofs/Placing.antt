@@ -22,7 +22,7 @@ use Rattle.sets.proofs.Laws.{added, stays, either}
 use Rattle.sets.proofs.Members.{members-none, members-with}
 use Rattle.sets.proofs.Cases.{eq-or-ne}
 use Rattle.order.specs.Lent.{Masked}
-use Rattle.order.specs.Arranged.{Ready, Parted, Next, Placed}
+use Rattle.order.specs.Arranged.{Ready, Parted, Next, Placed, Rest}
 use Rattle.order.proofs.Waiting.{parted-each}
 
 -- ---- what is ready, and what is free
@@ -58,15 +58,17 @@ module _ (n : ℕ) (masks u : List ℕ) where
     pub exact : (a : ℕ) → (has done a ≡ true) ↔ Earlier (λ i. getD l i 0) k a
     pub parted : Parted n masks done free 0 w
     pub nexts : (j : ℕ) → j < k → NextAfter l j (getD l j 0)
+    pub rest : Rest k l
 
-  pub placing-start : {l w : List ℕ} {free : ℕ} → length l ≡ 64 → Parted n masks 0 free 0 w → Placing l w 0 free 0
-  placing-start long parted = record {
+  pub placing-start : {l w : List ℕ} {free : ℕ} → length l ≡ 64 → Rest 0 l → Parted n masks 0 free 0 w → Placing l w 0 free 0
+  placing-start long rest parted = record {
     most = omega arith;
     long = long;
     counts = members-none 64;
     exact = λ a. (λ h. absurd (not-both h (has-empty a)), λ e. absurd (omega (arith, e .1)));
     parted = parted;
     nexts = λ j m. absurd (omega arith);
+    rest = rest;
   }
 
   module _ (x : Masked n masks) {l w : List ℕ} {done free k : ℕ} (g : Placing l w done free k) where
@@ -117,6 +119,7 @@ module _ (n : ℕ) (masks u : List ℕ) where
             nexts = below-suc k (λ (j : ℕ). NextAfter (set l k a) j (getD (set l k a) j 0))
                 (λ j h. rw (past j (omega arith)) (moved j _ (omega arith) (g .nexts j h)))
                 (rw here (moved k a (le-refl k) goes));
+            rest = λ j h. past j (omega arith) ∙ g .rest j (omega arith);
           }
 
     -- ---- nothing is ready
@@ -126,6 +129,7 @@ module _ (n : ℕ) (masks u : List ℕ) where
       most = omega arith;
       looped = (λ h. loop, λ h. m);
       whole = λ q. absurd (omega arith);
+      rest = λ j h. g .rest j (omega arith);
     }
       where
         none : (a : ℕ) → a < n → Free n (before masks) (Earlier (λ i. getD l i 0) k) a → ⊥
@@ -143,6 +147,7 @@ module _ (n : ℕ) (masks u : List ℕ) where
     most = g .most;
     looped = (λ h. absurd (omega arith), λ h. absurd (no-loop o (by-urgency-permitted o by) h));
     whole = λ q. (o, by, λ j h. sym (Stepwise.order-at n (before masks) (λ b. getD u b 0) at nexts j));
+    rest = λ j h. g .rest j (omega (arith, g .most));
   }
     where
       at : ℕ → ℕ

@@ -35,7 +35,7 @@ module _ {mask done : ℕ} (m : mask < 2 ^ 64) (d : done < 2 ^ 64) where
 
 -- ---- at first all are to be looked at
 
-none-yet : (k b : ℕ) → getD {A = ℕ} (replicate k 0) b 0 ≡ 0
+pub none-yet : (k b : ℕ) → getD {A = ℕ} (replicate k 0) b 0 ≡ 0
 none-yet zero b = refl
 none-yet (suc k) zero = refl
 none-yet (suc k) (suc b) = none-yet k b

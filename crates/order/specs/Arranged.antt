@@ -42,8 +42,13 @@ pub record Next (u : List ℕ) (s a : ℕ) : Type 0 where
 abbrev pub Lists : {n : ℕ} → List ℕ → Order n → Type 0
 Lists {n} l o = (k : ℕ) → k < n → getD l k 0 ≡ o .at k
 
+-- it has 0 after n of them
+abbrev pub Rest : ℕ → List ℕ → Type 0
+Rest n l = (k : ℕ) → n ≤ k → getD l k 0 ≡ 0
+
 -- k actions were placed, fewer than n exactly when the masks contain a loop; else the list has all of them in order, by the urgencies u.
 pub record Placed (n : ℕ) (masks u : List ℕ) (k : ℕ) (l : List ℕ) : Type 0 where
   pub most : k ≤ n
   pub looped : (k < n) ↔ Loop n (before masks)
   pub whole : k ≡ n → (o : Order n) × ByUrgency n (before masks) (λ a. getD u a 0) o × Lists l o
+  pub rest : Rest n l

@@ -19,7 +19,7 @@ ghost use Prim.Native.Nat.{ℕ, _≤_, _<_};
 ghost use lib.ListN.{length, getD};
 ghost use Rattle.sets.specs.Sets.{Below};
 ghost use Rattle.order.specs.Lent.{lent, Masked, Timed};
-ghost use Rattle.order.specs.Arranged.{Parted, Next, Placed};
+ghost use Rattle.order.specs.Arranged.{Parted, Next, Placed, Rest};
 ghost use Rattle.order.specs.Judged.{ByNumber, Ordered, TellsFit, Verdict};
 
 // ---- order
@@ -63,7 +63,7 @@ fn next(urgency: &[u32; 64], ready: u64) -> usize
     best
 }
 
-// How many actions were placed, and their order where all were.
+// How many actions were placed, and their order where all were, then 0.
 pub struct Arranged {
     pub placed: usize,
     pub order: [u8; 64],
@@ -113,13 +113,15 @@ fn by_number(masks: &[u64], deadlines: &[u32], cycle: u32, n: usize) -> bool
     odd == 0
 }
 
-// The numbers in order.
-fn numbers() -> [u8; 64]
-    ensures { λ r. ⌜ ((k : ℕ) → k < 64 → getD r k 0 ≡ k) ⌝ }
+// The numbers below n in order, and then 0.
+fn numbers(n: usize) -> [u8; 64]
+    requires { ⌜ n ≤ 64 ⌝ }
+    ensures { λ r. ⌜ ((k : ℕ) → k < n → getD r k 0 ≡ k) ⌝ }
+    ensures { λ r. ⌜ Rest n r ⌝ }
 {
     let mut order = [0u8; 64];
     let mut k: usize = 0;
-    while k < 64 {
+    while k < n {
         order[k] = k as u8;
         k += 1;
     }
@@ -132,7 +134,7 @@ fn ordered(masks: &[u64], deadlines: &[u32], cycle: u32, n: usize) -> Arranged
     ensures { λ r. ⌜ Ordered (lent n cycle (now (masks .entry)) (now (deadlines .entry)) [] 0) (r .placed) (r .order) ⌝ }
 {
     if by_number(masks, deadlines, cycle, n) {
-        let order = numbers();
+        let order = numbers(n);
         return Arranged { placed: n, order };
     }
     let urgency = urgencies(masks, deadlines, cycle, n);
@@ -166,7 +168,7 @@ pub fn fit(
     true
 }
 
-// Refusal 8 or 9, 0 for neither, and but for 8 the actions in order.
+// Refusal 8 or 9, 0 for neither, and but for 8 the actions in order; all else of the order is 0.
 pub struct Judged {
     pub refusal: u32,
     pub order: [u8; 64],
@@ -189,7 +191,7 @@ pub fn judge(
     if arranged.placed < n {
         return Judged {
             refusal: rules::REFUSED_LOOP,
-            order,
+            order: [0u8; 64],
         };
     }
     if fit(&order, deadlines, cycle, worst, stride, n) {
