@@ -8,7 +8,7 @@ use Rattle.rules.specs.Numbers.{refused-version, refused-count, refused-length,
 use Rattle.rules.specs.Image.{profile}
 use Rattle.rules.specs.Order.{Order, TheOrder}
 use Rattle.rules.specs.Refusals.{Ground, _when_, First, Count, Range, Table, Looped, Unfit, Version, Length, Spare, image-checks}
-use Rattle.order.specs.Arranged.{Lists, Rest}
+use Rattle.order.specs.Arranged.{Lists, ZeroFrom}
 use Rattle.image_check.specs.declared.Checked.{Checked}
 
 -- the image checks in parts: after 1 those of the header, of the records, of the order
@@ -37,14 +37,14 @@ pub record Found (s : List ℕ) (r : Checked) : Type 0 where
   pub levels : r .levels ≡ profile s .levels
   pub cycle : r .cycle ≡ profile s .cycle
   pub order : (o : Order (profile s .n)) × TheOrder (profile s) o × Lists (r .order) o
-  pub rest : Rest (profile s .n) (r .order)
+  pub rest : ZeroFrom (profile s .n) (r .order)
 
 -- r is what the checks in the row answer of the image s
-pub record Answers (row : List Ground) (s : List ℕ) (r : Checked) : Type 0 where
+pub record CheckAnswers (row : List Ground) (s : List ℕ) (r : Checked) : Type 0 where
   pub number : First row (r .refusal .number)
   pub refused : r .refusal .number ≢ 0 → Blank r
   pub accepted : r .refusal .number ≡ 0 → Found s r
 
 -- r is what the whole check answers
 abbrev pub Judged : List ℕ → Checked → Type 0
-Judged s r = Answers (image-checks s) s r
+Judged s r = CheckAnswers (image-checks s) s r

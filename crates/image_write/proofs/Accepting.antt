@@ -10,7 +10,7 @@ use Rattle.rules.specs.Image.{image-bytes, of-tables}
 use Rattle.rules.specs.Refusals.{First, CountOut, Tight}
 use Rattle.rules.proofs.Refusals.{Numbered, first-none}
 use Rattle.image_pack.specs.Packing.{Roomy}
-use Rattle.image_write.specs.Writing.{rooms, writing}
+use Rattle.image_write.specs.Writing.{write-rooms, writing}
 
 -- without 3
 pub counted : (n L cycle : ℕ) → (CountOut n L cycle → ⊥)
@@ -23,7 +23,7 @@ counted n L cycle f =
     omega arith
 
 -- without 17
-module _ (n L : ℕ) (masks deadlines averages worst : List ℕ) (room : ℕ) (f : Tight (rooms n L masks deadlines averages worst room) → ⊥) where
+module _ (n L : ℕ) (masks deadlines averages worst : List ℕ) (room : ℕ) (f : Tight (write-rooms n L masks deadlines averages worst room) → ⊥) where
   pub roomy : n ≤ 64 → L ≤ 8 → Roomy n L masks deadlines averages worst
   roomy h l =
       let m : length masks < n → ⊥ = λ x. f (inl x) in

@@ -11,14 +11,14 @@ use Rattle.rules.specs.Image.{due, of-tables}
 use Rattle.rules.specs.Refusals.{WriteFault}
 use Rattle.rules.proofs.Order.Alike.{Alike}
 use Rattle.sets.proofs.Laws.{below-exact}
-use Rattle.order.specs.Lent.{lent, Masked, Timed}
+use Rattle.order.specs.Lent.{lent-profile, Masked, Timed}
 use Rattle.order.specs.Judged.{Verdict}
 use Rattle.order.proofs.Judging.{verdict-alike}
 use Rattle.image_pack.specs.Packing.{Roomy}
 
 module _ (n L cycle : ℕ) (masks deadlines averages worst : List ℕ) where
   -- The worst times at level 0 stand L apart.
-  as-lent : Alike (of-tables n L cycle masks deadlines averages worst) (lent n cycle masks deadlines worst L)
+  as-lent : Alike (of-tables n L cycle masks deadlines averages worst) (lent-profile n cycle masks deadlines worst L)
   unfolding of-tables due
   as-lent = record {
     n = refl;
@@ -27,7 +27,7 @@ module _ (n L cycle : ℕ) (masks deadlines averages worst : List ℕ) where
     times = λ a h. rw add-zero;
   }
 
-  pub judged : {k : ℕ} {order : List ℕ} → Verdict (lent n cycle masks deadlines worst L) k order
+  pub judged : {k : ℕ} {order : List ℕ} → Verdict (lent-profile n cycle masks deadlines worst L) k order
       → Verdict (of-tables n L cycle masks deadlines averages worst) k order
   judged v = verdict-alike as-lent v
 

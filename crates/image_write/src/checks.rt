@@ -5,7 +5,7 @@ ghost use mathlib.Core.Bool.{true};
 ghost use mathlib.Core.Logic.{_↔_};
 ghost use Prim.Native.Nat.{ℕ, _+_, _*_, _≤_, _<_};
 ghost use lib.ListN.{length};
-ghost use Rattle.rules.specs.Image.{times, of-tables};
+ghost use Rattle.rules.specs.Image.{time-at, of-tables};
 ghost use Rattle.rules.specs.Refusals.{LowestFault, LongTime, WriteFault, RowBreaks, Tight};
 ghost use Rattle.image_pack.specs.Packing.{Roomy};
 ghost use Rattle.image_write.specs.Writing.{table-rooms};
@@ -41,8 +41,8 @@ pub fn tight(
 // top level.
 fn long_time(averages: &[u32], worst: &[u32], levels: usize, a: usize, ordered: bool) -> bool
     requires { ⌜ (a * levels + levels ≤ length (now averages)) × (a * levels + levels ≤ length (now worst)) ⌝ }
-    requires { ⌜ (1 ≤ levels) × (ordered ≡ true → RowBreaks levels (times levels (now averages) a) (times levels (now worst) a) → ⊥) ⌝ }
-    ensures { λ r. ⌜ (r ≡ true) ↔ LongTime levels (times levels (now (averages .entry)) a) (times levels (now (worst .entry)) a) ⌝ }
+    requires { ⌜ (1 ≤ levels) × (ordered ≡ true → RowBreaks levels (time-at levels (now averages) a) (time-at levels (now worst) a) → ⊥) ⌝ }
+    ensures { λ r. ⌜ (r ≡ true) ↔ LongTime levels (time-at levels (now (averages .entry)) a) (time-at levels (now (worst .entry)) a) ⌝ }
 {
     let row = a * levels;
     if ordered {
@@ -73,7 +73,7 @@ pub fn range(
     ordered: bool,
 ) -> usize
     requires { ⌜ Roomy n levels (now masks) (now deadlines) (now averages) (now worst) × (1 ≤ levels) ⌝ }
-    requires { ⌜ (ordered ≡ true → (a : ℕ) → a < n → RowBreaks levels (times levels (now averages) a) (times levels (now worst) a) → ⊥) ⌝ }
+    requires { ⌜ (ordered ≡ true → (a : ℕ) → a < n → RowBreaks levels (time-at levels (now averages) a) (time-at levels (now worst) a) → ⊥) ⌝ }
     ensures { λ r. ⌜ LowestFault
         (WriteFault (of-tables n levels cycle (now (masks .entry)) (now (deadlines .entry)) (now (averages .entry)) (now (worst .entry)))) n r ⌝ }
 {
@@ -94,7 +94,7 @@ pub fn range(
 pub fn table(n: usize, levels: usize, averages: &[u32], worst: &[u32]) -> usize
     requires { ⌜ (n * levels ≤ length (now averages)) × (n * levels ≤ length (now worst)) ⌝ }
     ensures { λ r. ⌜ LowestFault
-        (λ a. RowBreaks levels (times levels (now (averages .entry)) a) (times levels (now (worst .entry)) a)) n r ⌝ }
+        (λ a. RowBreaks levels (time-at levels (now (averages .entry)) a) (time-at levels (now (worst .entry)) a)) n r ⌝ }
 {
     let mut a = 0;
     while a < n {

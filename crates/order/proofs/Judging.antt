@@ -12,14 +12,14 @@ use Rattle.rules.specs.Order.{Order, TheOrder, Fit}
 use Rattle.rules.specs.Refusals.{_when_, First, Looped, Unfit}
 use Rattle.rules.proofs.Tests.{not-both}
 use Rattle.rules.proofs.Order.Alike.{Alike, alike-back, looped-alike, fit-alike, order-alike}
-use Rattle.order.specs.Lent.{lent}
+use Rattle.order.specs.Lent.{lent-profile}
 use Rattle.order_urgency.specs.Spread.{Urgent}
 use Rattle.order.specs.Arranged.{Lists, Placed}
 use Rattle.order.specs.Judged.{Ordered, TellsFit, Verdict}
 use Rattle.order.proofs.Waiting.{none-yet}
 
 pub ordered-placed : (n cycle : ℕ) (masks deadlines : List ℕ) {u : List ℕ} {k : ℕ} {l : List ℕ}
-    → Urgent (lent n cycle masks deadlines [] 0) u → Placed n masks u k l → Ordered (lent n cycle masks deadlines [] 0) k l
+    → Urgent (lent-profile n cycle masks deadlines [] 0) u → Placed n masks u k l → Ordered (lent-profile n cycle masks deadlines [] 0) k l
 ordered-placed n cycle masks deadlines {u} urgent placed = record {
   looped = placed .looped;
   whole = λ all.
@@ -30,7 +30,7 @@ ordered-placed n cycle masks deadlines {u} urgent placed = record {
 
 -- The order does not depend on the worst times.
 pub ordered-timed : (n cycle : ℕ) (masks deadlines worst : List ℕ) (stride : ℕ) {k : ℕ} {l : List ℕ}
-    → Ordered (lent n cycle masks deadlines [] 0) k l → Ordered (lent n cycle masks deadlines worst stride) k l
+    → Ordered (lent-profile n cycle masks deadlines [] 0) k l → Ordered (lent-profile n cycle masks deadlines worst stride) k l
 unfolding due
 ordered-timed n cycle masks deadlines worst stride x = record {
   looped = x .looped;

@@ -10,7 +10,7 @@ use Rattle.rules.specs.Image.{Profile, due}
 use Rattle.rules.specs.Order.{Order, TheOrder, Fit}
 use Rattle.rules.specs.Refusals.{_when_, First, Looped, Unfit}
 use Rattle.sets.specs.Sets.{Below}
-use Rattle.order.specs.Arranged.{Lists, Rest}
+use Rattle.order.specs.Arranged.{Lists, ZeroFrom}
 
 -- All deadlines are one, and each mask names lower numbers alone.
 pub record ByNumber (F : Profile) : Type 0 where
@@ -21,7 +21,7 @@ pub record ByNumber (F : Profile) : Type 0 where
 pub record Ordered (F : Profile) (k : ℕ) (l : List ℕ) : Type 0 where
   pub looped : (k < F .n) ↔ Looped F
   pub whole : F .n ≤ k → (o : Order (F .n)) × TheOrder F o × Lists l o
-  pub rest : Rest (F .n) l
+  pub rest : ZeroFrom (F .n) l
 
 -- r tells whether F is fit, where the list has the actions in the order of F.
 abbrev pub TellsFit : Profile → List ℕ → Bool → Type 0
@@ -31,5 +31,5 @@ TellsFit F l r = (o : Order (F .n)) → TheOrder F o → Lists l o → (r ≡ tr
 pub record Verdict (F : Profile) (k : ℕ) (l : List ℕ) : Type 0 where
   pub number : First (refused-loop when Looped F ∷ refused-unfit when Unfit F ∷ []) k
   pub order : k ≢ refused-loop → (o : Order (F .n)) × TheOrder F o × Lists l o
-  pub rest : Rest (F .n) l
+  pub rest : ZeroFrom (F .n) l
   pub looped : k ≡ refused-loop → l ≡ replicate 64 0

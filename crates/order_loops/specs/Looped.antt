@@ -5,11 +5,11 @@ use mathlib.Core.Bool.{true}
 use mathlib.Core.List.{List}
 use lib.ListN.{length, getD}
 use Rattle.rules.specs.Image.{has}
-use Rattle.sets.specs.Sets.{before}
+use Rattle.sets.specs.Sets.{comes-before}
 
 -- b must follow a, directly or through actions below k.
 pub data Leads (masks : List ℕ) (k : ℕ) : ℕ → ℕ → Type 0 where
-  next : {a b : ℕ} → before masks a b → Leads masks k a b
+  next : {a b : ℕ} → comes-before masks a b → Leads masks k a b
   via : {a b : ℕ} (c : ℕ) → c < k → Leads masks k a c → Leads masks k c b → Leads masks k a b
 
 -- The members of the set are the actions that b must follow, directly or through actions below k.

@@ -105,8 +105,8 @@ profile s = record {
 }
 
 -- a table of times, by action, then level
-abbrev pub times : ℕ → List ℕ → ℕ → ℕ → ℕ
-times L table a q = getD table (a * L + q) 0
+abbrev pub time-at : ℕ → List ℕ → ℕ → ℕ → ℕ
+time-at L table a q = getD table (a * L + q) 0
 
 -- What the tables of masks, deadlines, averages and worst times say, the times by action, then level.
 unfoldable pub of-tables : ℕ → ℕ → ℕ → List ℕ → List ℕ → List ℕ → List ℕ → Profile
@@ -116,8 +116,8 @@ of-tables n L cycle masks deadlines averages worst = record {
   cycle = cycle;
   mask = λ a. getD masks a 0;
   deadline = λ a. getD deadlines a 0;
-  average = times L averages;
-  worst = times L worst;
+  average = time-at L averages;
+  worst = time-at L worst;
 }
 
 -- the header's 48 bits of version 1, spare bits zero

@@ -12,7 +12,7 @@ use Rattle.rules.specs.Refusals.{_when_, First, Count, WriteFault, WriteRange, 
 use Rattle.rules.proofs.Faults.{some-fault, no-fault}
 use Rattle.image_fields.proofs.Faults.{denied}
 use Rattle.image_pack.specs.Packing.{Roomy}
-use Rattle.image_write.specs.Writing.{table-rooms, rooms}
+use Rattle.image_write.specs.Writing.{table-rooms, write-rooms}
 use Rattle.image_write.proofs.Answers.{tight-and}
 use Rattle.image_write.proofs.Accepting.{counted, roomy}
 use Rattle.image_write.proofs.Judging.{masked, timed, judged}
@@ -37,7 +37,7 @@ Short s = s .args .room < image-bytes (s .args .n) (s .args .levels)
 abbrev Rooms : tie.Start → List (ℕ × ℕ)
 Rooms s =
     let x = s .args in
-    rooms (x .n) (x .levels) (x .masks .now) (x .deadlines .now) (x .averages .now) (x .worst .now) (x .room)
+    write-rooms (x .n) (x .levels) (x .masks .now) (x .deadlines .now) (x .averages .now) (x .worst .now) (x .room)
 
 abbrev Rest : tie.Start → ℕ → Type 0
 Rest s k = First (refused-range when WriteRange (F s) ∷ refused-table when Table (F s) ∷ refused-loop when Looped (F s) ∷ refused-unfit when Unfit (F s) ∷ []) k

@@ -5,13 +5,13 @@ use borrow.Author.Needs.{needs}
 use lib.ListN.{length, length-set}
 use lib.Seq.{getD-set-other}
 use Rattle.sets.proofs.Lists.{Filled, filled-more}
-use Rattle.order.specs.Arranged.{Rest}
+use Rattle.order.specs.Arranged.{ZeroFrom}
 use Rattle.order.proofs.Waiting.{none-yet}
 use Rattle.order.proofs.numbers.Statement.{statement}
 use Rattle.order.proofs.numbers.Tie as tie
 
 abbrev Inv-loop : tie.InvT-loop
-Inv-loop n order₀ k₀ order k = (k ≤ n) × (length order ≡ 64) × Filled (λ j. j) k order × Rest k order
+Inv-loop n order₀ k₀ order k = (k ≤ n) × (length order ≡ 64) × Filled (λ j. j) k order × ZeroFrom k order
 
 abbrev μ-loop : tie.MeasureT-loop
 μ-loop n order₀ k₀ order k = n - k

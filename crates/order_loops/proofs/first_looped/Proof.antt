@@ -5,13 +5,13 @@ use borrow.Author.Count.{below-none, below-more}
 use borrow.Author.Needs.{needs}
 use Rattle.rules.specs.Order.{OnLoop}
 use Rattle.rules.proofs.Faults.{Faultless, lowest-here, lowest-none}
-use Rattle.sets.specs.Sets.{before}
+use Rattle.sets.specs.Sets.{comes-before}
 use Rattle.order_loops.proofs.Closing.{looped-yes, looped-no}
 use Rattle.order_loops.proofs.first_looped.Statement.{statement}
 use Rattle.order_loops.proofs.first_looped.Tie as tie
 
 abbrev Inv-loop : tie.InvT-loop
-Inv-loop masks n all a₀ a = (a ≤ n) × Faultless (OnLoop n (before masks)) a
+Inv-loop masks n all a₀ a = (a ≤ n) × Faultless (OnLoop n (comes-before masks)) a
 
 abbrev μ-loop : tie.MeasureT-loop
 μ-loop masks n all a₀ a = n - a

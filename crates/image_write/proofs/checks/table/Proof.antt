@@ -4,7 +4,7 @@ use native.Mathlib.Omega.{arith}
 use borrow.Author.Needs.{needs}
 use borrow.Author.Count.{below-none, below-more}
 use Rattle.fields.proofs.Strides.{stride-fits}
-use Rattle.rules.specs.Image.{times}
+use Rattle.rules.specs.Image.{time-at}
 use Rattle.rules.specs.Refusals.{RowBreaks}
 use Rattle.rules.proofs.Faults.{Faultless, lowest-here, lowest-none}
 use Rattle.image_fields.proofs.Faults.{denied}
@@ -13,7 +13,7 @@ use Rattle.image_write.proofs.checks.table.Tie as tie
 
 abbrev Inv-loop : tie.InvT-loop
 Inv-loop n levels averages worst a₀ a =
-    (a ≤ n) × Faultless (λ k. RowBreaks levels (times levels averages k) (times levels worst k)) a
+    (a ≤ n) × Faultless (λ k. RowBreaks levels (time-at levels averages k) (time-at levels worst k)) a
 
 abbrev μ-loop : tie.MeasureT-loop
 μ-loop n levels averages worst a₀ a = n - a
