@@ -1,6 +1,6 @@
 // The encoder's times (source 001, figure 5) as a fixed table, nine actions by eight levels, and its profile: the chain in the listed order,
 // deadlines 0, cycle 320,000. Grab, Motion, Transform, Quantize, Intra, Compress, Inverse quantize, Inverse transform, Reconstruct.
-use profile::Written;
+use image_write::Written;
 ghost use Rattle.image_write.specs.Writing.{Writes};
 ghost use Rattle.encoder.specs.Times.{masks, deadlines, averages, worsts};
 

@@ -8,8 +8,9 @@ use native.Mathlib.Decide.{ℕ-discrete}
 use lib.Dec.{lit<}
 use lib.ListN.{length, take}
 use Rattle.rules.specs.Image.{Profile, actions, levels, cycle, image-bytes, profile, of-tables, image}
-use Rattle.rules.specs.Refusals.{First, Count, Range, TimeOut, Table, Looped, Unfit, Accepted, Tight, write-call}
+use Rattle.rules.specs.Refusals.{First, Count, Range, Table, Looped, Unfit, Accepted, Tight, write-call}
 use Rattle.rules.proofs.Refusals.{None, first-none, accepted-sound}
+use Rattle.rules.proofs.Faults.{TimeOut, write-range}
 use Rattle.rules.proofs.Speed.Reading.{times-small}
 use Rattle.fields.proofs.Bytes.{Bytes}
 use Rattle.image_laws.proofs.Sizes.{length-image}
@@ -39,8 +40,8 @@ write-sound F rooms = ((λ p. sound (none .0 p)), (λ p. none .1 (all (p .0) (p 
       room,
       record {
         not-count = count;
-        not-range = λ h. range (inl h);
-        not-time-out = λ h. range (inr h);
+        not-range = λ h. range (write-range F .1 (inl h));
+        not-time-out = λ h. range (write-range F .1 (inr h));
         not-table = table;
         not-looped = looped;
         not-unfit = unfit;
@@ -49,7 +50,7 @@ write-sound F rooms = ((λ p. sound (none .0 p)), (λ p. none .1 (all (p .0) (p 
 
     all : (Tight rooms → ⊥) → Writable F → None (write-call F rooms)
     all room w =
-        (w .not-count, (room, (⊎-elim (w .not-range) (w .not-time-out), (w .not-table, (w .not-looped, (w .not-unfit, tt))))))
+        (w .not-count, (room, ((λ h. ⊎-elim (w .not-range) (w .not-time-out) (write-range F .0 h)), (w .not-table, (w .not-looped, (w .not-unfit, tt))))))
 
 -- Of two profiles that say the same it accepts both or none.
 same-writable : {F G : Profile} → Same F G → Writable F → Writable G

@@ -7,13 +7,13 @@ use lib.Dec.{lit<}
 use lib.ListN.{length, getD}
 use Rattle.rules.specs.Numbers.{last-clock}
 use Rattle.rules.specs.Image.{image-bytes, of-tables}
-use Rattle.rules.specs.Refusals.{First, CountsOut, Tight}
+use Rattle.rules.specs.Refusals.{First, CountOut, Tight}
 use Rattle.rules.proofs.Refusals.{Numbered, first-none}
 use Rattle.image_pack.specs.Packing.{Roomy}
-use Rattle.image_write.specs.Writing.{rooms, writing}
+use Rattle.image_write.specs.Writing.{write-rooms, writing}
 
 -- without 3
-pub counted : (n L cycle : ℕ) → (CountsOut n L ⊎ ((cycle < 1) ⊎ (last-clock < cycle)) → ⊥)
+pub counted : (n L cycle : ℕ) → (CountOut n L cycle → ⊥)
     → (n ≤ 64) × (1 ≤ L) × (L ≤ 8) × (cycle < 2 ^ 30)
 counted n L cycle f =
     let actions : 64 < n → ⊥ = λ h. f (inl (inr (inl h))) in
@@ -23,7 +23,7 @@ counted n L cycle f =
     omega arith
 
 -- without 17
-module _ (n L : ℕ) (masks deadlines averages worst : List ℕ) (room : ℕ) (f : Tight (rooms n L masks deadlines averages worst room) → ⊥) where
+module _ (n L : ℕ) (masks deadlines averages worst : List ℕ) (room : ℕ) (f : Tight (write-rooms n L masks deadlines averages worst room) → ⊥) where
   pub roomy : n ≤ 64 → L ≤ 8 → Roomy n L masks deadlines averages worst
   roomy h l =
       let m : length masks < n → ⊥ = λ x. f (inl x) in
@@ -57,5 +57,5 @@ module _ (n L cycle : ℕ) (masks deadlines averages worst : List ℕ) (room : �
         tables = roomy n L masks deadlines averages worst room (none .1 .0) (counts .0) (counts .2);
         image = image-roomy n L masks deadlines averages worst room (none .1 .0);
         cycle-fits = counts .3;
-        deadlines-fit = λ a h. let f : cycle < getD deadlines a 0 → ⊥ = λ x. none .1 .1 .0 (inl (a, h, inl x)) in omega (arith, counts .3);
+        deadlines-fit = λ a h. let f : cycle < getD deadlines a 0 → ⊥ = λ x. none .1 .1 .0 (a, h, inl (inl x)) in omega (arith, counts .3);
       }

@@ -1,7 +1,7 @@
 -- Writing packs lent tables into a lent image.
 use Prim.Native.Nat.{ℕ, _*_}
 use mathlib.Core.Path.{_≡_}
-use mathlib.Core.List.{List, [], _∷_}
+use mathlib.Core.List.{List, [], _∷_, _++_}
 use lib.ListN.{length}
 use Rattle.rules.specs.Image.{image-bytes, of-tables, image}
 use Rattle.rules.specs.Refusals.{Ground, First, kept, write-call}
@@ -12,15 +12,14 @@ abbrev pub table-rooms : ℕ → ℕ → List ℕ → List ℕ → List ℕ → 
 table-rooms n L masks deadlines averages worst =
     (length masks, n) ∷ (length deadlines, n) ∷ (length averages, n * L) ∷ (length worst, n * L) ∷ []
 
--- The lengths of the lent slices, each with what is needed of it; `room` is the length of the image.
-abbrev pub rooms : ℕ → ℕ → List ℕ → List ℕ → List ℕ → List ℕ → ℕ → List (ℕ × ℕ)
-rooms n L masks deadlines averages worst room =
-    (length masks, n) ∷ (length deadlines, n) ∷ (length averages, n * L) ∷ (length worst, n * L) ∷ (room, image-bytes n L) ∷ []
+-- The same with the image, whose length is `room`.
+abbrev pub write-rooms : ℕ → ℕ → List ℕ → List ℕ → List ℕ → List ℕ → ℕ → List (ℕ × ℕ)
+write-rooms n L masks deadlines averages worst room = table-rooms n L masks deadlines averages worst ++ ((room, image-bytes n L) ∷ [])
 
 -- The grounds for refusing to write the tables.
 abbrev pub writing : ℕ → ℕ → ℕ → List ℕ → List ℕ → List ℕ → List ℕ → ℕ → List Ground
 writing n L cycle masks deadlines averages worst room =
-    write-call (of-tables n L cycle masks deadlines averages worst) (rooms n L masks deadlines averages worst room)
+    write-call (of-tables n L cycle masks deadlines averages worst) (write-rooms n L masks deadlines averages worst room)
 
 -- What writing answers, and what it leaves of the lent image: the tail is kept, and with a refusal all of it.
 pub record Writes (n L cycle : ℕ) (masks deadlines averages worst before after : List ℕ) (refusal bytes : ℕ) : Type 0 where

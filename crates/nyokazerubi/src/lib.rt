@@ -2,15 +2,15 @@
 // that of the call behind it. include/nyokazerubi.h declares the functions for C.
 use dry_cycle::Dried;
 use dry_frame::Framed;
+use image_write::Written;
 use planner::Planned;
 use profile::Place;
 use profile::Unpacked;
-use profile::Written;
 use refresh::Refreshed;
 use rules::Refusal;
 ghost use Rattle.rules.specs.Refusals.{First, image-checks, lookup-call};
 ghost use Rattle.image_write.specs.Writing.{Writes};
-ghost use Rattle.profile.specs.Calls.{Reads, Places};
+ghost use Rattle.profile.specs.Calls.{ReadsImage, Places};
 ghost use Rattle.planner.specs.Planning.{Plans};
 ghost use Rattle.encoder.specs.Times.{masks, deadlines, averages, worsts};
 ghost use Rattle.dry_cycle.specs.Dry.{tables, Dries};
@@ -37,7 +37,7 @@ pub extern "C" fn nyokazerubi_read(
     averages: &mut [u32],
     worst: &mut [u32],
 ) -> Unpacked
-    ensures { λ r. ⌜ Reads (now (image .entry))
+    ensures { λ r. ⌜ ReadsImage (now (image .entry))
         (now (masks .entry)) (now (deadlines .entry)) (now (averages .entry)) (now (worst .entry))
         (now (masks .exit)) (now (deadlines .exit)) (now (averages .exit)) (now (worst .exit)) r ⌝ }
 {

@@ -69,7 +69,7 @@ module _ {s : List ℕ} {r : Checked} (a : Judged s r) (order : List ℕ) (limit
       record {
         number = first-goes-on (image-checks s) (room-check s order limits worst bounds) k (image-numbered s) (rw none at (a .number))
             (rw (found .n, found .levels) at p);
-        found = λ _. record { n = found .n; levels = found .levels; cycle = found .cycle; order = found .order };
+        found = λ _. record { n = found .n; levels = found .levels; cycle = found .cycle; order = found .order; rest = found .rest };
       }
 
 -- ---- by what both checks answer

@@ -17,8 +17,9 @@ use Rattle.fields.specs.Fields.{splice}
 use Rattle.rules.specs.declared.Refusal.{Refusal}
 use Rattle.image_check.specs.declared.Checked.{Checked}
 use Rattle.image_check.specs.Checks.{Found, Judged}
+use Rattle.image_write.specs.Writing.{table-rooms}
 use Rattle.profile.specs.declared.Unpacked.{Unpacked}
-use Rattle.profile.specs.Calls.{rooms, Blank, Reads}
+use Rattle.profile.specs.Calls.{Unread, ReadsImage}
 
 -- ---- the image's refusals, and one of the call's own after them
 
@@ -48,7 +49,7 @@ module _ {s : List ℕ} {r : Checked} where
   judged-accepted a none = rw none at (a .number)
 
   pub found-rooms : (m d a w : List ℕ) → Found s r
-      → Tight (rooms (r .n) (r .levels) m d a w) ↔ Tight (rooms (profile s .n) (profile s .levels) m d a w)
+      → Tight (table-rooms (r .n) (r .levels) m d a w) ↔ Tight (table-rooms (profile s .n) (profile s .levels) m d a w)
   found-rooms m d a w f = rw (f .n, f .levels) ((λ p. p), (λ p. p))
 
 -- ---- reading
@@ -60,7 +61,7 @@ pub record HasRoom (n L : ℕ) (m d a w : List ℕ) : Type 0 where
   pub averages : n * L ≤ length a
   pub worst : n * L ≤ length w
 
-pub has-room : (n L : ℕ) (m d a w : List ℕ) → (Tight (rooms n L m d a w) → ⊥) → HasRoom n L m d a w
+pub has-room : (n L : ℕ) (m d a w : List ℕ) → (Tight (table-rooms n L m d a w) → ⊥) → HasRoom n L m d a w
 has-room n L m d a w f = record {
   masks = not-above (λ l. f (inl l));
   deadlines = not-above (λ l. f (inr (inl l)));
@@ -69,10 +70,10 @@ has-room n L m d a w f = record {
 }
 
 module _ {s m d a w : List ℕ} where
-  pub refused-reads : {r : Unpacked} (f : Refusal) → First (image-call s (rooms (profile s .n) (profile s .levels) m d a w)) (f .number)
-      → f .number ≢ 0 → (r .refusal ≡ f) × Blank r → Reads s m d a w m d a w r
+  pub refused-reads : {r : Unpacked} (f : Refusal) → First (image-call s (table-rooms (profile s .n) (profile s .levels) m d a w)) (f .number)
+      → f .number ≢ 0 → (r .refusal ≡ f) × Unread r → ReadsImage s m d a w m d a w r
   refused-reads {r} f p some (e, blank) =
-      let number : First (image-call s (rooms (profile s .n) (profile s .levels) m d a w)) (r .refusal .number) = rw e p in
+      let number : First (image-call s (table-rooms (profile s .n) (profile s .levels) m d a w)) (r .refusal .number) = rw e p in
       let other : r .refusal .number ≢ 0 = rw e some in
       let none : eqb (r .refusal .number) 0 ≡ false = ne-eqb (r .refusal .number) 0 other in record {
         given = number;
@@ -85,11 +86,11 @@ module _ {s m d a w : List ℕ} where
         worst = rw none;
       }
 
-  pub accepted-reads : {m′ d′ a′ w′ : List ℕ} {r : Unpacked} → First (image-call s (rooms (profile s .n) (profile s .levels) m d a w)) 0
+  pub accepted-reads : {m′ d′ a′ w′ : List ℕ} {r : Unpacked} → First (image-call s (table-rooms (profile s .n) (profile s .levels) m d a w)) 0
       → r .refusal .number ≡ 0 → r .n ≡ profile s .n → r .levels ≡ profile s .levels → r .cycle ≡ profile s .cycle
       → m′ ≡ splice m 0 (tab (mask-of s) (r .n)) → d′ ≡ splice d 0 (tab (deadline-of s) (r .n))
       → a′ ≡ splice a 0 (rows (average-of s) (r .n) (r .levels)) → w′ ≡ splice w 0 (rows (worst-of s) (r .n) (r .levels))
-      → Reads s m d a w m′ d′ a′ w′ r
+      → ReadsImage s m d a w m′ d′ a′ w′ r
   unfolding profile
   accepted-reads {r = r} p none n levels cycle masks deadlines averages worst =
       let is : eqb (r .refusal .number) 0 ≡ true = eq-eqb (r .refusal .number) 0 none in record {

@@ -17,13 +17,13 @@ use Rattle.fields.proofs.Holds.{part-holds}
 use Rattle.fields.proofs.Splice.{of-splice, length-splice}
 use Rattle.fields.proofs.Tabs.{length-tab}
 use Rattle.fields.proofs.Rows.{length-rows}
-use Rattle.image_write.specs.Writing.{rooms as write-rooms, writing, Writes}
+use Rattle.image_write.specs.Writing.{table-rooms, write-rooms, writing, Writes}
 use Rattle.image_write.proofs.Accepting.{packable}
 use Rattle.image_laws.proofs.Sizes.{length-image}
 use Rattle.image_laws.proofs.RoundTrip.{ReadFrom, read-lent}
 use Rattle.image_laws.proofs.Accepts.{written-accepted, accepted-formed, tables-accepted, accepted-again, written-back}
 use Rattle.profile.specs.declared.Unpacked.{Unpacked}
-use Rattle.profile.specs.Calls.{rooms, Reads}
+use Rattle.profile.specs.Calls.{ReadsImage}
 use Rattle.profile.proofs.Answers.{no-refusal, none-given, HasRoom, has-room}
 
 -- ---- a reading without a refusal
@@ -40,10 +40,10 @@ pub record Unpacks (s m d a w m′ d′ a′ w′ : List ℕ) (r : Unpacked) : T
   pub averages : a′ ≡ splice a 0 (rows (profile s .average) (profile s .n) (profile s .levels))
   pub worst : w′ ≡ splice w 0 (rows (profile s .worst) (profile s .n) (profile s .levels))
 
-pub unpacks : {s m d a w m′ d′ a′ w′ : List ℕ} {r : Unpacked} → Reads s m d a w m′ d′ a′ w′ r → r .refusal .number ≡ 0
+pub unpacks : {s m d a w m′ d′ a′ w′ : List ℕ} {r : Unpacked} → ReadsImage s m d a w m′ d′ a′ w′ r → r .refusal .number ≡ 0
     → Unpacks s m d a w m′ d′ a′ w′ r
 unpacks {s} {m} {d} {a} {w} x none =
-    let own = none-given s (refused-room when Tight (rooms (profile s .n) (profile s .levels) m d a w)) (lit< tt) (rw none at (x .given)) in record {
+    let own = none-given s (refused-room when Tight (table-rooms (profile s .n) (profile s .levels) m d a w)) (lit< tt) (rw none at (x .given)) in record {
       accepted = own .0;
       room = has-room (profile s .n) (profile s .levels) m d a w (own .1);
       n = rw none at (x .n);
@@ -58,7 +58,7 @@ unpacks {s} {m} {d} {a} {w} x none =
 -- ---- what reading accepts, writing packs back to the same bytes
 
 pub written-again : {s m d a w m′ d′ a′ w′ before after : List ℕ} {r : Unpacked} {refusal bytes : ℕ} → Bytes s
-    → Reads s m d a w m′ d′ a′ w′ r → r .refusal .number ≡ 0
+    → ReadsImage s m d a w m′ d′ a′ w′ r → r .refusal .number ≡ 0
     → length s ≤ length before → Writes (r .n) (r .levels) (r .cycle) m′ d′ a′ w′ before after refusal bytes
     → (refusal ≡ 0) × (bytes ≡ length s) × (after ≡ splice before 0 s)
 unfolding profile
@@ -109,7 +109,7 @@ module _ {n L cycle : ℕ} {masks deadlines averages worst before after : List �
       let count : bytes ≡ length s = (rw none at (y .count)) ∙ sym (length-image (of-tables n L cycle masks deadlines averages worst)) in
       rw (count, rw none at (y .written)) (part-holds (of-splice before 0 s zero-le))
 
-  pub read-back : {m d a w m′ d′ a′ w′ : List ℕ} {r : Unpacked} → HasRoom n L m d a w → Reads (take bytes after) m d a w m′ d′ a′ w′ r
+  pub read-back : {m d a w m′ d′ a′ w′ : List ℕ} {r : Unpacked} → HasRoom n L m d a w → ReadsImage (take bytes after) m d a w m′ d′ a′ w′ r
       → ReadsBack n L cycle masks deadlines averages worst m d a w m′ d′ a′ w′ r
   unfolding profile
   read-back {m} {d} {a} {w} {m′} {d′} {a′} {w′} {r} h x =
@@ -119,10 +119,10 @@ module _ {n L cycle : ℕ} {masks deadlines averages worst before after : List �
       let p = rw none at (y .given) in
       let k = packable n L cycle masks deadlines averages worst (length before) p .tables in
       let g = written-back n L cycle masks deadlines averages worst lent p (k .masks-room) (k .deadlines-room) (k .averages-room) (k .worst-room) in
-      let z : Reads s m d a w m′ d′ a′ w′ r = rw written-part at x in
-      let enough : Tight (rooms (actions s) (levels s) m d a w) → ⊥ = rw (g .actions-are, g .levels-are) (not-tight h) in
-      let given = no-refusal s (refused-room when Tight (rooms (actions s) (levels s) m d a w)) (written-accepted F lent p) enough in
-      let zero = first-one (image-call s (rooms (actions s) (levels s) m d a w)) (r .refusal .number) 0 (z .given) given in
+      let z : ReadsImage s m d a w m′ d′ a′ w′ r = rw written-part at x in
+      let enough : Tight (table-rooms (actions s) (levels s) m d a w) → ⊥ = rw (g .actions-are, g .levels-are) (not-tight h) in
+      let given = no-refusal s (refused-room when Tight (table-rooms (actions s) (levels s) m d a w)) (written-accepted F lent p) enough in
+      let zero = first-one (image-call s (table-rooms (actions s) (levels s) m d a w)) (r .refusal .number) 0 (z .given) given in
       let u = unpacks z zero in record {
         accepted = zero;
         actions-are = u .n ∙ g .actions-are;
@@ -134,7 +134,7 @@ module _ {n L cycle : ℕ} {masks deadlines averages worst before after : List �
         worst-are = (rw (g .actions-are, g .levels-are) at (u .worst)) ∙ ap (splice w 0) (g .worst-are);
       }
     where
-      not-tight : HasRoom n L m d a w → Tight (rooms n L m d a w) → ⊥
+      not-tight : HasRoom n L m d a w → Tight (table-rooms n L m d a w) → ⊥
       not-tight h (inl l) = omega arith
       not-tight h (inr (inl l)) = omega arith
       not-tight h (inr (inr (inl l))) = omega arith

@@ -104,6 +104,10 @@ profile s = record {
   worst = worst-of s;
 }
 
+-- a table of times, by action, then level
+abbrev pub time-at : ℕ → List ℕ → ℕ → ℕ → ℕ
+time-at L table a q = getD table (a * L + q) 0
+
 -- What the tables of masks, deadlines, averages and worst times say, the times by action, then level.
 unfoldable pub of-tables : ℕ → ℕ → ℕ → List ℕ → List ℕ → List ℕ → List ℕ → Profile
 of-tables n L cycle masks deadlines averages worst = record {
@@ -112,8 +116,8 @@ of-tables n L cycle masks deadlines averages worst = record {
   cycle = cycle;
   mask = λ a. getD masks a 0;
   deadline = λ a. getD deadlines a 0;
-  average = λ a q. getD averages (a * L + q) 0;
-  worst = λ a q. getD worst (a * L + q) 0;
+  average = time-at L averages;
+  worst = time-at L worst;
 }
 
 -- the header's 48 bits of version 1, spare bits zero

@@ -13,14 +13,14 @@ use Rattle.image_write.proofs.write.Tie as tie
 -- ---- past the test for a refusal
 
 abbrev past : tie.Else1 → tie.Start
-past c = c .before .before .before .before .before .before .before
+past c = c .before .before .before .before .before .before .before .before
 
 given : (c : tie.Else1)
     → let x = past c .args in
     First (writing (x .n) (x .levels) (x .cycle) (x .masks .now) (x .deadlines .now) (x .averages .now) (x .worst .now) (length (x .image .now))) 0
 given c =
-    let none : c .before .refusal .result ≡ 0 = omega arith in
-    rw none at (c .before .refusal .ensures)
+    let none : c .before .before .refusal .result .number ≡ 0 = c .if1 .left in
+    rw none at (c .before .before .refusal .ensures)
 
 ready : (c : tie.Else1)
     → let x = past c .args in
@@ -31,8 +31,8 @@ ready c = packable _ _ _ _ _ _ _ _ (given c)
 
 returns : tie.Need-returns
 returns c =
-    let r = c .before .refusal in
-    let some = ne-eqb (r .result) 0 (omega arith) in
+    let r = c .before .before .refusal in
+    let some = ne-eqb (r .result .number) 0 (c .if1 .taken) in
     record { given = r .ensures; written = rw some; count = rw some }
 
 put-image-requires : tie.Need-put-image-requires
@@ -46,11 +46,13 @@ image-bytes-requires c κs =
     (r .few-actions, r .few-levels)
 
 returns-2 : tie.Need-returns-2
-returns-2 c = record {
-  given = given (c .before .before .before .before .before);
-  written = c .before .before .before .put-image .ensures;
-  count = c .image-bytes .ensures;
-}
+returns-2 c =
+    let one = c .before .before .before .before .before in
+    let none = one .if1 .left in record {
+      given = rw none (given one);
+      written = rw none (c .before .before .before .put-image .ensures);
+      count = rw none (c .image-bytes .ensures);
+    }
 
 pub write-spec : {M : Type 1} → statement M
 write-spec =

@@ -12,7 +12,7 @@ use Rattle.image_check.specs.Checks.{Found}
 use Rattle.image_fields.specs.Reading.{HasRecords}
 use Rattle.image_check.proofs.Answers.{accepted-records}
 use Rattle.image_fields.proofs.Faults.{denied}
-use Rattle.profile.specs.Calls.{rooms}
+use Rattle.image_write.specs.Writing.{table-rooms}
 use Rattle.profile.proofs.Answers.{image-refusal, own-refusal, no-refusal, judged-accepted, found-rooms, has-room, refused-reads, accepted-reads}
 use Rattle.profile.proofs.read.Statement.{statement}
 use Rattle.profile.proofs.read.Tie as tie
@@ -28,7 +28,7 @@ image c = now (start c .args .image)
 abbrev Short : tie.After-checked → ℕ → ℕ → Type 0
 Short c n L =
     let x = start c .args in
-    Tight (rooms n L (x .masks .now) (x .deadlines .now) (x .averages .now) (x .worst .now))
+    Tight (table-rooms n L (x .masks .now) (x .deadlines .now) (x .averages .now) (x .worst .now))
 
 abbrev room : tie.After-checked → Ground
 room c = refused-room when Short c (profile (image c) .n) (profile (image c) .levels)
@@ -65,7 +65,7 @@ given : (c : tie.Else2)
     → let p = past (one (c .before)) in
     let x = start p .args in
     let F = profile (image p) in
-    First (image-call (image p) (rooms (F .n) (F .levels) (x .masks .now) (x .deadlines .now) (x .averages .now) (x .worst .now))) 0
+    First (image-call (image p) (table-rooms (F .n) (F .levels) (x .masks .now) (x .deadlines .now) (x .averages .now) (x .worst .now))) 0
 given c =
     let e = one (c .before) in
     no-refusal (image (past e)) (room (past e)) (accepted e) (λ h. not-tight c (says e .1 h))

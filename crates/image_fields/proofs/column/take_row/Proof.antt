@@ -1,4 +1,3 @@
--- A turn stores the next average and the next worst time of the row. Assumes nothing.
 use mathlib.Core.Path.{_≡_}
 use Prim.Native.Nat.{_-_, _≤_}
 use native.Mathlib.Omega.{arith}
@@ -9,19 +8,19 @@ use Rattle.rules.specs.Image.{average-of, worst-of}
 use Rattle.fields.specs.Fields.{splice}
 use Rattle.fields.proofs.Cats.{cat-none, cat-done}
 use Rattle.fields.proofs.Tabs.{tab-more}
-use Rattle.image_read.proofs.unpack_row.Statement.{statement}
-use Rattle.image_read.proofs.unpack_row.Tie as tie
+use Rattle.image_fields.proofs.column.take_row.Statement.{statement}
+use Rattle.image_fields.proofs.column.take_row.Tie as tie
 
 abbrev Inv-loop : tie.InvT-loop
-Inv-loop image levels a averages₀ worst₀ row q₀ averages worst q =
+Inv-loop image levels a averages₀ worst₀ from q₀ averages worst q =
     (q ≤ levels)
     × (length averages ≡ length averages₀)
     × (length worst ≡ length worst₀)
-    × (averages ≡ splice averages₀ row (tab (average-of image a) q))
-    × (worst ≡ splice worst₀ row (tab (worst-of image a) q))
+    × (averages ≡ splice averages₀ from (tab (average-of image a) q))
+    × (worst ≡ splice worst₀ from (tab (worst-of image a) q))
 
 abbrev μ-loop : tie.MeasureT-loop
-μ-loop image levels a averages₀ worst₀ row q₀ averages worst q = levels - q
+μ-loop image levels a averages₀ worst₀ from q₀ averages worst q = levels - q
 
 loop-holds : tie.Need-loop-holds Inv-loop μ-loop
 loop-holds c = (search needs, search needs, search needs, cat-none _ _ _, cat-none _ _ _)
@@ -41,13 +40,12 @@ returns c =
     let p = c .before .loop in
     (cat-done _ _ _ (p .q) _ (omega arith) (p .inv .3), cat-done _ _ _ (p .q) _ (omega arith) (p .inv .4))
 
-pub unpack-row-spec : {M : Type 1} → statement M
-unpack-row-spec =
+pub take-row-spec : {M : Type 1} → statement M
+take-row-spec =
     tie.close
     (tie.spec
     Inv-loop
     μ-loop
-    (λ c. search needs)
     loop-holds
     (λ c κs. search needs)
     (λ c. search needs)
