@@ -1,5 +1,5 @@
 -- The lent tables of an accepted image: what they are worked from, row by row, and what they hold when all are written.
-use Prim.Native.Nat.{ℕ, _+_, _*_, _≤_, _<_}
+use Prim.Native.Nat.{ℕ, _+_, _-_, _*_, _≤_, _<_}
 use mathlib.Core.Path.{_≡_}
 use mathlib.Core.List.{List}
 use lib.IntN.{ℤ}
@@ -37,7 +37,7 @@ pub record EntriesFit (entries : ℕ) (lent : LentTables) : Type 0 where
 pub record CanWork (s : List ℕ) (L a due : ℕ) (next : List ℤ) (from entries : ℕ) (lent : LentTables) : Type 0 where
   pub present : HasRecord s L a
   pub small : SmallRow next (average-of s a) (worst-of s a) due L
-  pub spares : (q k : ℕ) → q < L → k < 15 → Spares (worst-of s a q) (bound-in (lent .bounds) entries (from + q + L) k)
+  pub spares : (q k : ℕ) → q < L → k < longest-coast - 1 → Spares (worst-of s a q) (bound-in (lent .bounds) entries (from + q + L) k)
   pub inside : from + L ≤ entries
   pub room : EntriesFit entries lent
 

@@ -14,20 +14,20 @@ fn work_row(
     levels: usize,
     a: usize,
     due: u32,
-    next: [i32; 8],
+    next: [i32; rules::MOST_LEVELS],
     from: usize,
     entries: usize,
     limits: &mut [i32],
     worst: &mut [u32],
     bounds: &mut [i32],
-) -> [i32; 8]
+) -> [i32; rules::MOST_LEVELS]
     requires { ⌜ CanWork (now image) levels a due next from entries
         (record { order = []; limits = now limits; worst = now worst; bounds = now bounds }) ⌝ }
     ensures { λ r. ⌜ Works (now (image .entry)) levels a due next from entries
         (record { order = []; limits = now (limits .entry); worst = now (worst .entry); bounds = now (bounds .entry) })
         (record { order = []; limits = now (limits .exit); worst = now (worst .exit); bounds = now (bounds .exit) }) r ⌝ }
 {
-    let mut here = [0i32; 8];
+    let mut here = [0i32; rules::MOST_LEVELS];
     let mut q = 0;
     while q < levels {
         let average = read::average_at(image, levels, a, q);
@@ -48,7 +48,7 @@ fn work(
     n: usize,
     levels: usize,
     cycle: u32,
-    actions: &[u8; 64],
+    actions: &[u8; rules::MOST_ACTIONS],
     limits: &mut [i32],
     worst: &mut [u32],
     bounds: &mut [i32],
@@ -90,7 +90,7 @@ pub fn fill(
     n: usize,
     levels: usize,
     cycle: u32,
-    actions: &[u8; 64],
+    actions: &[u8; rules::MOST_ACTIONS],
     order: &mut [u8],
     limits: &mut [i32],
     worst: &mut [u32],

@@ -24,8 +24,8 @@ pub struct Refreshed {
 // trace, which leaves its tallies.
 fn own_refusal(
     trace: &[u8],
-    ceilings: &[u32; 512],
-    tallies: &mut [u64; 512],
+    ceilings: &[u32; trace::CELLS],
+    tallies: &mut [u64; trace::CELLS],
     needed: usize,
     room: usize,
 ) -> Refusal
@@ -49,7 +49,7 @@ fn own_refusal(
 }
 
 // The first durations that are too long for action a, by level: one above its worst times.
-fn ceiling_row(image: &[u8], levels: usize, a: usize, ceilings: &mut [u32; 512])
+fn ceiling_row(image: &[u8], levels: usize, a: usize, ceilings: &mut [u32; trace::CELLS])
     requires { ⌜ HasRecord (now image) levels a × (length (now ceilings) ≡ cells) ⌝ }
     ensures { λ r. ⌜ now (ceilings .exit) ≡ splice (now (ceilings .entry)) (a * most-levels) (tab (λ q. worst-of (now (image .entry)) a q + 1) levels) ⌝ }
 {
@@ -61,7 +61,7 @@ fn ceiling_row(image: &[u8], levels: usize, a: usize, ceilings: &mut [u32; 512])
 }
 
 // Those of n actions, in a table that starts with none.
-fn take_ceilings(image: &[u8], n: usize, levels: usize, ceilings: &mut [u32; 512])
+fn take_ceilings(image: &[u8], n: usize, levels: usize, ceilings: &mut [u32; trace::CELLS])
     requires { ⌜ HasRecords (now image) levels n × Ceiled (now image) 0 levels (now ceilings) ⌝ }
     ensures { λ r. ⌜ Ceiled (now (image .entry)) n levels (now (ceilings .exit)) ⌝ }
 {
@@ -73,7 +73,7 @@ fn take_ceilings(image: &[u8], n: usize, levels: usize, ceilings: &mut [u32; 512
 }
 
 // The new averages of action a, over the old ones of its record, of which `out` has a copy.
-fn put_averages(image: &[u8], levels: usize, a: usize, tallies: &[u64; 512], out: &mut [u8])
+fn put_averages(image: &[u8], levels: usize, a: usize, tallies: &[u64; trace::CELLS], out: &mut [u8])
     requires { ⌜ HasRecord (now image) levels a × (record-at levels a + record-bytes levels ≤ length (now out)) ⌝ }
     ensures { λ r. ⌜ Renews (now (image .entry)) a (now (tallies .entry)) (now (out .entry)) (now (out .exit)) ⌝ }
 {
@@ -89,7 +89,7 @@ fn put_averages(image: &[u8], levels: usize, a: usize, tallies: &[u64; 512], out
 }
 
 // The new averages of n actions, over the old ones of an image of which `out` has a copy.
-fn renew(image: &[u8], n: usize, levels: usize, tallies: &[u64; 512], out: &mut [u8])
+fn renew(image: &[u8], n: usize, levels: usize, tallies: &[u64; trace::CELLS], out: &mut [u8])
     requires { ⌜ HasRecords (now image) levels n × (length (now image) ≤ length (now out)) ⌝ }
     ensures { λ r. ⌜ AllRenewed (now (image .entry)) n (now (tallies .entry)) (now (out .entry)) (now (out .exit)) ⌝ }
 {
@@ -111,9 +111,9 @@ fn refresh_accepted(
     requires { ⌜ Accepted (now image) × (n ≡ profile (now image) .n) × (levels ≡ profile (now image) .levels) ⌝ }
     ensures { λ r. ⌜ Refreshes (now (image .entry)) (now (trace .entry)) (now (out .entry)) (now (out .exit)) (r .refusal .number) (r .bytes) ⌝ }
 {
-    let mut ceilings = [0u32; 512];
+    let mut ceilings = [0u32; trace::CELLS];
     take_ceilings(image, n, levels, &mut ceilings);
-    let mut tallies = [0u64; 512];
+    let mut tallies = [0u64; trace::CELLS];
     let bytes = image.len();
     let refusal = own_refusal(trace, &ceilings, &mut tallies, bytes, out.len());
     if refusal.number != 0 {

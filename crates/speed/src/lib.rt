@@ -49,7 +49,7 @@ fn own_refusal(n: usize, levels: usize, first: usize, last: usize, level: usize,
 fn stretch(
     image: &[u8],
     levels: usize,
-    actions: &[u8; 64],
+    actions: &[u8; rules::MOST_ACTIONS],
     first: usize,
     last: usize,
     level: usize,

@@ -11,6 +11,9 @@ ghost use Rattle.rules.specs.Refresh.{records, Trace};
 ghost use Rattle.trace.specs.Trace.{IsRecord, cells, FaultOf, Measures, count-worth, Gains, Tallied, TallyRoom, Added, PassGives};
 ghost use Rattle.trace.specs.Trace.{Unmeasured, Averaged, Raised};
 
+// The cells of a table.
+pub const CELLS: usize = rules::MOST_ACTIONS * rules::MOST_LEVELS;
+
 // A record of a trace, by the cell of its action and level.
 pub struct Entry {
     pub open: bool,
@@ -57,7 +60,7 @@ pub fn trace_refusal(trace: &[u8]) -> Refusal
 
 // What a record is refused with. A cell's ceiling is the first duration that is too long for it, 0 where the action
 // or the level is absent: one test finds either fault.
-pub fn fault(e: Entry, ceilings: &[u32; 512]) -> Refusal
+pub fn fault(e: Entry, ceilings: &[u32; CELLS]) -> Refusal
     requires { ⌜ e .cell < cells ⌝ }
     ensures { λ r. ⌜ FaultOf e (now (ceilings .entry)) (r .number) ⌝ }
 {
@@ -100,7 +103,7 @@ pub fn gain(e: Entry) -> u64
 }
 
 // A record is added to the tally of its action and level.
-pub fn add(e: Entry, tallies: &mut [u64; 512])
+pub fn add(e: Entry, tallies: &mut [u64; CELLS])
     requires { ⌜ TallyRoom e (now tallies) ⌝ }
     ensures { λ r. ⌜ Added e (now (tallies .entry)) (now (tallies .exit)) ⌝ }
 {
@@ -109,7 +112,7 @@ pub fn add(e: Entry, tallies: &mut [u64; 512])
 }
 
 // One pass over the trace: each record is checked and added to the tallies, which start with nothing.
-pub fn pass(trace: &[u8], ceilings: &[u32; 512], tallies: &mut [u64; 512]) -> Refusal
+pub fn pass(trace: &[u8], ceilings: &[u32; CELLS], tallies: &mut [u64; CELLS]) -> Refusal
     requires { ⌜ (records (now trace) ≤ most-records) × Tallied (now trace) 0 (now tallies) ⌝ }
     ensures { λ r. ⌜ PassGives (now (trace .entry)) (now (ceilings .entry)) (now (tallies .exit)) (r .number) ⌝ }
 {

@@ -13,7 +13,7 @@ use Rattle.rules.specs.Image.{average-of, worst-of}
 use Rattle.fields.specs.Fields.{splice}
 use Rattle.fields.proofs.Cats.{cat-none, cat-more, cat-done, length-cat}
 use Rattle.fields.proofs.Tabs.{tab-more, length-tab}
-use Rattle.plan_entry.specs.Rows.{limits-of, eight}
+use Rattle.plan_entry.specs.Rows.{limits-of, row-of-eight}
 use Rattle.plan_entry.specs.Bounds.{bounds-by, bound-in, Spares}
 use Rattle.plan_entry.proofs.Signed.{as-is}
 use Rattle.plan_entry.proofs.Coast.{bounds-stored}
@@ -118,7 +118,7 @@ loop-again c =
     )
 
 returns : tie.Need-returns Inv-loop μ-loop
-unfolding eight
+unfolding row-of-eight
 returns c =
     let a = c .before .before .before .before .args in
     let t = c .before .loop in
