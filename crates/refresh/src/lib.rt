@@ -73,7 +73,13 @@ fn take_ceilings(image: &[u8], n: usize, levels: usize, ceilings: &mut [u32; tra
 }
 
 // The new averages of action a, over the old ones of its record, of which `out` has a copy.
-fn put_averages(image: &[u8], levels: usize, a: usize, tallies: &[u64; trace::CELLS], out: &mut [u8])
+fn put_averages(
+    image: &[u8],
+    levels: usize,
+    a: usize,
+    tallies: &[u64; trace::CELLS],
+    out: &mut [u8],
+)
     requires { ⌜ HasRecord (now image) levels a × (record-at levels a + record-bytes levels ≤ length (now out)) ⌝ }
     ensures { λ r. ⌜ Renews (now (image .entry)) a (now (tallies .entry)) (now (out .entry)) (now (out .exit)) ⌝ }
 {
@@ -115,13 +121,19 @@ fn refresh_accepted(
     take_ceilings(image, n, levels, &mut ceilings);
     let mut tallies = [0u64; trace::CELLS];
     let bytes = image.len();
-    let refusal = own_refusal(trace, &ceilings, &mut tallies, bytes, out.len());
-    if refusal.number != 0 {
-        return Refreshed { refusal, bytes: 0 };
+    let own = own_refusal(trace, &ceilings, &mut tallies, bytes, out.len());
+    if own.number != 0 {
+        return Refreshed {
+            refusal: own,
+            bytes: 0,
+        };
     }
     fields::copy_front(image, bytes, out);
     renew(image, n, levels, &tallies, out);
-    Refreshed { refusal, bytes }
+    Refreshed {
+        refusal: own,
+        bytes,
+    }
 }
 
 // Writes the new image to `out`. A refusal leaves `out` untouched, and what it has beyond the new image stays.

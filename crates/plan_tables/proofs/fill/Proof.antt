@@ -1,4 +1,5 @@
 -- Assumes nothing.
+use native.Mathlib.Omega.{arith}
 use borrow.Author.Needs.{needs}
 use Rattle.plan_tables.proofs.Working.{records}
 use Rattle.plan_tables.proofs.Filling.{all-filled}
@@ -9,7 +10,7 @@ copy-front-requires : tie.Need-copy-front-requires
 copy-front-requires c κs =
     let start = c .before .before .before .before .before in
     let few = records (start .pre .0 .1) .few-actions in
-    (search needs, start .pre .1 .0)
+    (search needs, omega (arith, start .pre .1 .0))
 
 returns : tie.Need-returns
 returns c o g =
