@@ -6,12 +6,11 @@ use mathlib.Core.List.{List, [], _∷_}
 use mathlib.Core.Logic.{_⊎_, inl, inr, ⊎-elim, _≢_}
 use native.Mathlib.Nat.{mul-le-mul}
 use native.Mathlib.Omega.{arith}
-use lib.IntN.{ℤ}
 use lib.ListN.{length, getD}
 use Rattle.rules.specs.Numbers.{refused-duration, refused-room}
 use Rattle.rules.specs.Words.{tab}
 use Rattle.rules.specs.Image.{profile}
-use Rattle.rules.specs.Limits.{LentTables, tables}
+use Rattle.rules.specs.Limits.{tables, LentTables, planner-tables}
 use Rattle.rules.specs.Refusals.{Ground, _when_, First, CountsOut, Tight, image-checks}
 use Rattle.rules.specs.Run.{Run}
 use Rattle.rules.specs.Dry.{LongEntry, dry-call, frame-call}
@@ -23,7 +22,7 @@ use Rattle.fields.proofs.Tabs.{tab-ext}
 use Rattle.fields.proofs.Written.{tab-written}
 use Rattle.rules.specs.declared.Refusal.{Refusal}
 use Rattle.planner.specs.declared.Planned.{Planned}
-use Rattle.planner.specs.Planning.{rooms as plan-rooms, Plans}
+use Rattle.planner.specs.Planning.{plan-rooms, with-fronts, Plans}
 use Rattle.planner.proofs.Answers.{kept-old, kept-new, by-number}
 use Rattle.run.specs.declared.dry.Dried.{Dried}
 use Rattle.run.specs.Dry.{DryLists, dry-rooms, Dries}
@@ -97,20 +96,17 @@ module _ (s durations order given marks : List ℕ) where
   })
 
 -- Planning into tables that have room for the greatest profile, before and after.
-pub record Sized (actions worst : List ℕ) (limits bounds : List ℤ) : Type 0 where
-  pub actions-room : 64 ≤ length actions
-  pub limits-room : 512 ≤ length limits
-  pub worst-room : 512 ≤ length worst
-  pub bounds-room : 8192 ≤ length bounds
+pub record Sized (lent : LentTables) : Type 0 where
+  pub order-room : 64 ≤ length (lent .order)
+  pub limits-room : 512 ≤ length (lent .limits)
+  pub worst-room : 512 ≤ length (lent .worst)
+  pub bounds-room : 8192 ≤ length (lent .bounds)
 
-pub record Planning (s actions worst : List ℕ) (limits bounds : List ℤ) (p : Planned) : Type 0 where
-  pub actions₀ : List ℕ
-  pub limits₀ : List ℤ
-  pub worst₀ : List ℕ
-  pub bounds₀ : List ℤ
-  pub plans : Plans s actions₀ limits₀ worst₀ bounds₀ actions limits worst bounds p
-  pub sized₀ : Sized actions₀ worst₀ limits₀ bounds₀
-  pub sized : Sized actions worst limits bounds
+pub record Planning (s : List ℕ) (after : LentTables) (p : Planned) : Type 0 where
+  pub before : LentTables
+  pub plans : Plans s before after p
+  pub sized₀ : Sized before
+  pub sized : Sized after
 
 -- what a sound image has at most
 pub few : {s : List ℕ} → Sound s → (profile s .n ≤ 64) × (profile s .n * profile s .levels ≤ 512)
@@ -119,12 +115,12 @@ few {s} h =
     let levels : profile s .levels ≤ 8 = not-above (λ l. h .not-count (inl (inr (inr (inr l))))) in
     (n, mul-le-mul n levels)
 
-module _ {s actions worst : List ℕ} {limits bounds : List ℤ} {p : Planned} (P : Planning s actions worst limits bounds p) where
+module _ {s : List ℕ} {lent : LentTables} {p : Planned} (P : Planning s lent p) where
   abbrev plan-room : List Ground
-  plan-room = refused-room when Tight (plan-rooms (profile s .n) (profile s .levels) (P .actions₀) (P .limits₀) (P .worst₀) (P .bounds₀)) ∷ []
+  plan-room = refused-room when Tight (plan-rooms (profile s .n) (profile s .levels) (P .before)) ∷ []
 
-  never-tight : Sound s → Tight (plan-rooms (profile s .n) (profile s .levels) (P .actions₀) (P .limits₀) (P .worst₀) (P .bounds₀)) → ⊥
-  never-tight h (inl l) = omega (arith, few h .0, P .sized₀ .actions-room)
+  never-tight : Sound s → Tight (plan-rooms (profile s .n) (profile s .levels) (P .before)) → ⊥
+  never-tight h (inl l) = omega (arith, few h .0, P .sized₀ .order-room)
   never-tight h (inr (inl l)) = omega (arith, few h .1, P .sized₀ .limits-room)
   never-tight h (inr (inr (inl l))) = omega (arith, few h .1, P .sized₀ .worst-room)
   never-tight h (inr (inr (inr (inl l)))) = omega (arith, few h .1, P .sized₀ .bounds-room)
@@ -167,7 +163,7 @@ module _ {s actions worst : List ℕ} {limits bounds : List ℤ} {p : Planned} (
 
     -- what the dry run is lent: the planner's tables without the order, and the two lists
     abbrev T : LentTables
-    T = record { order = []; limits = limits; worst = worst; bounds = bounds }
+    T = record { order = []; limits = lent .limits; worst = lent .worst; bounds = lent .bounds }
 
     abbrev lists : DryLists
     lists = record { levels = given; decided = marks }
@@ -191,14 +187,17 @@ module _ {s actions worst : List ℕ} {limits bounds : List ℤ} {p : Planned} (
           frames-not s durations order given marks (q .refusal) (then-own none own-is) some
           (dries′ .levels ∙ sym (kept-old (q .refusal .number) _ given some)) (dries′ .decided ∙ sym (kept-old (q .refusal .number) _ marks some)) e
 
+      written : lent ≡ with-fronts (P .before) (planner-tables (profile s) (P .plans .o))
+      written = rw none at (P .plans .tables-are)
+
       held : Held (tables (profile s) (P .plans .o)) T
       held = record {
-        limits₀ = (P .limits₀);
-        worst₀ = (P .worst₀);
-        bounds₀ = (P .bounds₀);
-        limits-are = rw none at (P .plans .limits-are);
-        worst-is = rw none at (P .plans .worst-is);
-        bounds-are = rw none at (P .plans .bounds-are);
+        limits₀ = P .before .limits;
+        worst₀ = P .before .worst;
+        bounds₀ = P .before .bounds;
+        limits-are = ap (λ (t : LentTables). t .limits) written;
+        worst-is = ap (λ (t : LentTables). t .worst) written;
+        bounds-are = ap (λ (t : LentTables). t .bounds) written;
       }
 
       level : 0 < profile s .levels
@@ -223,10 +222,10 @@ module _ {s actions worst : List ℕ} {limits bounds : List ℤ} {p : Planned} (
         late-is : q .late ≡ run-at s durations (P .plans .o) (profile s .n) .late
         late-is = rw dry-none at (dries′ .late) ∙ ap (λ (r : Run). r .late) (same-end held level durations)
 
-        listed : (k : ℕ) → k < profile s .n → getD actions k 0 ≡ P .plans .o .at k
-        listed k l = tab-written (P .plans .o .at) (P .actions₀) (profile s .n) 0 (rw none at (P .plans .order-is)) k l
+        listed : (k : ℕ) → k < profile s .n → getD (lent .order) k 0 ≡ P .plans .o .at k
+        listed k l = tab-written (P .plans .o .at) (P .before .order) (profile s .n) 0 (ap (λ (t : LentTables). t .order) written) k l
 
-        pub framed : {order′ : List ℕ} → order′ ≡ splice order 0 (tab (λ k. getD actions k 0) (p .n))
+        pub framed : {order′ : List ℕ} → order′ ≡ splice order 0 (tab (λ k. getD (lent .order) k 0) (p .n))
             → Frames s durations order given marks order′ given′ marks′
             (record { refusal = p .refusal; n = p .n; decisions = q .decisions; end = q .end; overrun = q .overrun; late = q .late })
         framed e = record {

@@ -9,7 +9,7 @@ use lib.ListN.{getD}
 use Rattle.rules.specs.Words.{sum, tab, rows, one-if}
 use Rattle.rules.specs.Image.{profile}
 use Rattle.rules.specs.Order.{Order, TheOrder}
-use Rattle.rules.specs.Limits.{Tables, tables, limit, coast-bound, LentTables, planned}
+use Rattle.rules.specs.Limits.{Tables, tables, limit, coast-bound, coast-bounds, LentTables, planned}
 use Rattle.rules.specs.Refusals.{Accepted}
 use Rattle.rules.specs.Run.{Run, decides, lent}
 use Rattle.rules.specs.Dry.{before, cell, dry-levels, dry-marks, dry-end}
@@ -23,7 +23,6 @@ use Rattle.rules.proofs.Demand.Along.{kept-alike}
 use Rattle.fields.specs.Fields.{splice}
 use Rattle.fields.proofs.Tabs.{tab-ext}
 use Rattle.fields.proofs.Written.{tab-written, rows-written, blocks-written}
-use Rattle.planner.specs.Planning.{coast-bounds}
 use Rattle.dry_frame.specs.declared.Framed.{Framed}
 use Rattle.dry_frame.specs.Frame.{run-at, got, took, Promised}
 

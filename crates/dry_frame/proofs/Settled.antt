@@ -10,7 +10,7 @@ use lib.ListN.{length}
 use Rattle.rules.specs.Numbers.{refused-duration, refused-room}
 use Rattle.rules.specs.Words.{rows, one-if}
 use Rattle.rules.specs.Image.{profile}
-use Rattle.rules.specs.Limits.{Tables, tables, limit, LentTables}
+use Rattle.rules.specs.Limits.{Tables, tables, limit, coast-bounds, LentTables}
 use Rattle.rules.specs.Refusals.{_when_, Tight}
 use Rattle.rules.specs.Run.{Run, decides}
 use Rattle.rules.specs.Dry.{LongEntry, frame-call}
@@ -19,7 +19,6 @@ use Rattle.rules.proofs.Accepted.{some-level}
 use Rattle.rules.proofs.Order.OfProfile.{order-settled}
 use Rattle.fields.specs.Fields.{splice}
 use Rattle.fields.proofs.Tabs.{tab-ext}
-use Rattle.planner.specs.Planning.{coast-bounds}
 use Rattle.planner.proofs.Alike.{Alike, limits-alike, worst-alike, bounds-alike}
 use Rattle.planner.proofs.Settled.{settled-alike, kept-one}
 use Rattle.dry_frame.specs.declared.Framed.{Framed}

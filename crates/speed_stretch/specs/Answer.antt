@@ -6,11 +6,11 @@ use Rattle.speed_stretch.specs.declared.Reading.{Reading}
 use Rattle.speed_stretch.specs.declared.Reading.the-variants.{Ratio, Spent, Refused}
 
 -- a reading, or the number of a refusal
-pub data Answer : Type 0 where
-  gives : Speed.Reading → Answer
-  refuses : ℕ → Answer
+pub data SpeedAnswer : Type 0 where
+  gives : Speed.Reading → SpeedAnswer
+  refuses : ℕ → SpeedAnswer
 
-abbrev pub reading-of : Reading → Answer
+abbrev pub reading-of : Reading → SpeedAnswer
 reading-of (Ratio x) = gives (ratio x)
 reading-of Spent = gives spent
-reading-of (Refused k) = refuses k
+reading-of (Refused refusal) = refuses (refusal .number)
