@@ -17,10 +17,8 @@ use Rattle.run.specs.declared.Started.{Started}
 use Rattle.run.specs.Calls.{run-of, with-run}
 use Rattle.nyokazerubi.specs.declared.runs.Given as flat
 use Rattle.nyokazerubi.specs.Flat.{Asks}
-use Rattle.run_histories.specs.History.{ask-on}
 use Rattle.run_histories.specs.Demand.{WithinAnswered}
 use Rattle.run_histories.specs.Camera.{Answers, Traced, CameraCycle, CameraKeeps}
-use Rattle.run_histories.proofs.Replies.{refusal-on}
 use Rattle.run_histories.proofs.Camera.{camera-keeps, camera-unmarked}
 use Rattle.host_histories.specs.Host.{HostMade, host-asked, host-reported, answer-from, by-value, HostAnswers, HostTraced, host-askings, host-clocks, HostCycle}
 
@@ -31,9 +29,9 @@ abbrev Numbered : rules.Answer → Type 0
 Numbered (rules.refused k r) = k ≢ 0
 Numbered (rules.gives action level decided late r) = Unit {0}
 
-ask-numbered : (T : LentTables) (r : rules.Run) → Numbered (ask-on T r)
+ask-numbered : (T : LentTables) (r : rules.Run) → Numbered (rules.ask T r)
 unfolding rules.ask
-ask-numbered T r = by (refusal-on T r) (eqb (refusal-on T r) 0) _ _ _ _ _ refl
+ask-numbered T r = by (rules.ask-refusal T r) (eqb (rules.ask-refusal T r) 0) _ _ _ _ _ refl
   where
     by : (k : ℕ) (b : Bool) (action level : ℕ) (decided late : Bool) (s : rules.Run) → eqb k 0 ≡ b
         → Numbered (cond b (rules.gives action level decided late s) (rules.refused k r))
@@ -43,7 +41,7 @@ ask-numbered T r = by (refusal-on T r) (eqb (refusal-on T r) 0) _ _ _ _ _ refl
 back : (x : rules.Answer) (r : Run) (g : flat.Given) → Numbered x → Asks x r g → with-run (answer-from g) (run-of r) ≡ x
 back (rules.refused k s) r g some a =
     ap (λ (h : flat.Given). with-run (answer-from h) (run-of r)) (a .given)
-    ∙ ap (λ (b : Bool). with-run (cond b (Given 0 0 false false) (Refused k)) (run-of r)) (ne-eqb k 0 some)
+    ∙ ap (λ (b : Bool). with-run (cond b (Given 0 0 false false) (Refused (record { number = k }))) (run-of r)) (ne-eqb k 0 some)
     ∙ ap (rules.refused k) (a .run)
 back (rules.gives action level decided late s) r g some a =
     ap (λ (h : flat.Given). with-run (answer-from h) (run-of r)) (a .given) ∙ ap (rules.gives action level decided late) (a .run)
@@ -51,7 +49,7 @@ back (rules.gives action level decided late s) r g some a =
 -- ---- each call, and the calls one after another
 
 answers-by-value : (m : HostMade) (r : Run) → HostAnswers m r → Answers (by-value m) r
-answers-by-value (host-asked T g r′) r a = back (ask-on T (run-of r)) r′ g (ask-numbered T (run-of r)) a
+answers-by-value (host-asked T g r′) r a = back (rules.ask T (run-of r)) r′ g (ask-numbered T (run-of r)) a
 answers-by-value (host-reported worst t a) r e = e
 
 traced-by-value : {T : LentTables} {r s : Run} {l : List HostMade} → HostTraced T r l s → Traced T r (map by-value l) s

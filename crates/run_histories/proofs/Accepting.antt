@@ -8,17 +8,12 @@ use lib.ListN.{getD}
 use borrow.Author.Tests.{eqb-true, eqb-false}
 use Rattle.rules.specs.Numbers.{longest-coast}
 use Rattle.rules.specs.Limits.{LentTables, Plan}
-use Rattle.rules.specs.Run.{Run, Next, Answer, begun, decide, coast, decides, given, ended, fits, lent, ask, report-refusal, report}
+use Rattle.rules.specs.Run.{Run, Next, Answer, begun, decide, coast, decides, given, ended, fits, lent, ask-refusal, ask, report-refusal, report}
 use Rattle.rules.specs.Dry.{step, before}
 use Rattle.run.proofs.Refusing.{Askable, askable, Reportable, reportable}
-use Rattle.run_histories.specs.History.{asks, reports, to-ask, ask-on, reply, number, Accepted}
-use Rattle.run_histories.proofs.Replies.{refusal-on}
+use Rattle.run_histories.specs.History.{asks, reports, to-ask, reply, number, Accepted}
 
 -- ---- an asking
-
--- the plan that an asking reads
-abbrev pub lent-plan : ℕ → ℕ → LentTables → Plan
-lent-plan n L T = lent n L (T .limits) (T .bounds)
 
 -- what an accepted asking of the record r answers by the plan Q
 abbrev pub gives-by : LentTables → Run → Plan → Answer
@@ -28,20 +23,20 @@ gives-by T r Q =
 
 module _ (T : LentTables) (r : Run) where
   pub record AskTaken : Type 0 where
-    pub askable : Askable (T .order) (T .limits) (T .bounds) r
-    pub answer : ask-on T r ≡ gives-by T r (lent-plan (r .n) (r .levels) T)
+    pub askable : Askable T r
+    pub answer : ask T r ≡ gives-by T r (lent (r .n) (r .levels) T)
 
   pub ask-taken : Accepted (asks T) r → AskTaken
   unfolding reply number ask
   ask-taken h = by (eqb k 0) refl h
     where
       k : ℕ
-      k = refusal-on T r
+      k = ask-refusal T r
 
-      by : (b : Bool) → eqb k 0 ≡ b → number (to-ask (cond b (gives-by T r (lent-plan (r .n) (r .levels) T)) (Answer.refused k r))) ≡ 0 → AskTaken
+      by : (b : Bool) → eqb k 0 ≡ b → number (to-ask (cond b (gives-by T r (lent (r .n) (r .levels) T)) (Answer.refused k r))) ≡ 0 → AskTaken
       by true e h = record {
-        askable = askable (T .order) (T .limits) (T .bounds) r (sym (eqb-true k 0 e));
-        answer = ap (λ (b : Bool). cond b (gives-by T r (lent-plan (r .n) (r .levels) T)) (Answer.refused k r)) e;
+        askable = askable T r (sym (eqb-true k 0 e));
+        answer = ap (λ (b : Bool). cond b (gives-by T r (lent (r .n) (r .levels) T)) (Answer.refused k r)) e;
       }
       by false e h = absurd (eqb-false k 0 e h)
 

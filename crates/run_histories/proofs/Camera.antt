@@ -100,7 +100,7 @@ module _ {s : List ℕ} {B T : LentTables} {p : Planned} {b : Started} {l : List
   level = some-level (profile s) (c .plans .o) (planned-sound (c .plans) (c .planned) .not-count)
 
   -- A start with the counts that planning answers is accepted.
-  pub start-accepted : b .refusal ≡ 0
+  pub start-accepted : b .refusal .number ≡ 0
   start-accepted = ap (λ (x : rules.Next). x .number) started
 
   -- The action answered at position j is the order's.

@@ -12,20 +12,20 @@ use lib.Seq.{getD-append-seam}
 use Rattle.rules.specs.Numbers.{longest-coast}
 use Rattle.rules.specs.Words.{cat, tab}
 use Rattle.rules.specs.Limits.{LentTables, Plan}
-use Rattle.rules.specs.Run.{Run, Next, Answer, begun, decides, given, ended, fits, lent}
+use Rattle.rules.specs.Run.{Run, Next, Answer, begun, decides, given, ended, fits, lent, ask}
 use Rattle.rules.specs.Dry.{step, before, cell}
 use Rattle.rules.proofs.Tests.{not-both}
 use Rattle.rules.proofs.Calls.{in-range-facts}
 use Rattle.rules.proofs.Demand.Record.{Same, given-same, n-is, levels-is, position-is}
 use Rattle.rules.proofs.Demand.Alike.{Alike, fits-alike, given-alike}
 use Rattle.fields.proofs.Tabs.{length-tab}
-use Rattle.run_histories.specs.History.{Call, asks, reports, to-ask, ask-on, reply, number, handed, next, Accepted, Refused, after, along, EachAccepted, Asking, asking-of, clock-of, askings, clocks, clock-before, duration}
+use Rattle.run_histories.specs.History.{Call, asks, reports, to-ask, reply, number, handed, next, Accepted, Refused, after, along, EachAccepted, Asking, asking-of, clock-of, askings, clocks, clock-before, duration}
 use Rattle.run_histories.proofs.Replies.{refused-stays, refused-asking, refused-clock}
-use Rattle.run_histories.proofs.Accepting.{lent-plan, gives-by, AskTaken, ask-taken, ReportTaken, report-taken, given-runs, before-waits}
+use Rattle.run_histories.proofs.Accepting.{gives-by, AskTaken, ask-taken, ReportTaken, report-taken, given-runs, before-waits}
 
 -- What a call takes reads as the plan P, as the worst times w by position and level, and as the actions by position, where a cycle reads it.
 abbrev pub OnPlan : (ℕ → ℕ) → Plan → (ℕ → ℕ → ℕ) → Call → Type 0
-OnPlan acts P w (asks T) = ((j : ℕ) → j < P .n → getD (T .order) j 0 ≡ acts j) × Alike longest-coast (lent-plan (P .n) (P .levels) T) P
+OnPlan acts P w (asks T) = ((j : ℕ) → j < P .n → getD (T .order) j 0 ≡ acts j) × Alike longest-coast (lent (P .n) (P .levels) T) P
 OnPlan acts P w (reports worst t) = (i q : ℕ) → i < P .n → q < P .levels → cell worst (P .levels) i q ≡ w i q
 
 -- the durations of a list of clocks, whatever the level
@@ -90,7 +90,7 @@ module _ (acts : ℕ → ℕ) (P : Plan) (w : ℕ → ℕ → ℕ) (t₀ : ℕ) 
 
   -- an accepted asking gives the next action
   module _ (T : LentTables) (names : (j : ℕ) → j < P .n → getD (T .order) j 0 ≡ acts j)
-      (alike : Alike longest-coast (lent-plan (P .n) (P .levels) T) P)
+      (alike : Alike longest-coast (lent (P .n) (P .levels) T) P)
       (ks : List ℕ) (xs : List Asking) (r : Run) (i : ℕ) (s : Stands i false ks xs r) (h : AskTaken T r) where
     more : i < P .n
     more = omega (
@@ -106,20 +106,20 @@ module _ (acts : ℕ → ℕ) (P : Plan) (w : ℕ → ℕ → ℕ) (t₀ : ℕ) 
     some = omega (arith, in-range-facts r (h .askable .is-open .ranged) .some-level, ap (λ (x : Run). x .levels) (s .run), levels-at i)
 
     -- by what is lent, and by the plan
-    by-lent : ask-on T r ≡ gives-by T (at i) (lent-plan (P .n) (P .levels) T)
+    by-lent : ask T r ≡ gives-by T (at i) (lent (P .n) (P .levels) T)
     by-lent =
         h .answer
-        ∙ ap (λ (x : Run). gives-by T x (lent-plan (x .n) (x .levels) T)) (s .run)
-        ∙ ap (λ (n : ℕ). gives-by T (at i) (lent-plan n (at i .levels) T)) (n-at i)
-        ∙ ap (λ (L : ℕ). gives-by T (at i) (lent-plan (P .n) L T)) (levels-at i)
+        ∙ ap (λ (x : Run). gives-by T x (lent (x .n) (x .levels) T)) (s .run)
+        ∙ ap (λ (n : ℕ). gives-by T (at i) (lent n (at i .levels) T)) (n-at i)
+        ∙ ap (λ (L : ℕ). gives-by T (at i) (lent (P .n) L T)) (levels-at i)
 
     abbrev gives : ℕ → Bool → Run → Answer
     gives a f x = Answer.gives a (x .level) (decides (at i)) (decides (at i) && not f) x
 
-    by-plan : ask-on T r ≡ gives (acts i) (fits P (at i .clock) i) (given longest-coast P (at i))
+    by-plan : ask T r ≡ gives (acts i) (fits P (at i .clock) i) (given longest-coast P (at i))
     unfolding lent
     by-plan =
-        let Q = lent-plan (P .n) (P .levels) T in
+        let Q = lent (P .n) (P .levels) T in
         by-lent
         ∙ ap (λ (p : ℕ). gives (getD (T .order) p 0) (fits Q (at i .clock) p) (given longest-coast Q (at i))) (position-at i)
         ∙ ap (λ (a : ℕ). gives a (fits Q (at i .clock) i) (given longest-coast Q (at i))) (names i more)

@@ -1,42 +1,37 @@
 -- What planning that is not refused says of the run: its tables read as the planner's plan, and its counts start one. Assumes nothing.
-use Prim.Native.Nat.{ℕ, suc, _-_}
-use mathlib.Core.Path.{_≡_, refl, ap, sym, _∙_}
+use Prim.Native.Nat.{ℕ}
+use mathlib.Core.Path.{_≡_, refl, sym}
 use mathlib.Core.Bool.{Bool, true, false, cond}
 use mathlib.Core.List.{List, [], _∷_}
 use mathlib.Core.Logic.{inl, inr, ⊎-elim}
-use native.Mathlib.Omega.{arith}
 use lib.Dec.{eqb}
-use lib.IntN.{pos}
-use Rattle.rules.specs.Numbers.{longest-coast, refused-room}
+use Rattle.rules.specs.Numbers.{refused-room}
 use Rattle.rules.specs.Image.{profile}
-use Rattle.rules.specs.Limits.{LentTables, Tables, tables, limit, coast-bound}
+use Rattle.rules.specs.Limits.{LentTables, tables, planner-tables}
 use Rattle.rules.specs.Refusals.{_when_, Tight}
 use Rattle.rules.specs.Run.{Next, begun, lent, start, start-refusal}
 use Rattle.rules.specs.Demand.{Safe, Policy, plan-of}
 use Rattle.rules.proofs.Differences.{not-above}
 use Rattle.rules.proofs.Refusals.{Sound, accepted-parts}
 use Rattle.rules.proofs.Accepted.{policy, fit-safe, not-unfit}
-use Rattle.fields.proofs.Written.{tab-written, rows-written, blocks-written}
 use Rattle.planner.specs.declared.Planned.{Planned}
-use Rattle.planner.specs.Planning.{rooms}
+use Rattle.planner.specs.Planning.{plan-rooms, with-fronts, Plans}
+use Rattle.planner.proofs.Reading.{reads-order, reads-plan, reads-worst}
 use Rattle.run.proofs.Ranges.{Counts, unfit-counts}
 use Rattle.run_histories.specs.History.{Call, asks, reports}
-use Rattle.run_histories.specs.Camera.{PlansTables, LentFrom}
+use Rattle.run_histories.specs.Camera.{LentFrom}
 use Rattle.run_histories.proofs.Cycle.{OnPlan}
 
-module _ {s : List ℕ} {B T : LentTables} {p : Planned} (plans : PlansTables s B T p) (none : p .refusal .number ≡ 0) where
+module _ {s : List ℕ} {B T : LentTables} {p : Planned} (plans : Plans s B T p) (none : p .refusal .number ≡ 0) where
   abbrev n : ℕ
   n = profile s .n
 
   abbrev L : ℕ
   L = profile s .levels
 
-  abbrev S : Tables
-  S = tables (profile s) (plans .o)
-
   pub planned-sound : Sound s
   planned-sound =
-      let own = refused-room when Tight (rooms n L (B .order) (B .limits) (B .worst) (B .bounds)) ∷ [] in
+      let own = refused-room when Tight (plan-rooms n L B) ∷ [] in
       ⊎-elim (λ x. absurd (x .1 none)) (λ x. x .0) (accepted-parts s own (p .refusal .number) (plans .number))
 
   -- the policy of the rules for it; its limits are the mixed ones, and the worst times fit
@@ -50,20 +45,11 @@ module _ {s : List ℕ} {B T : LentTables} {p : Planned} (plans : PlansTables s 
   -- What planning left reads as the plan.
   pub planned-on : (c : Call) → LentFrom T c → OnPlan (plans .o .at) (plan-of planned-policy) (tables (profile s) (plans .o) .worst) c
   unfolding lent
-  planned-on (asks A) (names, limits, bounds) = (
-    (λ j l. tab-written (plans .o .at) (B .order) n 0 (names ∙ rw none at (plans .order-is)) j l),
-    record {
-      n = refl;
-      levels = refl;
-      limit = λ i q l m. rows-written (limit S) (B .limits) n L (pos 0) (limits ∙ rw none at (plans .limits-are)) i q l m;
-      bound = λ i q r m a b c.
-          let one-less : suc (r - 1) ≡ r = omega arith in
-          blocks-written (λ i q x. coast-bound S (limit S) i q (suc x)) (B .bounds) n L longest-coast (pos 0)
-          (bounds ∙ rw none at (plans .bounds-are)) i q (r - 1) (omega arith) m (omega arith)
-          ∙ ap (coast-bound S (limit S) i q) one-less;
-    },
-  )
-  planned-on (reports worst t) e = λ i q l m. rows-written (S .worst) (B .worst) n L 0 (e ∙ rw none at (plans .worst-is)) i q l m
+  planned-on (asks A) (names, limits, bounds) = (rw names (reads-order (profile s) (plans .o) B written), rw (limits, bounds) (reads-plan (profile s) (plans .o) B written))
+    where
+      written : T ≡ with-fronts B (planner-tables (profile s) (plans .o))
+      written = rw none at (plans .tables-are)
+  planned-on (reports worst t) e = rw e (reads-worst (profile s) (plans .o) B (rw none at (plans .tables-are)))
 
   -- Starting with the counts that planning answers is not refused.
   pub planned-start : start (p .n) (p .levels) ≡ record { number = 0; run = begun (profile s .n) (profile s .levels) 0 }

@@ -6,15 +6,10 @@ use mathlib.Core.List.{List, [], _∷_, _++_, append-assoc}
 use mathlib.Core.Logic.{_≢_}
 use borrow.Author.Tests.{eqb-false, ne-eqb}
 use lib.Dec.{eqb}
-use Rattle.rules.specs.Limits.{LentTables}
 use Rattle.rules.specs.Run.{Run, Next, Answer, ask, ask-refusal, report, report-refusal}
 use Rattle.run_histories.specs.History.{Call, Reply, asks, reports, to-ask, to-report, reply, number, handed, next, Refused, after, along, replies, accepted-calls, accepted-of, asking-of, clock-of}
 
 -- ---- one call
-
--- the number of an asking's refusal, 0 for none
-abbrev pub refusal-on : LentTables → Run → ℕ
-refusal-on T r = ask-refusal (T .order) (T .limits) (T .bounds) r
 
 ask-stays : (b : Bool) (x : Answer) (k : ℕ) (r : Run) → number (to-ask x) ≡ 0 → number (to-ask (cond b x (Answer.refused k r))) ≢ 0
     → handed (to-ask (cond b x (Answer.refused k r))) ≡ r
@@ -30,7 +25,7 @@ report-stays false x k r e h = refl
 -- A refused call leaves the record,
 pub refused-stays : (c : Call) (r : Run) → Refused c r → next c r ≡ r
 unfolding reply number handed ask report
-refused-stays (asks T) r h = ask-stays (eqb (refusal-on T r) 0) _ (refusal-on T r) r refl h
+refused-stays (asks T) r h = ask-stays (eqb (ask-refusal T r) 0) _ (ask-refusal T r) r refl h
 refused-stays (reports worst t) r h = report-stays (eqb (report-refusal worst t r) 0) _ (report-refusal worst t r) r refl h
 
 -- and gives neither an action nor a clock.

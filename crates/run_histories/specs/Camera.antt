@@ -6,7 +6,7 @@ use lib.ListN.{length}
 use Rattle.rules.specs.Image.{profile}
 use Rattle.rules.specs.Order.{Order}
 use Rattle.rules.specs.Limits.{LentTables, tables, limit}
-use Rattle.rules.specs.Run.{start, report}
+use Rattle.rules.specs.Run.{start, ask, report}
 use Rattle.rules.specs.Demand.{Policy}
 use Rattle.planner.specs.declared.Planned.{Planned}
 use Rattle.planner.specs.Planning.{Plans}
@@ -15,14 +15,8 @@ use Rattle.run.specs.declared.Asked.{Asked}
 use Rattle.run.specs.declared.Started.{Started}
 use Rattle.run.specs.declared.Reported.{Reported}
 use Rattle.run.specs.Calls.{run-of, start-of, answer-of, next-of}
-use Rattle.run_histories.specs.History.{Call, asks, reports, ask-on, Reply, to-ask, to-report, number, Asking, asking-of, clock-of, asking-at}
+use Rattle.run_histories.specs.History.{Call, asks, reports, Reply, to-ask, to-report, number, Asking, asking-of, clock-of, asking-at}
 use Rattle.run_histories.specs.Demand.{CallsKeep}
-
--- ---- planning
-
--- Planning the image s answers p and leaves the tables T where B were lent: the contract of `plan`.
-abbrev pub PlansTables : List ℕ → LentTables → LentTables → Planned → Type 0
-PlansTables s B T p = Plans s (B .order) (B .limits) (B .worst) (B .bounds) (T .order) (T .limits) (T .worst) (T .bounds) p
 
 -- ---- asking and reporting
 
@@ -45,7 +39,7 @@ run-after (reported worst t a) = a .run
 
 -- Made on the record r, it answered as its contract says: that of `ask`, and that of `report`.
 abbrev pub Answers : Made → Run → Type 0
-Answers (asked T a) r = answer-of a ≡ ask-on T (run-of r)
+Answers (asked T a) r = answer-of a ≡ ask T (run-of r)
 Answers (reported worst t a) r = next-of a ≡ report worst t (run-of r)
 
 -- What a call takes is what lies in the tables T.
@@ -72,9 +66,9 @@ made-askings l = said asking-of l
 abbrev pub made-clocks : List Made → List ℕ
 made-clocks l = said clock-of l
 
--- A cycle as a camera calls it: planning, not refused; a start with the counts that it answers; then askings and reports on what it wrote.
+-- A cycle as a camera calls it: planning, not refused, which leaves the tables T where B were lent; a start with the counts that it answers; then askings and reports on what it wrote.
 pub record CameraCycle (s : List ℕ) (B T : LentTables) (p : Planned) (b : Started) (l : List Made) (r : Run) : Type 0 where
-  pub plans : PlansTables s B T p
+  pub plans : Plans s B T p
   pub planned : p .refusal .number ≡ 0
   pub starts : start-of b ≡ start (p .n) (p .levels)
   pub traced : Traced T (b .run) l r

@@ -16,16 +16,12 @@ pub data Call : Type 0 where
   asks : LentTables → Call
   reports : List ℕ → ℕ → Call
 
--- An asking takes the order, the limits and the coast bounds.
-abbrev pub ask-on : LentTables → Run → Answer
-ask-on T r = ask (T .order) (T .limits) (T .bounds) r
-
 pub data Reply : Type 0 where
   to-ask : Answer → Reply
   to-report : Next → Reply
 
 unfoldable pub reply : Call → Run → Reply
-reply (asks T) r = to-ask (ask-on T r)
+reply (asks T) r = to-ask (ask T r)
 reply (reports worst t) r = to-report (report worst t r)
 
 -- the number of a refusal, 0 for none
