@@ -1,7 +1,6 @@
 -- The first of n actions, and where the record of an action ends. Assumes nothing.
 use Prim.Native.Nat.{ℕ, _+_, _*_, _≤_}
 use mathlib.Core.Path.{_≡_}
-use mathlib.Core.List.{List}
 use native.Mathlib.Nat.{mul-le-mul-right}
 use native.Mathlib.Omega.{arith}
 use Rattle.rules.specs.Image.{record-bytes, record-at, image-bytes}
