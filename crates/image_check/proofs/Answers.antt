@@ -29,7 +29,8 @@ accepted-answers p none found = record {
 }
 
 -- what the rest answers after a row that gives none
-pub answers-on : (row rest : List Ground) {s : List ℕ} {r : Checked} → Numbered row → First row 0 → CheckAnswers rest s r → CheckAnswers (row ++ rest) s r
+pub answers-on : (row rest : List Ground) {s : List ℕ} {r : Checked} → Numbered row → First row 0 → CheckAnswers rest s r
+    → CheckAnswers (row ++ rest) s r
 answers-on row rest m none a = record {
   number = first-goes-on row rest _ m none (a .number);
   refused = a .refused;

@@ -5,7 +5,7 @@ use mathlib.Core.Logic.{inl, inr, _↔_}
 use Prim.Native.Nat.{ℕ, _<_}
 use lib.Dec.{lit<}
 use lib.ListN.{getD}
-use Rattle.rules.specs.Image.{actions, levels, cycle, record-at, image-bytes, mask-of, deadline-of, average-of, worst-of, profile}
+use Rattle.rules.specs.Image.{record-at, image-bytes, mask-of, deadline-of, average-of, worst-of, profile}
 use Rattle.rules.specs.Words.{Some}
 use Rattle.rules.specs.Refusals.{First, LowestFault, CountOut, Count, OutOfRange, RangeFault, Range, RowBreaks, TableFault, Table, SpareFault, Spare}
 use Rattle.rules.proofs.Refusals.{Numbered, first-none}

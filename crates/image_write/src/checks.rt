@@ -22,7 +22,8 @@ pub fn tight(
 ) -> bool
     requires { ⌜ (n ≤ 64) × (levels ≤ 8) ⌝ }
     ensures { λ r. ⌜ (r ≡ true)
-        ↔ Tight (table-rooms n levels (now (masks .entry)) (now (deadlines .entry)) (now (averages .entry)) (now (worst .entry))) ⌝ }
+        ↔ Tight (table-rooms n levels
+        (record { masks = now (masks .entry); deadlines = now (deadlines .entry); averages = now (averages .entry); worst = now (worst .entry) })) ⌝ }
 {
     let entries = n * levels;
     if masks.len() < n {
@@ -72,10 +73,13 @@ pub fn range(
     worst: &[u32],
     ordered: bool,
 ) -> usize
-    requires { ⌜ Roomy n levels (now masks) (now deadlines) (now averages) (now worst) × (1 ≤ levels) ⌝ }
+    requires { ⌜ Roomy n levels (record { masks = now masks; deadlines = now deadlines; averages = now averages; worst = now worst })
+        × (1 ≤ levels) ⌝ }
     requires { ⌜ (ordered ≡ true → (a : ℕ) → a < n → RowBreaks levels (time-at levels (now averages) a) (time-at levels (now worst) a) → ⊥) ⌝ }
     ensures { λ r. ⌜ LowestFault
-        (WriteFault (of-tables n levels cycle (now (masks .entry)) (now (deadlines .entry)) (now (averages .entry)) (now (worst .entry)))) n r ⌝ }
+        (WriteFault (of-tables n levels cycle
+        (record { masks = now (masks .entry); deadlines = now (deadlines .entry); averages = now (averages .entry); worst = now (worst .entry) })))
+        n r ⌝ }
 {
     let mut a = 0;
     while a < n {

@@ -25,7 +25,9 @@ pub fn refusal(
     room: usize,
 ) -> Refusal
     ensures { λ r. ⌜ First
-        (writing n levels cycle (now (masks .entry)) (now (deadlines .entry)) (now (averages .entry)) (now (worst .entry)) room) (r .number) ⌝ }
+        (writing n levels cycle
+        (record { masks = now (masks .entry); deadlines = now (deadlines .entry); averages = now (averages .entry); worst = now (worst .entry) })
+        room) (r .number) ⌝ }
 {
     if image_fields::scan::count_out(n, levels, cycle) {
         return Refusal {
@@ -73,7 +75,8 @@ pub fn write(
     worst: &[u32],
     image: &mut [u8],
 ) -> Written
-    ensures { λ r. ⌜ Writes n levels cycle (now (masks .entry)) (now (deadlines .entry)) (now (averages .entry)) (now (worst .entry))
+    ensures { λ r. ⌜ Writes n levels cycle
+        (record { masks = now (masks .entry); deadlines = now (deadlines .entry); averages = now (averages .entry); worst = now (worst .entry) })
         (now (image .entry)) (now (image .exit)) (r .refusal .number) (r .bytes) ⌝ }
 {
     let room = image.len();

@@ -12,7 +12,7 @@ ghost use Rattle.rules.specs.Refusals.{First, image-checks, lookup-call};
 ghost use Rattle.image_write.specs.Writing.{Writes};
 ghost use Rattle.profile.specs.Calls.{ReadsImage, Places};
 ghost use Rattle.planner.specs.Planning.{Plans};
-ghost use Rattle.encoder.specs.Times.{masks, deadlines, averages, worsts};
+ghost use Rattle.encoder.specs.Times.{encoder-tables};
 ghost use Rattle.dry_cycle.specs.Dry.{tables, Dries};
 ghost use Rattle.dry_frame.specs.Frame.{Frames};
 ghost use Rattle.refresh.specs.Refresh.{Refreshes};
@@ -38,8 +38,8 @@ pub extern "C" fn nyokazerubi_read(
     worst: &mut [u32],
 ) -> Unpacked
     ensures { λ r. ⌜ ReadsImage (now (image .entry))
-        (now (masks .entry)) (now (deadlines .entry)) (now (averages .entry)) (now (worst .entry))
-        (now (masks .exit)) (now (deadlines .exit)) (now (averages .exit)) (now (worst .exit)) r ⌝ }
+        (record { masks = now (masks .entry); deadlines = now (deadlines .entry); averages = now (averages .entry); worst = now (worst .entry) })
+        (record { masks = now (masks .exit); deadlines = now (deadlines .exit); averages = now (averages .exit); worst = now (worst .exit) }) r ⌝ }
 {
     profile::read(image, masks, deadlines, averages, worst)
 }
@@ -55,7 +55,8 @@ pub extern "C" fn nyokazerubi_write(
     worst: &[u32],
     image: &mut [u8],
 ) -> Written
-    ensures { λ r. ⌜ Writes n levels cycle (now (masks .entry)) (now (deadlines .entry)) (now (averages .entry)) (now (worst .entry))
+    ensures { λ r. ⌜ Writes n levels cycle
+        (record { masks = now (masks .entry); deadlines = now (deadlines .entry); averages = now (averages .entry); worst = now (worst .entry) })
         (now (image .entry)) (now (image .exit)) (r .refusal .number) (r .bytes) ⌝ }
 {
     profile::write(n, levels, cycle, masks, deadlines, averages, worst, image)
@@ -63,7 +64,7 @@ pub extern "C" fn nyokazerubi_write(
 
 #[no_mangle]
 pub extern "C" fn nyokazerubi_write_encoder(image: &mut [u8]) -> Written
-    ensures { λ r. ⌜ Writes 9 8 320000 masks deadlines averages worsts (now (image .entry)) (now (image .exit)) (r .refusal .number) (r .bytes) ⌝ }
+    ensures { λ r. ⌜ Writes 9 8 320000 encoder-tables (now (image .entry)) (now (image .exit)) (r .refusal .number) (r .bytes) ⌝ }
 {
     encoder::write_image(image)
 }

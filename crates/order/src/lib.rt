@@ -28,7 +28,8 @@ ghost use Rattle.order.specs.Judged.{ByNumber, Ordered, TellsFit, Verdic
 // not done, the highest, as the higher numbers tend to be done later. It is looked at again when that one is done.
 fn release(masks: &[u64], from: u64, done: u64, free: u64, waiting: &mut [u64; 64]) -> u64
     requires { ⌜ Below from (length (now masks)) ⌝ }
-    ensures { λ r. ⌜ ((n : ℕ) → Masked n (now (masks .entry)) → Parted n (now (masks .entry)) done free from (now (waiting .entry)) → Parted n (now (masks .entry)) done r 0 (now (waiting .exit))) ⌝ }
+    ensures { λ r. ⌜ ((n : ℕ) → Masked n (now (masks .entry)) → Parted n (now (masks .entry)) done free from (now (waiting .entry))
+        → Parted n (now (masks .entry)) done r 0 (now (waiting .exit))) ⌝ }
 {
     let mut r = free;
     let mut t = from;
@@ -153,7 +154,8 @@ pub fn fit(
     n: usize,
 ) -> bool
     requires { ⌜ (n ≤ 64) × Timed n (now deadlines) (now worst) stride × ((k : ℕ) → k < n → getD (now order) k 0 < n) ⌝ }
-    ensures { λ r. ⌜ ((masks : List ℕ) → TellsFit (lent-profile n cycle masks (now (deadlines .entry)) (now (worst .entry)) stride) (now (order .entry)) r) ⌝ }
+    ensures { λ r. ⌜ ((masks : List ℕ) → TellsFit
+        (lent-profile n cycle masks (now (deadlines .entry)) (now (worst .entry)) stride) (now (order .entry)) r) ⌝ }
 {
     let mut end: u32 = 0;
     let mut k: usize = 0;
@@ -184,7 +186,8 @@ pub fn judge(
     n: usize,
 ) -> Judgement
     requires { ⌜ Masked n (now masks) × Timed n (now deadlines) (now worst) stride ⌝ }
-    ensures { λ r. ⌜ Verdict (lent-profile n cycle (now (masks .entry)) (now (deadlines .entry)) (now (worst .entry)) stride) (r .refusal) (r .order) ⌝ }
+    ensures { λ r. ⌜ Verdict
+        (lent-profile n cycle (now (masks .entry)) (now (deadlines .entry)) (now (worst .entry)) stride) (r .refusal) (r .order) ⌝ }
 {
     let arranged = ordered(masks, deadlines, cycle, n);
     let order = arranged.order;

@@ -3,7 +3,7 @@ use mathlib.Core.Path.{_≡_, sym, ap, _∙_}
 use mathlib.Core.List.{List, []}
 use Prim.Native.Nat.{ℕ}
 use denote.Ref.{RefT, ptr, now}
-use Rattle.rules.specs.Image.{profile}
+use Rattle.rules.specs.Image.{ProfileTables, profile}
 use Rattle.rules.specs.Refusals.{Ground, First, kept, image-call, lookup-call}
 use Rattle.rules.proofs.Refusals.{first-one}
 use Rattle.rules.specs.declared.Refusal.{Refusal}
@@ -19,11 +19,11 @@ pub refusal-one : (row : List Ground) (r t : Refusal) → First row (r .number) 
 refusal-one row r t p q = ap (λ (k : ℕ). record { number = k }) (first-one row (r .number) (t .number) p q)
 
 -- `read`
-module _ {s m d a w : List ℕ} where
-  pub reads-one : {m′ d′ a′ w′ m″ d″ a″ w″ : List ℕ} {r t : Unpacked} → ReadsImage s m d a w m′ d′ a′ w′ r → ReadsImage s m d a w m″ d″ a″ w″ t
-      → (r ≡ t) × (m′ ≡ m″) × (d′ ≡ d″) × (a′ ≡ a″) × (w′ ≡ w″)
+module _ {s : List ℕ} {T : ProfileTables} where
+  pub reads-one : {T′ T″ : ProfileTables} {r t : Unpacked} → ReadsImage s T T′ r → ReadsImage s T T″ t
+      → (r ≡ t) × (T′ .masks ≡ T″ .masks) × (T′ .deadlines ≡ T″ .deadlines) × (T′ .averages ≡ T″ .averages) × (T′ .worst ≡ T″ .worst)
   reads-one {r = r} {t = t} x y =
-      let e = refusal-one (image-call s (table-rooms (profile s .n) (profile s .levels) m d a w)) (r .refusal) (t .refusal) (x .given) (y .given) in (
+      let e = refusal-one (image-call s (table-rooms (profile s .n) (profile s .levels) T)) (r .refusal) (t .refusal) (x .given) (y .given) in (
         answer e ((rw e at (x .n)) ∙ sym (y .n)) ((rw e at (x .levels)) ∙ sym (y .levels)) ((rw e at (x .cycle)) ∙ sym (y .cycle)),
         (rw e at (x .masks)) ∙ sym (y .masks),
         (rw e at (x .deadlines)) ∙ sym (y .deadlines),
@@ -69,9 +69,9 @@ module _ {s : List ℕ} {a : ℕ} where
           ∙ ap (made (t .refusal) (t .start)) length
 
 -- `write`
-module _ {n L cycle : ℕ} {m d a w before : List ℕ} where
-  pub written-one : {after after′ : List ℕ} {r t : Written} → Writes n L cycle m d a w before after (r .refusal .number) (r .bytes)
-      → Writes n L cycle m d a w before after′ (t .refusal .number) (t .bytes) → (r ≡ t) × (after ≡ after′)
+module _ {n L cycle : ℕ} {T : ProfileTables} {before : List ℕ} where
+  pub written-one : {after after′ : List ℕ} {r t : Written} → Writes n L cycle T before after (r .refusal .number) (r .bytes)
+      → Writes n L cycle T before after′ (t .refusal .number) (t .bytes) → (r ≡ t) × (after ≡ after′)
   written-one {r = r} {t = t} x y =
       let (number, bytes, left) = writes-one x y in
       (ap (λ (k : ℕ). made k (r .bytes)) number ∙ ap (made (t .refusal .number)) bytes, left)

@@ -51,8 +51,8 @@ pub fn read(
     worst: &mut [u32],
 ) -> Unpacked
     ensures { λ r. ⌜ ReadsImage (now (image .entry))
-        (now (masks .entry)) (now (deadlines .entry)) (now (averages .entry)) (now (worst .entry))
-        (now (masks .exit)) (now (deadlines .exit)) (now (averages .exit)) (now (worst .exit)) r ⌝ }
+        (record { masks = now (masks .entry); deadlines = now (deadlines .entry); averages = now (averages .entry); worst = now (worst .entry) })
+        (record { masks = now (masks .exit); deadlines = now (deadlines .exit); averages = now (averages .exit); worst = now (worst .exit) }) r ⌝ }
 {
     let checked = image_check::whole::checked(image);
     let refusal = checked.refusal;
@@ -136,7 +136,8 @@ pub fn write(
     worst: &[u32],
     image: &mut [u8],
 ) -> Written
-    ensures { λ r. ⌜ Writes n levels cycle (now (masks .entry)) (now (deadlines .entry)) (now (averages .entry)) (now (worst .entry))
+    ensures { λ r. ⌜ Writes n levels cycle
+        (record { masks = now (masks .entry); deadlines = now (deadlines .entry); averages = now (averages .entry); worst = now (worst .entry) })
         (now (image .entry)) (now (image .exit)) (r .refusal .number) (r .bytes) ⌝ }
 {
     image_write::write(n, levels, cycle, masks, deadlines, averages, worst, image)

@@ -7,7 +7,7 @@ use native.Mathlib.Omega.{arith}
 use borrow.Author.Needs.{needs}
 use borrow.Author.Tests.{leb-true}
 use Rattle.rules.specs.Numbers.{refused-range, refused-table, refused-loop, refused-unfit}
-use Rattle.rules.specs.Image.{Profile, image-bytes, of-tables}
+use Rattle.rules.specs.Image.{Profile, ProfileTables, image-bytes, of-tables}
 use Rattle.rules.specs.Refusals.{_when_, First, Count, WriteFault, WriteRange, Table, Looped, Unfit, Tight, write-call}
 use Rattle.rules.proofs.Faults.{some-fault, no-fault}
 use Rattle.image_fields.proofs.Faults.{denied}
@@ -21,15 +21,18 @@ use Rattle.image_write.proofs.refusal.Tie as tie
 
 -- ---- the tables' profile, what is lent, and the row from 6 on
 
+abbrev T : tie.Start → ProfileTables
+T s = let x = s .args in record { masks = x .masks .now; deadlines = x .deadlines .now; averages = x .averages .now; worst = x .worst .now }
+
 abbrev F : tie.Start → Profile
 F s =
     let x = s .args in
-    of-tables (x .n) (x .levels) (x .cycle) (x .masks .now) (x .deadlines .now) (x .averages .now) (x .worst .now)
+    of-tables (x .n) (x .levels) (x .cycle) (T s)
 
 abbrev Tables : tie.Start → List (ℕ × ℕ)
 Tables s =
     let x = s .args in
-    table-rooms (x .n) (x .levels) (x .masks .now) (x .deadlines .now) (x .averages .now) (x .worst .now)
+    table-rooms (x .n) (x .levels) (T s)
 
 abbrev Short : tie.Start → Type 0
 Short s = s .args .room < image-bytes (s .args .n) (s .args .levels)
@@ -37,7 +40,7 @@ Short s = s .args .room < image-bytes (s .args .n) (s .args .levels)
 abbrev Rooms : tie.Start → List (ℕ × ℕ)
 Rooms s =
     let x = s .args in
-    write-rooms (x .n) (x .levels) (x .masks .now) (x .deadlines .now) (x .averages .now) (x .worst .now) (x .room)
+    write-rooms (x .n) (x .levels) (T s) (x .room)
 
 abbrev Rest : tie.Start → ℕ → Type 0
 Rest s k = First (refused-range when WriteRange (F s) ∷ refused-table when Table (F s) ∷ refused-loop when Looped (F s) ∷ refused-unfit when Unfit (F s) ∷ []) k
@@ -88,10 +91,10 @@ counts : (c : tie.Else1) → let x = past-3 c .args in (x .n ≤ 64) × (1 ≤ x
 unfolding of-tables
 counts c = counted _ _ _ (not-3 c)
 
-room : (c : tie.Else3) → let x = past-17 c .args in Roomy (x .n) (x .levels) (x .masks .now) (x .deadlines .now) (x .averages .now) (x .worst .now)
+room : (c : tie.Else3) → let x = past-17 c .args in Roomy (x .n) (x .levels) (T (past-17 c))
 room c =
     let k = counts (c .before .before .before .before) in
-    roomy _ _ _ _ _ _ (past-17 c .args .room) (not-17 c) (k .0) (k .2)
+    roomy _ _ _ (past-17 c .args .room) (not-17 c) (k .0) (k .2)
 
 -- ---- the needs
 
@@ -142,14 +145,14 @@ judge-requires : tie.Need-judge-requires
 judge-requires c κs =
     let e = c .before .before .before .before in
     let l = counts (e .before .before .before .before) .1 in
-    (masked _ _ _ _ _ _ _ (room e) (in-range (c .before)), timed _ _ _ _ _ _ _ (room e) (in-range (c .before)) l)
+    (masked _ _ _ _ (room e) (in-range (c .before)), timed _ _ _ _ (room e) (in-range (c .before)) l)
 
 returns-6 : tie.Need-returns-6
 unfolding of-tables
 returns-6 c =
     let e = c .before .before .before .before .before in
     let x = past-17 e .args in
-    let verdict = judged (x .n) (x .levels) (x .cycle) (x .masks .now) (x .deadlines .now) (x .averages .now) (x .worst .now) (c .judge .ensures) in
+    let verdict = judged (x .n) (x .levels) (x .cycle) (T (past-17 e)) (c .judge .ensures) in
     rest e _ (inr (not-6 (c .before .before), inr (not-7 (c .before), verdict .number)))
 
 pub refusal-spec : {M : Type 1} → statement M

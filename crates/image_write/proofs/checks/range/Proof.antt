@@ -14,7 +14,8 @@ use Rattle.image_write.proofs.checks.range.Tie as tie
 
 abbrev Inv-loop : tie.InvT-loop
 Inv-loop n levels cycle masks deadlines averages worst ordered a₀ a =
-    (a ≤ n) × Faultless (WriteFault (of-tables n levels cycle masks deadlines averages worst)) a
+    (a ≤ n)
+    × Faultless (WriteFault (of-tables n levels cycle (record { masks = masks; deadlines = deadlines; averages = averages; worst = worst }))) a
 
 abbrev μ-loop : tie.MeasureT-loop
 μ-loop n levels cycle masks deadlines averages worst ordered a₀ a = n - a
