@@ -8,6 +8,7 @@ use profile::Unpacked;
 use profile::Written;
 use refresh::Refreshed;
 use rules::Refusal;
+ghost use mathlib.Core.Path.{_≡_};
 ghost use Rattle.rules.specs.Refusals.{First, image-checks, lookup-call};
 ghost use Rattle.image_write.specs.Writing.{Writes};
 ghost use Rattle.profile.specs.Calls.{Reads, Places};
@@ -16,9 +17,20 @@ ghost use Rattle.encoder.specs.Times.{masks, deadlines, averages, worsts};
 ghost use Rattle.dry_cycle.specs.Dry.{tables, Dries};
 ghost use Rattle.dry_frame.specs.Frame.{Frames};
 ghost use Rattle.refresh.specs.Refresh.{Refreshes};
+ghost use Rattle.nyokazerubi.specs.Flat.{boundary};
 
 pub mod readings;
 pub mod runs;
+
+// The version of this boundary: of its calls, their parameters and the layout of its records. It goes up by 1 when one of them changes.
+pub const BOUNDARY: u32 = 1;
+
+#[no_mangle]
+pub extern "C" fn nyokazerubi_boundary() -> u32
+    ensures { λ r. ⌜ r ≡ boundary ⌝ }
+{
+    BOUNDARY
+}
 
 // ---- the profile
 
@@ -35,13 +47,13 @@ pub extern "C" fn nyokazerubi_read(
     masks: &mut [u64],
     deadlines: &mut [u32],
     averages: &mut [u32],
-    worst: &mut [u32],
+    worst_by_action: &mut [u32],
 ) -> Unpacked
     ensures { λ r. ⌜ Reads (now (image .entry))
-        (now (masks .entry)) (now (deadlines .entry)) (now (averages .entry)) (now (worst .entry))
-        (now (masks .exit)) (now (deadlines .exit)) (now (averages .exit)) (now (worst .exit)) r ⌝ }
+        (now (masks .entry)) (now (deadlines .entry)) (now (averages .entry)) (now («worst_by_action» .entry))
+        (now (masks .exit)) (now (deadlines .exit)) (now (averages .exit)) (now («worst_by_action» .exit)) r ⌝ }
 {
-    profile::read(image, masks, deadlines, averages, worst)
+    profile::read(image, masks, deadlines, averages, worst_by_action)
 }
 
 #[no_mangle]
@@ -52,13 +64,13 @@ pub extern "C" fn nyokazerubi_write(
     masks: &[u64],
     deadlines: &[u32],
     averages: &[u32],
-    worst: &[u32],
+    worst_by_action: &[u32],
     image: &mut [u8],
 ) -> Written
-    ensures { λ r. ⌜ Writes n levels cycle (now (masks .entry)) (now (deadlines .entry)) (now (averages .entry)) (now (worst .entry))
+    ensures { λ r. ⌜ Writes n levels cycle (now (masks .entry)) (now (deadlines .entry)) (now (averages .entry)) (now («worst_by_action» .entry))
         (now (image .entry)) (now (image .exit)) (r .refusal .number) (r .bytes) ⌝ }
 {
-    profile::write(n, levels, cycle, masks, deadlines, averages, worst, image)
+    profile::write(n, levels, cycle, masks, deadlines, averages, worst_by_action, image)
 }
 
 #[no_mangle]
@@ -90,13 +102,13 @@ pub extern "C" fn nyokazerubi_plan(
     image: &[u8],
     order: &mut [u8],
     limits: &mut [i32],
-    worst: &mut [u32],
+    worst_by_position: &mut [u32],
     bounds: &mut [i32],
 ) -> Planned
-    ensures { λ r. ⌜ Plans (now (image .entry)) (now (order .entry)) (now (limits .entry)) (now (worst .entry)) (now (bounds .entry))
-        (now (order .exit)) (now (limits .exit)) (now (worst .exit)) (now (bounds .exit)) r ⌝ }
+    ensures { λ r. ⌜ Plans (now (image .entry)) (now (order .entry)) (now (limits .entry)) (now («worst_by_position» .entry)) (now (bounds .entry))
+        (now (order .exit)) (now (limits .exit)) (now («worst_by_position» .exit)) (now (bounds .exit)) r ⌝ }
 {
-    planner::plan(image, order, limits, worst, bounds)
+    planner::plan(image, order, limits, worst_by_position, bounds)
 }
 
 #[no_mangle]
@@ -104,16 +116,16 @@ pub extern "C" fn nyokazerubi_dry_run(
     n: usize,
     levels: usize,
     limits: &[i32],
-    worst: &[u32],
+    worst_by_position: &[u32],
     bounds: &[i32],
     durations: &[u32],
     given: &mut [u8],
     marks: &mut [u8],
 ) -> Dried
-    ensures { λ r. ⌜ Dries n levels (tables (now (limits .entry)) (now (worst .entry)) (now (bounds .entry)) (now (durations .entry)))
+    ensures { λ r. ⌜ Dries n levels (tables (now (limits .entry)) (now («worst_by_position» .entry)) (now (bounds .entry)) (now (durations .entry)))
         (now (given .entry)) (now (given .exit)) (now (marks .entry)) (now (marks .exit)) r ⌝ }
 {
-    dry_cycle::dry_run(n, levels, limits, worst, bounds, durations, given, marks)
+    dry_cycle::dry_run(n, levels, limits, worst_by_position, bounds, durations, given, marks)
 }
 
 // A frame run dry, from an image.
