@@ -48,7 +48,7 @@ use Rattle.nyokazerubi.proofs.Beside.{Other, by-value, lent, slots, tys
 pub data Takes : Type 0 where
   whole none : Takes
 
-with-emp : {M : Type 1} (𝓤 : URA M) (P : SProp 𝓤) {Q R : SProp 𝓤} → ent 𝓤 (emp 𝓤) Q → ent 𝓤 (sep 𝓤 P Q) R → ent 𝓤 P R
+pub with-emp : {M : Type 1} (𝓤 : URA M) (P : SProp 𝓤) {Q R : SProp 𝓤} → ent 𝓤 (emp 𝓤) Q → ent 𝓤 (sep 𝓤 P Q) R → ent 𝓤 P R
 with-emp 𝓤 P {Q} q r = via 𝓤 (sep 𝓤 (emp 𝓤) P) (emp∗ 𝓤 P) (via 𝓤 (sep 𝓤 P (emp 𝓤)) (comm∗ 𝓤 (emp 𝓤) P) (via 𝓤 (sep 𝓤 P Q) (monoR 𝓤 P q) r))
 
 -- ---- the MIR

@@ -70,7 +70,16 @@ pub extern "C" fn nyokazerubi_write(
     ensures { λ r. ⌜ Writes n levels cycle (now (masks .entry)) (now (deadlines .entry)) (now (averages .entry)) (now («worst_by_action» .entry))
         (now (image .entry)) (now (image .exit)) (r .refusal .number) (r .bytes) ⌝ }
 {
-    profile::write(n, levels, cycle, masks, deadlines, averages, worst_by_action, image)
+    profile::write(
+        n,
+        levels,
+        cycle,
+        masks,
+        deadlines,
+        averages,
+        worst_by_action,
+        image,
+    )
 }
 
 #[no_mangle]
@@ -125,7 +134,16 @@ pub extern "C" fn nyokazerubi_dry_run(
     ensures { λ r. ⌜ Dries n levels (tables (now (limits .entry)) (now («worst_by_position» .entry)) (now (bounds .entry)) (now (durations .entry)))
         (now (given .entry)) (now (given .exit)) (now (marks .entry)) (now (marks .exit)) r ⌝ }
 {
-    dry_cycle::dry_run(n, levels, limits, worst_by_position, bounds, durations, given, marks)
+    dry_cycle::dry_run(
+        n,
+        levels,
+        limits,
+        worst_by_position,
+        bounds,
+        durations,
+        given,
+        marks,
+    )
 }
 
 // A frame run dry, from an image.

@@ -43,14 +43,18 @@ pub fn start_flat(n: usize, levels: usize) -> Started
     if !run::counts_fit(n, levels) {
         return Started {
             run: run::begun(0, 0),
-            refusal: Refusal { number: rules::REFUSED_COUNT },
+            refusal: Refusal {
+                number: rules::REFUSED_COUNT,
+            },
         };
     }
     let started = Run::start(n as u32, levels as u32);
     let begun = started.run;
     Started {
         run: begun,
-        refusal: Refusal { number: started.refusal },
+        refusal: Refusal {
+            number: started.refusal,
+        },
     }
 }
 
@@ -99,7 +103,9 @@ pub fn report_flat(run: Run, clock: u32, worst_by_position: &[u32]) -> Reported
     let next = reported.run;
     Reported {
         run: next,
-        refusal: Refusal { number: reported.refusal },
+        refusal: Refusal {
+            number: reported.refusal,
+        },
     }
 }
 
