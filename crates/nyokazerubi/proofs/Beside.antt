@@ -1,4 +1,5 @@
--- The parameters beside a record, numbers and shared slices, as many as there are: what a signature says of them, their laws, and the steps that a walk
+-- The parameters beside a record, numbers and shared slices, as many as there are: what a signature says of them, their laws, and the steps that a
+-- walk
 -- takes for all of them at once. Assumes nothing.
 use Prim.Native.Nat.{ℕ, zero, suc}
 use mathlib.Core.Path.{_≡_, refl, sym, ap, subst}
@@ -12,7 +13,8 @@ use base.Logic.{SProp, ent, sep, emp, via, emp∗}
 use base.Fml.{Fml, ftrue, ffalse, fsep, fat, froom, fdies}
 use prog.Wp.{Heap, Env, read, evalOpds}
 use ghost.Atoms.{Atoms, sem}
-use types.Kit.{Given, Item, ‵, raw, _⊛_, mean, ⋆, nth, del, pull, unpull, Goal, allocs, passes, frees, Seq, Step, step, _$_, _∵_, Go, !, qed, move, drop, use1, split, fsplit, fsplit3, fjoin, fjoin3, frame, done}
+use types.Kit.{Given, Item, ‵, raw, _⊛_, mean, ⋆, nth, del, pull, unpull, Goal, allocs, passes, frees, Seq, Step, step, _$_, _∵_, Go, !, qed, move}
+use types.Kit.{drop, use1, split, fsplit, fsplit3, fjoin, fjoin3, frame, done}
 use types.Run.{Opds, look, init, forget, alloc1, pass1, pass0, free1}
 use contract.Lifetimes.{Lfts, Within, lftAt}
 use denote.RattleType.{RattleType, Denots, Valss, flat, owns}
@@ -113,7 +115,8 @@ module _ (s : Side) {n : ℕ} where
     fit [] a = tt
     fit (o ∷ os) a = (tt, fit os (a .1))
 
-    pub had : (os : List (Other n)) (a : Denots (rows os)) → hasOf κs (slots os) (all yes (slots os)) (stays os) a (as-passed os a) (values os a) ≡ Own os a
+    pub had : (os : List (Other n)) (a : Denots (rows os))
+        → hasOf κs (slots os) (all yes (slots os)) (stays os) a (as-passed os a) (values os a) ≡ Own os a
     had [] a = refl
     had (o ∷ os) a = ap (fsep (slot o .row κs .own (a .0) (word o (a .0)))) (had os (a .1))
 
@@ -130,23 +133,29 @@ module _ {M : Type 1} (𝓤 : URA M) (H : Heap 𝓤) (A : Atoms 𝓤) (W : Given
     typed : (o : Other n) (x : slot s o .row κs .Denot) → Is (slot s o .row κs) x (word s κs o x) → Typed (ty s o ∷ []) (word s κs o x)
     typed (number w) x is = uint-lawful 𝓤 H A W w .typed x (vint w x ∷ []) is
     typed (slice j ok R) x is =
-        shr-slice-lawful 𝓤 H A W (named (numbered s j)) (lftAt (lifetimes s n) (numbered s j) (within s n j ok) κs) R .typed x (sliceVal (ptr x) (length (now x)) ∷ []) is
+        shr-slice-lawful 𝓤 H A W (named (numbered s j)) (lftAt (lifetimes s n) (numbered s j) (within s n j ok) κs) R .typed x
+        (sliceVal (ptr x) (length (now x)) ∷ []) is
 
-    pub all-typed : (os : List (Other n)) (a : Denots (rows s κs os)) → Are (rows s κs os) (Ises (rows s κs os)) a (values s κs os a) → Typed (tys s os) (flat (rows s κs os) (values s κs os a))
+    pub all-typed : (os : List (Other n)) (a : Denots (rows s κs os)) → Are (rows s κs os) (Ises (rows s κs os)) a (values s κs os a)
+        → Typed (tys s os) (flat (rows s κs os) (values s κs os a))
     all-typed [] a are = tt
-    all-typed (o ∷ os) a are = typed-app (ty s o ∷ []) (tys s os) (word s κs o (a .0)) (flat (rows s κs os) (values s κs os (a .1))) (typed o (a .0) (are .0)) (all-typed os (a .1) (are .1))
+    all-typed (o ∷ os) a are = typed-app (ty s o ∷ []) (tys s os) (word s κs o (a .0)) (flat (rows s κs os) (values s κs os (a .1)))
+        (typed o (a .0) (are .0)) (all-typed os (a .1) (are .1))
 
     copied : (o : Other n) → Copy 𝓤 H A (slot s o .row κs)
     copied (number w) = uint-copy 𝓤 H A W w
     copied (slice j ok R) = shr-slice-copy 𝓤 H A W (named (numbered s j)) (lftAt (lifetimes s n) (numbered s j) (within s n j ok) κs) R
 
     -- each can be had twice, so the callee is passed a copy
-    pub twice : (os : List (Other n)) (a : Denots (rows s κs os)) → ent 𝓤 (sem 𝓤 H A (Own s κs os a)) (sep 𝓤 (sem 𝓤 H A (Own s κs os a)) (sem 𝓤 H A (Own s κs os a)))
+    pub twice : (os : List (Other n)) (a : Denots (rows s κs os))
+        → ent 𝓤 (sem 𝓤 H A (Own s κs os a)) (sep 𝓤 (sem 𝓤 H A (Own s κs os a)) (sem 𝓤 H A (Own s κs os a)))
     twice [] a = emp∗ 𝓤 (emp 𝓤)
     twice (o ∷ os) a =
         qed W (‵ (Own s κs (o ∷ os) a) ∷ []) ∵ fsplit ! $
-        use1 W (‵ (slot s o .row κs .own (a .0) (word s κs o (a .0))) ⊛ ‵ (slot s o .row κs .own (a .0) (word s κs o (a .0)))) (copied o .twice (a .0) (word s κs o (a .0))) $ split ! $ move ! (2 ∷ []) $
-        use1 W (‵ (Own s κs os (a .1)) ⊛ ‵ (Own s κs os (a .1))) (twice os (a .1)) $ split ! $ move ! (2 ∷ 0 ∷ []) $ fjoin ! $ frame ! $ move ! (1 ∷ 0 ∷ []) $ fjoin ! $ done !
+        use1 W (‵ (slot s o .row κs .own (a .0) (word s κs o (a .0))) ⊛ ‵ (slot s o .row κs .own (a .0) (word s κs o (a .0))))
+        (copied o .twice (a .0) (word s κs o (a .0))) $ split ! $ move ! (2 ∷ []) $
+        use1 W (‵ (Own s κs os (a .1)) ⊛ ‵ (Own s κs os (a .1))) (twice os (a .1)) $ split ! $ move ! (2 ∷ 0 ∷ []) $ fjoin ! $ frame ! $
+        move ! (1 ∷ 0 ∷ []) $ fjoin ! $ done !
 
 -- ---- in a walk: their locals, in a row
 
@@ -194,11 +203,13 @@ pub found : (τs : List Ty) (bs : Blocks τs) (E : List (Ty × ℕ)) → Finds-a
 found [] bs E = tt
 found (τ ∷ τs) bs E = (refl, one-later (τ, bs .0) (in-front τs (bs .1) E) zero τs (bs .1) (found τs (bs .1) E))
 
-pub found-after : (τs : List Ty) (bs : Blocks τs) (E : List (Ty × ℕ)) (j : ℕ) (σs : List Ty) (cs : Blocks σs) → Finds-all E j σs cs → Finds-all (in-front τs bs E) (after τs j) σs cs
+pub found-after : (τs : List Ty) (bs : Blocks τs) (E : List (Ty × ℕ)) (j : ℕ) (σs : List Ty) (cs : Blocks σs) → Finds-all E j σs cs
+    → Finds-all (in-front τs bs E) (after τs j) σs cs
 found-after [] bs E j σs cs f = f
 found-after (τ ∷ τs) bs E j σs cs f = one-later (τ, bs .0) (in-front τs (bs .1) E) (after τs j) σs cs (found-after τs (bs .1) E j σs cs f)
 
-pub past : (τs : List Ty) (bs : Blocks τs) (E : List (Ty × ℕ)) (j : ℕ) → getD (in-front τs bs E) (after τs j) (tyEnum [] ttnil, zero) ≡ getD E j (tyEnum [] ttnil, zero)
+pub past : (τs : List Ty) (bs : Blocks τs) (E : List (Ty × ℕ)) (j : ℕ)
+    → getD (in-front τs bs E) (after τs j) (tyEnum [] ttnil, zero) ≡ getD E j (tyEnum [] ttnil, zero)
 past [] bs E j = refl
 past (τ ∷ τs) bs E j = past τs (bs .1) E j
 
@@ -241,10 +252,12 @@ module _ {M : Type 1} (𝓤 : URA M) (H : Heap 𝓤) (A : Atoms 𝓤) (W : Given
       (look {K = Go {0}} {W = W} {Γ = Γ} ! 0 refl .go then
       (via 𝓤 (sep 𝓤 (sem 𝓤 H A rest) F′) (qed W Γ ∵ move ! (2 ∷ []) $ done !)
       (reads-all (suc i) τs (bs .1) vs (ok .1) (at .1) F′ (λ us. Kt (v ∷ us))
-      (via 𝓤 (sep 𝓤 (sem 𝓤 H A (cells (τ ∷ τs) bs (v ∷ vs))) F) (qed W (‵ rest ∷ ‵ cell ∷ ‵ dies ∷ raw F ∷ []) ∵ move ! (1 ∷ 2 ∷ 0 ∷ []) $ fjoin3 ! $ done !) h)))))
+      (via 𝓤 (sep 𝓤 (sem 𝓤 H A (cells (τ ∷ τs) bs (v ∷ vs))) F)
+      (qed W (‵ rest ∷ ‵ cell ∷ ‵ dies ∷ raw F ∷ []) ∵ move ! (1 ∷ 2 ∷ 0 ∷ []) $ fjoin3 ! $ done !) h)))))
 
 -- they are read: entry k of the context is their cells
-pub reads : {M : Type 1} {𝓤 : URA M} {H : Heap 𝓤} {A : Atoms 𝓤} {K : Type 0} {W : Given 𝓤 H A} {Γ : List (Item 𝓤)} {E : Env 𝓤 H} → K → (k i : ℕ) (τs : List Ty) (bs : Blocks τs) (vs : List Val)
+pub reads : {M : Type 1} {𝓤 : URA M} {H : Heap 𝓤} {A : Atoms 𝓤} {K : Type 0} {W : Given 𝓤 H A} {Γ : List (Item 𝓤)} {E : Env 𝓤 H} → K
+    → (k i : ℕ) (τs : List Ty) (bs : Blocks τs) (vs : List Val)
     → Typed τs vs → Finds-all E i τs bs → nth 𝓤 H A k Γ ≡ ‵ (cells τs bs vs) → Opds K W Γ E (operands i τs) vs
 reads {𝓤 = 𝓤} {H} {A} {W = W} {Γ} {E} t k i τs bs vs ok at e = record {
   go = λ Kt h.

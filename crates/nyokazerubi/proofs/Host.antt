@@ -21,13 +21,18 @@ use Rattle.nyokazerubi.specs.Flat.{next-of, given-of, next-run, Asks, re
 
 -- the rules' answer settles the record and the refusal
 pub next-one : {r s : Run} {k m : Refusal} {x : rules.Next} → next-of r k ≡ x → next-of s m ≡ x → (r ≡ s) × (k ≡ m)
-next-one {r} {s} e f = (run-of-one r s (ap (λ (x : rules.Next). x .run) (e ∙ sym f)), ap (λ (x : rules.Next). record { number = x .number }) (e ∙ sym f))
+next-one {r} {s} e f = (
+  run-of-one r s (ap (λ (x : rules.Next). x .run) (e ∙ sym f)),
+  ap (λ (x : rules.Next). record { number = x .number })
+      (e ∙ sym f),
+)
 
 -- a refused start leaves a record of zero actions
 pub start-refused : (n L : ℕ) {r : Run} {k : Refusal} → next-of r k ≡ rules.start n L → k .number ≢ 0 → run-of r ≡ rules.begun 0 0 0
 start-refused n L {r} {k} e = started-kept n L (record { run = r; refusal = k .number }) e .refused
 
-pub report-refused : (worst : List ℕ) (t : ℕ) (h : Run) {r : Run} {k : Refusal} → next-of r k ≡ rules.report worst t (run-of h) → k .number ≢ 0 → r ≡ h
+pub report-refused : (worst : List ℕ) (t : ℕ) (h : Run) {r : Run} {k : Refusal} → next-of r k ≡ rules.report worst t (run-of h) → k .number ≢ 0
+    → r ≡ h
 report-refused worst t h {r} {k} e = reported-kept worst t h (record { run = r; refusal = k .number }) e .refused
 
 -- ---- ask
@@ -40,7 +45,8 @@ pub ask-refused : (order : List ℕ) (limits bounds : List ℤ) (h : Run) {r : R
 ask-refused order limits bounds h {r} {g} a = by (rules.ask order limits bounds (run-of h)) refl (a .run) (a .given)
   where
     by : (x : rules.Answer) → x ≡ rules.ask order limits bounds (run-of h) → run-of r ≡ next-run x → g ≡ given-of x → g .refusal .number ≢ 0 → r ≡ h
-    by (rules.refused k s) e next flat some = asked-kept order limits bounds h (record { run = r; answer = Refused k }) (ap (rules.refused k) next ∙ e)
+    by (rules.refused k s) e next flat some = asked-kept order limits bounds h (record { run = r; answer = Refused k })
+        (ap (rules.refused k) next ∙ e)
     by (rules.gives action level decided late s) e next flat some = absurd (some (ap (λ (y : Given). y .refusal .number) flat))
 
 -- ---- the speed reading

@@ -19,5 +19,6 @@ pub nyokazerubi-report-spec : {M : Type 1} → statement M
 unfolding code.routine
 nyokazerubi-report-spec 𝓤 H 𝓜 𝓖 𝓡 =
     lends 𝓤 H 𝓜 𝓖 𝓡 reported whole (number w32 ∷ slice 0 tt u32 ∷ []) code.env name g-def.name (code.unfolded 𝓤 H 𝓜 𝓡)
-    (f.clauses 𝓤 H (𝓖 .A) (𝓜 .mem) (𝓡 .run)) (g.clauses 𝓤 H (𝓖 .A) (𝓜 .mem) (𝓡 .run)) g-def.routine code.calls-nyokazerubi·runs·report-flat (g-thm.met 𝓤 H 𝓜 𝓖 𝓡)
+    (f.clauses 𝓤 H (𝓖 .A) (𝓜 .mem) (𝓡 .run)) (g.clauses 𝓤 H (𝓖 .A) (𝓜 .mem) (𝓡 .run)) g-def.routine code.calls-nyokazerubi·runs·report-flat
+    (g-thm.met 𝓤 H 𝓜 𝓖 𝓡)
     (record { asks = λ κs a. (tt, id⊢ 𝓤 _); over = λ κs a. a; same = λ κs a. (refl, refl); says = λ κs a x r ws. id⊢ 𝓤 _ })

@@ -18,5 +18,6 @@ pub nyokazerubi-start-spec : {M : Type 1} → statement M
 unfolding code.routine
 nyokazerubi-start-spec 𝓤 H 𝓜 𝓖 𝓡 =
     lends 𝓤 H 𝓜 𝓖 𝓡 started none (number w64 ∷ number w64 ∷ []) code.env name g-def.name (code.unfolded 𝓤 H 𝓜 𝓡)
-    (f.clauses 𝓤 H (𝓖 .A) (𝓜 .mem) (𝓡 .run)) (g.clauses 𝓤 H (𝓖 .A) (𝓜 .mem) (𝓡 .run)) g-def.routine code.calls-nyokazerubi·runs·start-flat (g-thm.met 𝓤 H 𝓜 𝓖 𝓡)
+    (f.clauses 𝓤 H (𝓖 .A) (𝓜 .mem) (𝓡 .run)) (g.clauses 𝓤 H (𝓖 .A) (𝓜 .mem) (𝓡 .run)) g-def.routine code.calls-nyokazerubi·runs·start-flat
+    (g-thm.met 𝓤 H 𝓜 𝓖 𝓡)
     (record { asks = λ κs a. (tt, id⊢ 𝓤 _); over = λ κs a. a; same = λ κs a. (refl, refl); says = λ κs a x r ws. id⊢ 𝓤 _ })

@@ -9,7 +9,7 @@ use Rattle.nyokazerubi.proofs.Records.{reported}
 use Rattle.nyokazerubi.proofs.runs.nyokazerubi_report as g
 use Rattle.nyokazerubi.proofs.runs.nyokazerubi_report.Symbol as g-def
 use Rattle.nyokazerubi.proofs.runs.nyokazerubi_report.Met as g-thm
-use Rattle.test_lent.proofs.Lending.{returns-by}
+use Rattle.test_lent.proofs.Lending.{run-still, returns-by}
 use Rattle.test_lent.proofs.through.reported as f
 use Rattle.test_lent.proofs.through.reported.Key.{name}
 use Rattle.test_lent.proofs.through.reported.Statement.{statement}
@@ -18,6 +18,9 @@ use Rattle.test_lent.proofs.through.reported.Code as code
 pub reported-spec : {M : Type 1} → statement M
 unfolding code.routine
 reported-spec 𝓤 H 𝓜 𝓖 𝓡 =
-    returns-by 𝓤 H 𝓜 𝓖 𝓡 reported (record { make = λ s q. record { run = s; refusal = q }; next-is = λ s q. refl; answer-is = λ s q. refl }) (number w32 ∷ slice 0 tt u32 ∷ []) code.env name g-def.name (code.unfolded 𝓤 H 𝓜 𝓡)
-    (f.clauses 𝓤 H (𝓖 .A) (𝓜 .mem) (𝓡 .run)) (g.clauses 𝓤 H (𝓖 .A) (𝓜 .mem) (𝓡 .run)) g-def.routine code.calls-nyokazerubi·runs·nyokazerubi-report (g-thm.met 𝓤 H 𝓜 𝓖 𝓡)
-    (record { asks = λ κs b. (tt, id⊢ 𝓤 _); over = λ κs a. a; same = λ κs a. (refl, refl); still = λ h. tt; silent = λ h f. refl; says = λ κs a l δ x q ws. id⊢ 𝓤 _ })
+    returns-by 𝓤 H 𝓜 𝓖 𝓡 run-still reported
+    (record { make = λ s q. record { run = s; refusal = q }; next-is = λ s q. refl; answer-is = λ s q. refl })
+    (number w32 ∷ slice 0 tt u32 ∷ []) code.env name g-def.name (code.unfolded 𝓤 H 𝓜 𝓡)
+    (f.clauses 𝓤 H (𝓖 .A) (𝓜 .mem) (𝓡 .run)) (g.clauses 𝓤 H (𝓖 .A) (𝓜 .mem) (𝓡 .run)) g-def.routine code.calls-nyokazerubi·runs·nyokazerubi-report
+    (g-thm.met 𝓤 H 𝓜 𝓖 𝓡)
+    (record { asks = λ κs b. (tt, id⊢ 𝓤 _); over = λ κs a. a; same = λ κs a. (refl, refl); says = λ κs a l δ x q ws. id⊢ 𝓤 _ })

@@ -8,7 +8,7 @@ use Rattle.nyokazerubi.proofs.Records.{started}
 use Rattle.nyokazerubi.proofs.runs.nyokazerubi_start as g
 use Rattle.nyokazerubi.proofs.runs.nyokazerubi_start.Symbol as g-def
 use Rattle.nyokazerubi.proofs.runs.nyokazerubi_start.Met as g-thm
-use Rattle.test_lent.proofs.Lending.{returns-by}
+use Rattle.test_lent.proofs.Lending.{run-still, returns-by}
 use Rattle.test_lent.proofs.through.started as f
 use Rattle.test_lent.proofs.through.started.Key.{name}
 use Rattle.test_lent.proofs.through.started.Statement.{statement}
@@ -17,6 +17,9 @@ use Rattle.test_lent.proofs.through.started.Code as code
 pub started-spec : {M : Type 1} → statement M
 unfolding code.routine
 started-spec 𝓤 H 𝓜 𝓖 𝓡 =
-    returns-by 𝓤 H 𝓜 𝓖 𝓡 started (record { make = λ s q. record { run = s; refusal = q }; next-is = λ s q. refl; answer-is = λ s q. refl }) (number w64 ∷ number w64 ∷ []) code.env name g-def.name (code.unfolded 𝓤 H 𝓜 𝓡)
-    (f.clauses 𝓤 H (𝓖 .A) (𝓜 .mem) (𝓡 .run)) (g.clauses 𝓤 H (𝓖 .A) (𝓜 .mem) (𝓡 .run)) g-def.routine code.calls-nyokazerubi·runs·nyokazerubi-start (g-thm.met 𝓤 H 𝓜 𝓖 𝓡)
-    (record { asks = λ κs b. (tt, id⊢ 𝓤 _); over = λ κs a. a; same = λ κs a. (refl, refl); still = λ h. tt; silent = λ h f. refl; says = λ κs a l δ x q ws. id⊢ 𝓤 _ })
+    returns-by 𝓤 H 𝓜 𝓖 𝓡 run-still started
+    (record { make = λ s q. record { run = s; refusal = q }; next-is = λ s q. refl; answer-is = λ s q. refl })
+    (number w64 ∷ number w64 ∷ []) code.env name g-def.name (code.unfolded 𝓤 H 𝓜 𝓡)
+    (f.clauses 𝓤 H (𝓖 .A) (𝓜 .mem) (𝓡 .run)) (g.clauses 𝓤 H (𝓖 .A) (𝓜 .mem) (𝓡 .run)) g-def.routine code.calls-nyokazerubi·runs·nyokazerubi-start
+    (g-thm.met 𝓤 H 𝓜 𝓖 𝓡)
+    (record { asks = λ κs b. (tt, id⊢ 𝓤 _); over = λ κs a. a; same = λ κs a. (refl, refl); says = λ κs a l δ x q ws. id⊢ 𝓤 _ })
