@@ -100,9 +100,9 @@ pub fn report_flat(run: Run, clock: u32, worst_by_position: &[u32]) -> Reported
     ensures { λ r. ⌜ next-of (r .run) (r .refusal) ≡ report (now («worst_by_position» .entry)) clock (run-of run) ⌝ }
 {
     let reported = run.report(clock, worst_by_position);
-    let next = reported.run;
+    let ended = reported.run;
     Reported {
-        run: next,
+        run: ended,
         refusal: Refusal {
             number: reported.refusal,
         },
