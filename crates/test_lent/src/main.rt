@@ -85,12 +85,12 @@ fn ask(run: Run, much: u32, order: [u8; 3], limits: &[i32], bounds: &[i32]) -> R
     say(a.level);
     say(a.decided as u32);
     say(a.late as u32);
-    let same = a.refusal.number == b.refusal.number
+    let alike = a.refusal.number == b.refusal.number
         && a.action == b.action
         && a.level == b.level
         && a.decided == b.decided
         && a.late == b.late;
-    tell_record(same, lent.run, value.run);
+    tell_record(alike, lent.run, value.run);
     lent.run
 }
 
@@ -115,8 +115,8 @@ fn say(x: u32) {
 }
 
 // The end of a line: the lent record, if the two answers and the two records are the same.
-fn tell_record(same: bool, lent: Run, value: Run) {
-    if same && counts_alike(lent, value) && marks_alike(lent, value) {
+fn tell_record(alike: bool, lent: Run, value: Run) {
+    if alike && same(lent, value) {
         io::write_all(1, b" |");
         say(lent.position);
         say(lent.clock);
@@ -128,16 +128,15 @@ fn tell_record(same: bool, lent: Run, value: Run) {
     }
 }
 
-fn counts_alike(a: Run, b: Run) -> bool {
-    a.n == b.n
-        && a.levels == b.levels
-        && a.position == b.position
-        && a.clock == b.clock
-        && a.level == b.level
-        && a.left == b.left
-        && a.decisions == b.decisions
-}
-
-fn marks_alike(a: Run, b: Run) -> bool {
-    a.running == b.running && a.overrun == b.overrun && a.late == b.late
+fn same(a: Run, b: Run) -> bool {
+    (a.n == b.n)
+        & (a.levels == b.levels)
+        & (a.position == b.position)
+        & (a.clock == b.clock)
+        & (a.level == b.level)
+        & (a.left == b.left)
+        & (a.decisions == b.decisions)
+        & (a.running == b.running)
+        & (a.overrun == b.overrun)
+        & (a.late == b.late)
 }
