@@ -12,7 +12,7 @@ use Rattle.run.specs.declared.Reported.{Reported}
 use Rattle.run.specs.Calls.{run-of, start-of, next-of}
 use Rattle.run.proofs.Answers.{run-of-one, start-of-one, next-of-one, asked-kept, reported-kept, started-kept}
 use Rattle.speed_stretch.specs.declared.Reading.{Reading}
-use Rattle.speed_stretch.specs.Ratio.{reading-of}
+use Rattle.speed_stretch.specs.Answer.{reading-of}
 use Rattle.speed.proofs.Answers.{reads-settled}
 use Rattle.nyokazerubi.specs.declared.runs.Given.{Given}
 use Rattle.nyokazerubi.specs.declared.readings.Read.{Read}

@@ -7,11 +7,11 @@ use lib.IntN.{pos}
 use lib.Ieee.{Float, fin}
 use Rattle.rules.specs.Run as rules
 use Rattle.rules.specs.Speed.{ratio, spent}
-use Rattle.speed_stretch.specs.Ratio.{Answer, gives, refuses, reading-of}
+use Rattle.speed_stretch.specs.Answer.{SpeedAnswer, gives, refuses, reading-of}
 use Rattle.speed_stretch.specs.declared.Reading.{Reading}
 use Rattle.run.specs.declared.Run.{Run}
 use Rattle.run.specs.Calls.{run-of}
-use Rattle.speed.specs.Speed.{Reads}
+use Rattle.speed.specs.Speed.{ReadsSpeed}
 use Rattle.nyokazerubi.specs.declared.runs.Given.{Given}
 use Rattle.nyokazerubi.specs.declared.readings.Read.{Read}
 
@@ -39,7 +39,7 @@ pub record Asks (x : rules.Answer) (r : Run) (g : Given) : Type 0 where
 abbrev pub none : Float
 none = fin false 0 (pos 0)
 
-abbrev pub read-of : Answer → Read
+abbrev pub read-of : SpeedAnswer → Read
 read-of (gives (ratio x)) = record { refusal = 0; spent = false; ratio = x }
 read-of (gives spent) = record { refusal = 0; spent = true; ratio = none }
 read-of (refuses number) = record { refusal = number; spent = false; ratio = none }
@@ -47,5 +47,5 @@ read-of (refuses number) = record { refusal = number; spent = false; ratio = non
 -- r is the speed reading of positions first to last at the level and time t.
 pub record ReadsFlat (s : List ℕ) (first last level t : ℕ) (r : Read) : Type 0 where
   pub reading : Reading
-  pub reads : Reads s first last level t reading
+  pub reads : ReadsSpeed s first last level t reading
   pub flat : r ≡ read-of (reading-of reading)

@@ -94,8 +94,9 @@ pub extern "C" fn nyokazerubi_plan(
     worst: &mut [u32],
     bounds: &mut [i32],
 ) -> Planned
-    ensures { λ r. ⌜ Plans (now (image .entry)) (now (order .entry)) (now (limits .entry)) (now (worst .entry)) (now (bounds .entry))
-        (now (order .exit)) (now (limits .exit)) (now (worst .exit)) (now (bounds .exit)) r ⌝ }
+    ensures { λ r. ⌜ Plans (now (image .entry))
+        (record { order = now (order .entry); limits = now (limits .entry); worst = now (worst .entry); bounds = now (bounds .entry) })
+        (record { order = now (order .exit); limits = now (limits .exit); worst = now (worst .exit); bounds = now (bounds .exit) }) r ⌝ }
 {
     planner::plan(image, order, limits, worst, bounds)
 }

@@ -1,7 +1,7 @@
 // The speed reading for a host. An enum does not cross to C, so its cases are laid flat.
 use speed_stretch::Reading;
 ghost use mathlib.Core.Path.{_≡_};
-ghost use Rattle.speed_stretch.specs.Ratio.{reading-of};
+ghost use Rattle.speed_stretch.specs.Answer.{reading-of};
 ghost use Rattle.speed.specs.Speed.{Tells};
 ghost use Rattle.nyokazerubi.specs.Flat.{read-of, ReadsFlat};
 
@@ -27,8 +27,8 @@ fn flat(reading: Reading) -> Read
             spent: true,
             ratio: 0.0,
         },
-        Reading::Refused(number) => Read {
-            refusal: number,
+        Reading::Refused(refusal) => Read {
+            refusal: refusal.number,
             spent: false,
             ratio: 0.0,
         },

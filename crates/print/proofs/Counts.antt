@@ -4,14 +4,14 @@ use mathlib.Core.Path.{_≡_, refl}
 use mathlib.Core.List.{List, [], _∷_, _++_}
 use mathlib.Core.Logic.{⊎-elim, inl, inr}
 use native.Mathlib.Omega.{arith}
-use lib.IntN.{ℤ}
 use lib.ListN.{length}
 use Rattle.rules.specs.Numbers.{refused-duration, refused-room}
 use Rattle.rules.specs.Image.{profile}
+use Rattle.rules.specs.Limits.{LentTables}
 use Rattle.rules.specs.Refusals.{Ground, Tight, _when_, First, image-checks}
 use Rattle.rules.specs.Dry.{LongEntry}
 use Rattle.rules.proofs.Refusals.{Sound, accepted-parts}
-use Rattle.planner.specs.Planning.{rooms, Plans}
+use Rattle.planner.specs.Planning.{plan-rooms, Plans}
 use Rattle.planner.specs.declared.Planned.{Planned}
 use Rattle.dry_frame.specs.Frame.{rooms as frame-rooms, Frames}
 use Rattle.dry_frame.specs.declared.Framed.{Framed}
@@ -29,11 +29,9 @@ levels : {s : List ℕ} → Sound s → profile s .levels ≤ 8
 levels h = at-most (λ l. h .not-count (inl (inr (inr (inr l)))))
 
 -- what a plan that is not refused says of its counts
-pub counts : {s order : List ℕ} {limits : List ℤ} {worst : List ℕ} {bounds : List ℤ} {order′ : List ℕ} {limits′ : List ℤ} {worst′ : List ℕ}
-    {bounds′ : List ℤ} {r : Planned} → Plans s order limits worst bounds order′ limits′ worst′ bounds′ r
-    → r .refusal .number ≡ 0 → (r .n ≤ 64) × (r .levels ≤ 8)
-counts {s} {order} {limits} {worst} {bounds} {r = r} p e =
-    let room = refused-room when Tight (rooms (profile s .n) (profile s .levels) order limits worst bounds) ∷ [] in
+pub counts : {s : List ℕ} {before after : LentTables} {r : Planned} → Plans s before after r → r .refusal .number ≡ 0 → (r .n ≤ 64) × (r .levels ≤ 8)
+counts {s} {before} {r = r} p e =
+    let room = refused-room when Tight (plan-rooms (profile s .n) (profile s .levels) before) ∷ [] in
     let h = few s room (rw e at (p .number)) .0 in
     (omega (arith, rw e at (p .n), actions h), omega (arith, rw e at (p .levels), levels h))
 
