@@ -6,7 +6,8 @@ use mathlib.Core.List.{List, [], _∷_}
 use mathlib.Core.Logic.{_⊎_, inl, inr, ⊎-elim, _≢_}
 use native.Mathlib.Nat.{mul-le-mul}
 use native.Mathlib.Omega.{arith}
-use lib.ListN.{length, getD}
+use lib.IntN.{pos}
+use lib.ListN.{length, getD, replicate, length-replicate}
 use Rattle.rules.specs.Numbers.{most-actions, most-levels, longest-coast, refused-duration, refused-room}
 use Rattle.rules.specs.Words.{tab}
 use Rattle.rules.specs.Image.{profile}
@@ -124,22 +125,36 @@ module _ (s durations : List ℕ) (before : FrameLists) where
 
 -- ---- after planning
 
--- into tables that have room for the greatest profile, before and after
-pub record Planning (s : List ℕ) (after : LentTables) (p : Planned) : Type 0 where
-  pub before : LentTables
-  pub plans : Plans s before after p
-  pub sized₀ : Sized before
-  pub sized : Sized after
+-- the tables before it, all 0
+abbrev pub zeros : LentTables
+zeros = record {
+  order = replicate most-actions 0;
+  limits = replicate (most-actions * most-levels) (pos 0);
+  worst = replicate (most-actions * most-levels) 0;
+  bounds = replicate (most-actions * most-levels * longest-coast) (pos 0);
+}
+
+zeros-sized : Sized zeros
+zeros-sized = record {
+  order-room = omega (arith, length-replicate {A = ℕ} most-actions 0);
+  limits-room = omega (arith, length-replicate (most-actions * most-levels) (pos 0));
+  worst-room = omega (arith, length-replicate {A = ℕ} (most-actions * most-levels) 0);
+  bounds-room = omega (arith, length-replicate (most-actions * most-levels * longest-coast) (pos 0));
+}
+
+pub record Planning (s : List ℕ) (lent : LentTables) (p : Planned) : Type 0 where
+  pub plans : Plans s zeros lent p
+  pub sized : Sized lent
 
 module _ {s : List ℕ} {lent : LentTables} {p : Planned} (P : Planning s lent p) where
   abbrev plan-room : List Ground
-  plan-room = refused-room when Tight (plan-rooms (profile s .n) (profile s .levels) (P .before)) ∷ []
+  plan-room = refused-room when Tight (plan-rooms (profile s .n) (profile s .levels) zeros) ∷ []
 
   parts : (First (image-checks s) (p .refusal .number) × (p .refusal .number ≢ 0)) ⊎ (Sound s × First plan-room (p .refusal .number))
   parts = accepted-parts s plan-room (p .refusal .number) (P .plans .number)
 
   by-image : p .refusal .number ≢ 0 → First (image-checks s) (p .refusal .number)
-  by-image some = ⊎-elim (λ x. x .0) (λ x. absurd (⊎-elim (λ t. never-tight (x .0) (P .sized₀) (t .0)) (λ t. some (t .1)) (x .1))) parts
+  by-image some = ⊎-elim (λ x. x .0) (λ x. absurd (⊎-elim (λ t. never-tight (x .0) zeros-sized (t .0)) (λ t. some (t .1)) (x .1))) parts
 
   pub sound : p .refusal .number ≡ 0 → Sound s
   sound none = ⊎-elim (λ x. absurd (x .1 none)) (λ x. x .0) parts
@@ -182,7 +197,7 @@ module _ {s : List ℕ} {lent : LentTables} {p : Planned} (P : Planning s lent p
           (dries′ .levels ∙ sym (kept-old (q .refusal .number) _ (before .levels) some))
           (dries′ .decided ∙ sym (kept-old (q .refusal .number) _ (before .decided) some)) e
 
-      written : lent ≡ with-fronts (P .before) (planner-tables (profile s) (P .plans .o))
+      written : lent ≡ with-fronts zeros (planner-tables (profile s) (P .plans .o))
       written = rw none at (P .plans .tables-are)
 
       level : 0 < profile s .levels
@@ -195,10 +210,10 @@ module _ {s : List ℕ} {lent : LentTables} {p : Planned} (P : Planning s lent p
         cycled : Cycled s durations (P .plans .o) before after answer
         cycled =
             let o = P .plans .o in
-            let ends = same-end s durations o (P .before) written level in
+            let ends = same-end s durations o zeros written level in
             record {
-              levels = rw dry-none at (dries′ .levels) ∙ ap (splice (before .levels) 0) (same-levels s durations o (P .before) written level);
-              decided = rw dry-none at (dries′ .decided) ∙ ap (splice (before .decided) 0) (same-marks s durations o (P .before) written level);
+              levels = rw dry-none at (dries′ .levels) ∙ ap (splice (before .levels) 0) (same-levels s durations o zeros written level);
+              decided = rw dry-none at (dries′ .decided) ∙ ap (splice (before .decided) 0) (same-marks s durations o zeros written level);
               decisions = rw dry-none at (dries′ .decisions) ∙ ap (λ (r : Run). r .decisions) ends;
               end = rw dry-none at (dries′ .end) ∙ ap (λ (r : Run). r .clock) ends;
               overrun = rw dry-none at (dries′ .overrun) ∙ ap (λ (r : Run). r .overrun) ends;
@@ -207,7 +222,7 @@ module _ {s : List ℕ} {lent : LentTables} {p : Planned} (P : Planning s lent p
 
         pub framed : after .order ≡ splice (before .order) 0 (tab (λ k. getD (lent .order) k 0) (p .n)) → Frames s durations before after answer
         framed e =
-            let listed = reads-order (profile s) (P .plans .o) (P .before) written in
+            let listed = reads-order (profile s) (P .plans .o) zeros written in
             record {
               number = rw none (then-own none (rw dry-none at own-is));
               n = kept-new _ _ _ none (n-is none);

@@ -20,9 +20,7 @@ planning : (c : tie.After-plan) → Planning (start c .args .image .now) (lent c
 planning c =
     let lengths = c .plan .kept .1 in
     record {
-      before = _;
       plans = c .plan .ensures;
-      sized₀ = record { order-room = search needs; limits-room = search needs; worst-room = search needs; bounds-room = search needs };
       sized = record { order-room = search needs; limits-room = search needs; worst-room = search needs; bounds-room = search needs };
     }
 
