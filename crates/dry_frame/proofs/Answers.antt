@@ -28,7 +28,7 @@ use Rattle.planner.proofs.Reading.{reads-order}
 use Rattle.run.specs.declared.dry.Dried.{Dried}
 use Rattle.run.specs.Dry.{DryLists, dry-rooms, Dries}
 use Rattle.dry_frame.specs.declared.Framed.{Framed}
-use Rattle.dry_frame.specs.Frame.{FrameLists, frame-rooms, run-at, Frames}
+use Rattle.dry_frame.specs.Frame.{FrameLists, frame-rooms, Frames}
 use Rattle.dry_frame.proofs.Cycle.{unordered, Cycled, same-levels, same-marks, same-end, count-is, promise}
 
 -- ---- room for every profile
