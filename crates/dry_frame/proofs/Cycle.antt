@@ -1,15 +1,15 @@
 -- The cycle that the dry run makes of the planner's tables, as they lie in memory, is the cycle of the rules, and keeps demand 3. Assumes nothing.
-use Prim.Native.Nat.{ℕ, suc, _+_, _-_, _≤_, _<_}
+use Prim.Native.Nat.{ℕ, suc, _+_, _≤_, _<_}
 use mathlib.Core.Path.{_≡_, refl, ap, sym, subst, _∙_}
-use mathlib.Core.List.{List}
+use mathlib.Core.List.{List, []}
 use native.Mathlib.Nat.{le-refl}
 use native.Mathlib.Omega.{arith}
-use lib.IntN.{ℤ, pos}
 use lib.ListN.{getD}
-use Rattle.rules.specs.Words.{sum, tab, rows, one-if}
+use Rattle.rules.specs.Numbers.{longest-coast}
+use Rattle.rules.specs.Words.{sum, tab, one-if}
 use Rattle.rules.specs.Image.{profile}
 use Rattle.rules.specs.Order.{Order, TheOrder}
-use Rattle.rules.specs.Limits.{Tables, tables, limit, coast-bound, coast-bounds, LentTables, planned}
+use Rattle.rules.specs.Limits.{tables, LentTables, planner-tables, planned}
 use Rattle.rules.specs.Refusals.{Accepted}
 use Rattle.rules.specs.Run.{Run, decides, lent}
 use Rattle.rules.specs.Dry.{before, cell, dry-levels, dry-marks, dry-end}
@@ -18,105 +18,86 @@ use Rattle.rules.proofs.Sums.{sum-same}
 use Rattle.rules.proofs.Refusals.{accepted-sound}
 use Rattle.rules.proofs.Accepted.{policy, accepted-demand}
 use Rattle.rules.proofs.Demand.Record.{decisions-are}
-use Rattle.rules.proofs.Demand.Alike.{Alike, before-alike}
+use Rattle.rules.proofs.Demand.Alike.{before-alike}
 use Rattle.rules.proofs.Demand.Along.{kept-alike}
 use Rattle.fields.specs.Fields.{splice}
 use Rattle.fields.proofs.Tabs.{tab-ext}
-use Rattle.fields.proofs.Written.{tab-written, rows-written, blocks-written}
+use Rattle.fields.proofs.Written.{tab-written}
+use Rattle.planner.specs.Planning.{with-fronts}
+use Rattle.planner.proofs.Reading.{reads-plan, reads-worst}
 use Rattle.dry_frame.specs.declared.Framed.{Framed}
-use Rattle.dry_frame.specs.Frame.{run-at, got, took, Promised}
+use Rattle.dry_frame.specs.Frame.{FrameLists, run-at, level-got, time-taken, Promised}
 
--- The planner's tables of S, written to the fronts of some lists.
-pub record Held (S : Tables) (T : LentTables) : Type 0 where
-  pub limits₀ : List ℤ
-  pub worst₀ : List ℕ
-  pub bounds₀ : List ℤ
-  pub limits-are : T .limits ≡ splice limits₀ 0 (rows (limit S) (S .n) (S .levels))
-  pub worst-is : T .worst ≡ splice worst₀ 0 (rows (S .worst) (S .n) (S .levels))
-  pub bounds-are : T .bounds ≡ splice bounds₀ 0 (coast-bounds S (S .n) (S .levels))
+-- ---- the two cycles
 
-module _ {S : Tables} {T : LentTables} (h : Held S T) (some : 0 < S .levels) where
-  read-alike : Alike 16 (lent (S .n) (S .levels) T) (planned S)
+-- the tables as the dry run takes them, without the order
+abbrev pub unordered : LentTables → LentTables
+unordered T = record { order = []; limits = T .limits; worst = T .worst; bounds = T .bounds }
+
+module _ (s durations : List ℕ) (o : Order (profile s .n)) (old : LentTables) {T : LentTables}
+    (e : T ≡ with-fronts old (planner-tables (profile s) o)) (some : 0 < profile s .levels) where
+  -- their records
+  pub same-run : (i : ℕ) → i ≤ profile s .n → let L = profile s .levels in
+      before longest-coast (lent (profile s .n) L T) (cell (T .worst) L) (cell durations L) 0 i ≡ run-at s durations o i
   unfolding lent
-  read-alike = record {
-    n = refl;
-    levels = refl;
-    limit = λ i q l m. rows-written (limit S) (h .limits₀) (S .n) (S .levels) (pos 0) (h .limits-are) i q l m;
-    bound = λ i q r m a b c.
-        let one-less : suc (r - 1) ≡ r = omega arith in
-        blocks-written (λ i q x. coast-bound S (limit S) i q (suc x)) (h .bounds₀) (S .n) (S .levels) 16 (pos 0) (h .bounds-are) i q (r - 1)
-        (omega arith) m (omega arith)
-        ∙ ap (coast-bound S (limit S) i q) one-less;
-  }
-
-  -- the records of the two cycles
-  pub same-run : (durations : List ℕ) (i : ℕ) → i ≤ S .n
-      → before 16 (lent (S .n) (S .levels) T) (cell (T .worst) (S .levels)) (cell durations (S .levels)) 0 i
-      ≡ before 16 (planned S) (S .worst) (cell durations (S .levels)) 0 i
-  unfolding lent
-  same-run durations =
-      before-alike read-alike some (cell (T .worst) (S .levels)) (S .worst) (cell durations (S .levels))
-      (λ i q l m. rows-written (S .worst) (h .worst₀) (S .n) (S .levels) 0 (h .worst-is) i q l m) 0
+  same-run = before-alike (reads-plan (profile s) o old e) some _ _ (cell durations (profile s .levels)) (reads-worst (profile s) o old e) 0
 
   -- what the dry run writes and answers
-  pub same-levels : (durations : List ℕ)
-      → dry-levels (S .n) (S .levels) T durations
-      ≡ tab (λ j. before 16 (planned S) (S .worst) (cell durations (S .levels)) 0 (suc j) .level) (S .n)
-  unfolding dry-levels
-  same-levels durations = tab-ext _ _ (S .n) (λ j l. ap (λ (r : Run). r .level) (same-run durations (suc j) l))
+  pub same-levels : dry-levels (profile s .n) (profile s .levels) (unordered T) durations
+      ≡ tab (λ j. run-at s durations o (suc j) .level) (profile s .n)
+  unfolding dry-levels lent
+  same-levels = tab-ext _ _ (profile s .n) (λ j l. ap (λ (r : Run). r .level) (same-run (suc j) l))
 
-  pub same-marks : (durations : List ℕ)
-      → dry-marks (S .n) (S .levels) T durations
-      ≡ tab (λ j. one-if (decides (before 16 (planned S) (S .worst) (cell durations (S .levels)) 0 j))) (S .n)
-  unfolding dry-marks
-  same-marks durations = tab-ext _ _ (S .n) (λ j l. ap (λ (r : Run). one-if (decides r)) (same-run durations j (omega arith)))
+  pub same-marks : dry-marks (profile s .n) (profile s .levels) (unordered T) durations
+      ≡ tab (λ j. one-if (decides (run-at s durations o j))) (profile s .n)
+  unfolding dry-marks lent
+  same-marks = tab-ext _ _ (profile s .n) (λ j l. ap (λ (r : Run). one-if (decides r)) (same-run j (omega arith)))
 
-  pub same-end : (durations : List ℕ)
-      → dry-end (S .n) (S .levels) T durations
-      ≡ before 16 (planned S) (S .worst) (cell durations (S .levels)) 0 (S .n)
-  unfolding dry-end
-  same-end durations = same-run durations (S .n) (le-refl _)
+  pub same-end : dry-end (profile s .n) (profile s .levels) (unordered T) durations ≡ run-at s durations o (profile s .n)
+  unfolding dry-end lent
+  same-end = same-run (profile s .n) (le-refl _)
 
--- ---- the two slices after the cycle
+-- ---- the lists and the answer after the cycle
 
--- what the cycle wrote
-pub record After (s durations : List ℕ) (o : Order (profile s .n)) (given₀ given marks₀ marks : List ℕ) : Type 0 where
-  pub levels : given ≡ splice given₀ 0 (tab (λ j. run-at s durations o (suc j) .level) (profile s .n))
-  pub decided : marks ≡ splice marks₀ 0 (tab (λ j. one-if (decides (run-at s durations o j))) (profile s .n))
+-- what the cycle wrote, and what is answered of its last record
+pub record Cycled (s durations : List ℕ) (o : Order (profile s .n)) (before after : FrameLists) (r : Framed) : Type 0 where
+  pub levels : after .levels ≡ splice (before .levels) 0 (tab (λ j. run-at s durations o (suc j) .level) (profile s .n))
+  pub decided : after .decided ≡ splice (before .decided) 0 (tab (λ j. one-if (decides (run-at s durations o j))) (profile s .n))
+  pub decisions : r .decisions ≡ run-at s durations o (profile s .n) .decisions
+  pub end : r .end ≡ run-at s durations o (profile s .n) .clock
+  pub overrun : r .overrun ≡ run-at s durations o (profile s .n) .overrun
+  pub late : r .late ≡ run-at s durations o (profile s .n) .late
 
-module _ {s durations : List ℕ} {o : Order (profile s .n)} {given₀ given marks₀ marks : List ℕ} (w : After s durations o given₀ given marks₀ marks) where
-  got-is : (j : ℕ) → j < profile s .n → run-at s durations o (suc j) .level ≡ got given j
-  got-is j l = sym (tab-written (λ j. run-at s durations o (suc j) .level) given₀ (profile s .n) 0 (w .levels) j l)
+module _ {s durations : List ℕ} {o : Order (profile s .n)} {before after : FrameLists} {r : Framed} (c : Cycled s durations o before after r) where
+  got-is : (j : ℕ) → j < profile s .n → run-at s durations o (suc j) .level ≡ level-got after j
+  got-is j l = sym (tab-written (λ j. run-at s durations o (suc j) .level) (before .levels) (profile s .n) 0 (c .levels) j l)
 
   took-is : (j : ℕ) → j < profile s .n
-      → cell durations (profile s .levels) j (run-at s durations o (suc j) .level) ≡ took durations (profile s .levels) given j
+      → cell durations (profile s .levels) j (run-at s durations o (suc j) .level) ≡ time-taken durations (profile s .levels) after j
   took-is j l = ap (cell durations (profile s .levels) j) (got-is j l)
 
-  pub count-is : run-at s durations o (profile s .n) .decisions ≡ sum (profile s .n) (λ j. getD marks j 0)
+  pub count-is : r .decisions ≡ sum (profile s .n) (λ j. getD (after .decided) j 0)
   count-is =
-      decisions-are 16 (planned (tables (profile s) o)) (tables (profile s) o .worst) (cell durations (profile s .levels)) 0 (profile s .n)
-      ∙ sum-same (profile s .n) _ (λ j. getD marks j 0)
-      (λ j l. sym (tab-written (λ j. one-if (decides (run-at s durations o j))) marks₀ (profile s .n) 0 (w .decided) j l))
+      let S = tables (profile s) o in
+      let mark : (ℕ → ℕ) = λ j. one-if (decides (run-at s durations o j)) in
+      c .decisions
+      ∙ decisions-are longest-coast (planned S) (S .worst) (cell durations (profile s .levels)) 0 (profile s .n)
+      ∙ sum-same (profile s .n) _ _ (λ j l. sym (tab-written mark (before .decided) (profile s .n) 0 (c .decided) j l))
 
   -- Demand 3 of an accepted image in its order.
-  pub promise : TheOrder (profile s) o → Accepted s → {r : Framed}
-      → r .decisions ≡ run-at s durations o (profile s .n) .decisions
-      → r .end ≡ run-at s durations o (profile s .n) .clock
-      → r .overrun ≡ run-at s durations o (profile s .n) .overrun
-      → r .late ≡ run-at s durations o (profile s .n) .late
-      → ((j : ℕ) → j < profile s .n → took durations (profile s .levels) given j ≤ tables (profile s) o .worst j (got given j))
-      → Promised (tables (profile s) o) (took durations (profile s .levels) given) (got given) r
-  promise x a {r} counts ends over late within =
+  pub promise : TheOrder (profile s) o → Accepted s
+      → ((j : ℕ) → j < profile s .n → time-taken durations (profile s .levels) after j ≤ tables (profile s) o .worst j (level-got after j))
+      → Promised (tables (profile s) o) (time-taken durations (profile s .levels) after) (level-got after) r
+  promise x a within =
       let sound = accepted-sound s .0 a in
       let P = policy x (sound .not-count) (sound .not-table) in
-      let S = tables (profile s) o in
-      let three = accepted-demand s a x (cell durations (profile s .levels))
-      (λ j l. rw (got-is j l) (within j l)) in
+      let took = time-taken durations (profile s .levels) after in
+      let three = accepted-demand s a x (cell durations (profile s .levels)) (λ j l. rw (got-is j l) (within j l)) in
       record {
         policy = P;
         mixed = refl;
-        kept = subst (Kept 16 P 0 (took durations (profile s .levels) given) (got given)) (sym counts) (kept-alike _ _ took-is got-is (three .kept));
-        ends = ends ∙ three .ends ∙ ap (λ (x : ℕ). 0 + x) (sum-same (profile s .n) _ _ took-is);
-        no-overrun = over ∙ three .no-overrun;
-        no-late = late ∙ three .no-late;
+        kept = subst (Kept longest-coast P 0 took (level-got after)) (sym (c .decisions)) (kept-alike _ _ took-is got-is (three .kept));
+        ends = c .end ∙ three .ends ∙ ap (λ (x : ℕ). 0 + x) (sum-same (profile s .n) _ _ took-is);
+        no-overrun = c .overrun ∙ three .no-overrun;
+        no-late = c .late ∙ three .no-late;
       }

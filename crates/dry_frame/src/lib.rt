@@ -38,9 +38,11 @@ pub fn dry_frame(
     given: &mut [u8],
     marks: &mut [u8],
 ) -> Framed
-    ensures { λ r. ⌜ Frames (now (image .entry)) (now (durations .entry)) (now (order .entry)) (now (given .entry)) (now (marks .entry))
-        (now (order .exit)) (now (given .exit)) (now (marks .exit)) r ⌝ }
+    ensures { λ r. ⌜ Frames (now (image .entry)) (now (durations .entry))
+        (record { order = now (order .entry); levels = now (given .entry); decided = now (marks .entry) })
+        (record { order = now (order .exit); levels = now (given .exit); decided = now (marks .exit) }) r ⌝ }
 {
+    // room for the greatest profile: 64 actions at 8 levels, coasts of 16
     let mut actions = [0u8; 64];
     let mut limits = [0i32; 512];
     let mut worst = [0u32; 512];

@@ -160,8 +160,9 @@ pub extern "C" fn nyokazerubi_dry_frame(
     given: &mut [u8],
     marks: &mut [u8],
 ) -> Framed
-    ensures { λ r. ⌜ Frames (now (image .entry)) (now (durations .entry)) (now (order .entry)) (now (given .entry)) (now (marks .entry))
-        (now (order .exit)) (now (given .exit)) (now (marks .exit)) r ⌝ }
+    ensures { λ r. ⌜ Frames (now (image .entry)) (now (durations .entry))
+        (record { order = now (order .entry); levels = now (given .entry); decided = now (marks .entry) })
+        (record { order = now (order .exit); levels = now (given .exit); decided = now (marks .exit) }) r ⌝ }
 {
     dry_frame::dry_frame(image, durations, order, given, marks)
 }
