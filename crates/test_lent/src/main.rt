@@ -6,7 +6,7 @@ use run::Run;
 mod through;
 
 fn main() {
-    let image = samples::three();
+    let image = test_kit::samples::three();
     let mut order = [0u8; 3];
     let mut limits = [0i32; 6];
     let mut worst = [0u32; 6];

@@ -1,213 +1,124 @@
-// Runs the calls on a profile: Three written and read back, and each refusal with a neighbour that is accepted.
-ghost use Prim.Native.Nat.{_≤_, _<_};
+// Runs the calls on a profile, a case to a line of cases.txt: each refusal with a neighbour that is accepted, Three read and written back, and
+// writings at each edge. A case is told again with what came of it.
+use test_kit::count;
+use test_kit::part;
+use test_kit::say;
+use test_kit::say_number;
 
 fn main() {
-    write_three();
-    read_three();
-    front(1, 5);
-    byte(2, 0, 0x20, 0x10);
-    byte(3, 5, 0, 8);
-    front(4, 23);
-    byte(5, 5, 9, 8);
-    byte(6, 17, 8, 4);
-    byte(7, 20, 1, 0);
-    byte(8, 13, 1, 0);
-    byte(9, 23, 2, 1);
-    say(15, lookup_one(1), lookup_one(0));
-    let mut tight = [0u32; 5];
-    let mut enough = [0u32; 6];
-    say(17, read_into(&mut tight), read_into(&mut enough));
-    writes();
+    let mut text = io::large_buffer();
+    let n = files::read_file(b"cases.txt", &mut text);
+    tell_each(&text[..n]);
 }
 
-// A line on a refusal: the number wanted, what an image got, and what its neighbour got.
-fn say(number: u32, refused: u32, accepted: u32) {
-    if refused != number {
-        say::numbers(b"_ not refused\n", &[number]);
-        return;
+fn tell_each(text: &[u8]) {
+    let mut at = 0;
+    while at < text.len() {
+        let end = lines::find(text, at, b'\n');
+        tell(&text[at..end]);
+        at = end + 1;
     }
-    if accepted != 0 {
-        say::numbers(b"_ refused, neighbour refused too\n", &[number]);
-        return;
+}
+
+// A case begins with the letter of its call; what begins with none is a heading.
+fn tell(line: &[u8]) {
+    let row = test_kit::numbers(line);
+    io::write_all(1, line);
+    match test_kit::first(line) {
+        b'c' => tell_check(row),
+        b'l' => tell_lookup(row),
+        b'r' => tell_read(row),
+        b'w' => tell_write(row),
+        _ => {}
     }
-    say::numbers(b"_ refused, neighbour accepted\n", &[number]);
+    io::write_all(1, b"\n");
 }
 
 // ---- One
 
-// The check of its first bytes, and of all 24.
-fn front(number: u32, bytes: usize)
-    requires { ⌜ bytes ≤ 24 ⌝ }
-{
-    let image = samples::one();
-    let refused = profile::check(&image[0..bytes]).number;
-    say(number, refused, profile::check(&image).number);
+// How much of it there is, and a byte that is changed.
+fn tell_check(row: [u32; 24]) {
+    let image = one_but(row[1], row[2]);
+    let bytes = part(row[0], 24);
+    say_number(b": ", profile::check(&image[0..bytes]).number);
 }
 
-// The check with one byte so that it is refused, and with another.
-fn byte(number: u32, at: usize, refused: u8, accepted: u8)
-    requires { ⌜ at < 24 ⌝ }
-{
-    say(number, check_with(at, refused), check_with(at, accepted));
-}
-
-fn check_with(at: usize, byte: u8) -> u32
-    requires { ⌜ at < 24 ⌝ }
-{
-    let mut image = samples::one();
-    image[at] = byte;
-    profile::check(&image).number
-}
-
-// The refusal of a lookup; 99 where the part's length is not that of a record, or of nothing with a refusal.
-fn lookup_one(action: usize) -> u32 {
-    let image = samples::one();
-    let number = profile::lookup_refusal(&image, action).number;
-    let bytes = profile::lookup(&image, action).len();
-    if number == 0 {
-        return if bytes == 18 { 0 } else { 99 };
+fn one_but(at: u32, byte: u32) -> [u8; 24] {
+    let mut image = test_kit::samples::one();
+    if at < 24 {
+        if byte < 256 {
+            image[at as usize] = byte as u8;
+        }
     }
-    if bytes == 0 { number } else { 99 }
+    image
+}
+
+// The number of a lookup, and how many bytes the action's own part of the image has.
+fn tell_lookup(row: [u32; 24]) {
+    let image = test_kit::samples::one();
+    let action = count(row[0]);
+    say_number(b": ", profile::lookup_refusal(&image, action).number);
+    test_kit::say_count(b", bytes ", profile::lookup(&image, action).len());
 }
 
 // ---- Three
 
-fn write_three() {
-    let masks = [0u64, 1, 2];
-    let deadlines = [0u32; 3];
-    let averages = [2u32, 6, 2, 6, 2, 6];
-    let worst = [4u32, 8, 4, 8, 4, 8];
-    let mut image = [0u8; 78];
-    let written = profile::write(3, 2, 20, &masks, &deadlines, &averages, &worst, &mut image);
-    if written.refusal.number == 0 {
-        if check::same(&image, &samples::three()) {
-            say::count(b"three written ", written.bytes);
-            io::write_all(1, b"\n");
-        }
-    }
-}
-
-fn read_three() {
-    let image = samples::three();
+// The room for masks, deadlines, averages and worst times: 9 is untouched.
+fn tell_read(row: [u32; 24]) {
     let mut masks = [9u64; 3];
     let mut deadlines = [9u32; 3];
     let mut averages = [9u32; 6];
     let mut worst = [9u32; 6];
-    let answer = profile::read(
+    let a = part(row[0], 3);
+    let b = part(row[1], 3);
+    let c = part(row[2], 6);
+    let d = part(row[3], 6);
+    let image = test_kit::samples::three();
+    let read = profile::read(
         &image,
-        &mut masks,
-        &mut deadlines,
-        &mut averages,
-        &mut worst,
+        &mut masks[0..a],
+        &mut deadlines[0..b],
+        &mut averages[0..c],
+        &mut worst[0..d],
     );
-    if answer.refusal.number == 0 && answer.n == 3 && answer.levels == 2 && answer.cycle == 20 {
-        if chained(&masks)
-            && unset(&deadlines)
-            && rows_of(&averages, 2, 6)
-            && rows_of(&worst, 4, 8)
-        {
-            io::write_all(1, b"three read back\n");
-        }
-    }
-}
-
-// The refusal of reading it, with this much room for the worst times.
-fn read_into(worst: &mut [u32]) -> u32 {
-    let image = samples::three();
-    let mut masks = [0u64; 3];
-    let mut deadlines = [0u32; 3];
-    let mut averages = [0u32; 6];
-    profile::read(&image, &mut masks, &mut deadlines, &mut averages, worst)
-        .refusal
-        .number
-}
-
-fn chained(masks: &[u64; 3]) -> bool {
-    (masks[0] == 0) & (masks[1] == 1) & (masks[2] == 2)
-}
-
-fn unset(deadlines: &[u32; 3]) -> bool {
-    (deadlines[0] == 0) & (deadlines[1] == 0) & (deadlines[2] == 0)
-}
-
-fn rows_of(times: &[u32; 6], low: u32, high: u32) -> bool {
-    (times[0] == low)
-        & (times[1] == high)
-        & (times[2] == low)
-        & (times[3] == high)
-        & (times[4] == low)
-        & (times[5] == high)
-}
-
-// ---- writing one action at one level
-
-const MOST: u32 = 16_777_215;
-
-// The first is at every edge of what is accepted, and each other is one step from it; 64 actions have less room than they need, 65 are no count.
-fn writes() {
-    write_one(1, 1, MOST, 0, MOST, MOST, MOST, 24);
-    write_one(1, 1, MOST, 0, MOST, MOST, MOST, 25);
-    write_one(0, 1, MOST, 0, MOST, MOST, MOST, 24);
-    write_one(64, 1, MOST, 0, MOST, MOST, MOST, 24);
-    write_one(65, 1, MOST, 0, MOST, MOST, MOST, 24);
-    write_one(1, 0, MOST, 0, MOST, MOST, MOST, 24);
-    write_one(1, 8, MOST, 0, MOST, MOST, MOST, 24);
-    write_one(1, 9, MOST, 0, MOST, MOST, MOST, 24);
-    write_one(1, 1, 0, 0, MOST, MOST, MOST, 24);
-    write_one(1, 1, 1_073_741_823, 0, MOST, MOST, MOST, 24);
-    write_one(1, 1, 1_073_741_824, 0, MOST, MOST, MOST, 24);
-    write_one(1, 1, MOST, 0, MOST, MOST, MOST, 23);
-    write_one(1, 1, MOST, 2, MOST, MOST, MOST, 24);
-    write_one(1, 1, MOST, 0, MOST + 1, MOST, MOST, 24);
-    write_one(1, 1, MOST, 0, MOST, MOST, MOST + 1, 24);
-    write_one(1, 1, MOST, 0, MOST, MOST, MOST - 1, 24);
-    write_one(1, 1, MOST, 1, MOST, MOST, MOST, 24);
-    write_one(1, 1, MOST, 0, MOST - 1, MOST, MOST, 24);
-}
-
-// A line on a writing: what was handed over, and what came of it.
-fn write_one(
-    n: u32,
-    levels: u32,
-    cycle: u32,
-    mask: u32,
-    deadline: u32,
-    average: u32,
-    worst: u32,
-    room: u32,
-)
-    requires { ⌜ room ≤ 25 ⌝ }
-{
-    say::numbers(
-        b"n _, levels _, cycle _, mask _, deadline _, average _, worst _, room _: ",
-        &[n, levels, cycle, mask, deadline, average, worst, room],
-    );
-    let masks = [mask as u64];
-    say_written(
-        n as usize,
-        levels as usize,
-        cycle,
+    say_number(b": ", read.refusal.number);
+    say_masks(masks);
+    say_tables(&deadlines, &averages, &worst);
+    say_back(
+        read.n,
+        read.levels,
+        read.cycle,
         &masks,
-        &[deadline],
-        &[average],
-        &[worst],
-        room as usize,
+        &deadlines,
+        &averages,
+        &worst,
     );
 }
 
-fn say_written(
+fn say_masks(masks: [u64; 3]) {
+    io::write_all(1, b", masks ");
+    io::print_hex(1, masks[0], 1);
+    io::print_hex(1, masks[1], 1);
+    io::print_hex(1, masks[2], 1);
+}
+
+fn say_tables(deadlines: &[u32; 3], averages: &[u32; 6], worst: &[u32; 6]) {
+    say(b", deadlines _ _ _", deadlines);
+    say(b", averages _ _ _ _ _ _", averages);
+    say(b", worst _ _ _ _ _ _", worst);
+}
+
+// What comes of writing it back.
+fn say_back(
     n: usize,
     levels: usize,
     cycle: u32,
-    masks: &[u64],
-    deadlines: &[u32],
-    averages: &[u32],
-    worst: &[u32],
-    room: usize,
-)
-    requires { ⌜ room ≤ 25 ⌝ }
-{
-    let mut image = [0xa5u8; 25];
+    masks: &[u64; 3],
+    deadlines: &[u32; 3],
+    averages: &[u32; 6],
+    worst: &[u32; 6],
+) {
+    let mut image = [0u8; 78];
     let written = profile::write(
         n,
         levels,
@@ -216,17 +127,49 @@ fn say_written(
         deadlines,
         averages,
         worst,
-        &mut image[0..room],
+        &mut image,
     );
-    say_image(written.refusal.number, &image);
+    say_number(b", back ", written.refusal.number);
+    let same = check::same(&image, &test_kit::samples::three());
+    test_kit::say_whether(same, b", the same", b", another");
 }
 
-// A refusal leaves the image untouched, and one that is accepted keeps its tail.
-fn say_image(number: u32, image: &[u8; 25]) {
-    let kept = if number == 0 {
-        image[24] == 0xa5
-    } else {
-        check::same(image, &[0xa5; 25])
-    };
-    say::numbers(b"refusal _, kept _\n", &[number, kept as u32]);
+// ---- writing one action at one level
+
+// n, levels, cycle, mask, deadline, average, worst and the room in a slice of 25 bytes. A refusal leaves all of it untouched, and a writing its tail.
+fn tell_write(row: [u32; 24]) {
+    let mut image = [0xa5u8; 25];
+    let room = part(row[7], 25);
+    let masks = [row[3] as u64];
+    let written = profile::write(
+        count(row[0]),
+        count(row[1]),
+        row[2],
+        &masks,
+        &[row[4]],
+        &[row[5]],
+        &[row[6]],
+        &mut image[0..room],
+    );
+    say_number(b": ", written.refusal.number);
+    say_written(image, written.bytes);
+}
+
+fn say_written(image: [u8; 25], bytes: usize) {
+    test_kit::say_count(b", bytes ", bytes);
+    if bytes <= 25 {
+        say_tail(&image[bytes..25]);
+    }
+}
+
+fn say_tail(tail: &[u8]) {
+    let blank = [0xa5u8; 25];
+    let n = tail.len();
+    if n <= 25 {
+        test_kit::say_whether(
+            check::same(tail, &blank[0..n]),
+            b", tail kept",
+            b", tail CHANGED",
+        );
+    }
 }
