@@ -2,14 +2,14 @@
 use Prim.Native.Nat.{_+_, _≤_, _-_}
 use lib.ListN.{length}
 use borrow.Author.Needs.{needs}
-use Rattle.test_cycle.proofs.tell_each.Statement.{statement}
-use Rattle.test_cycle.proofs.tell_each.Tie as tie
+use Rattle.test_edges.proofs.tell_each.Statement.{statement}
+use Rattle.test_edges.proofs.tell_each.Tie as tie
 
 abbrev Inv-loop : tie.InvT-loop
-Inv-loop text at₀ at = at ≤ length text + 1
+Inv-loop text file at₀ at = at ≤ length text + 1
 
 abbrev μ-loop : tie.MeasureT-loop
-μ-loop text at₀ at = length text + 1 - at
+μ-loop text file at₀ at = length text + 1 - at
 
 pub tell-each-spec : {M : Type 1} → statement M
 tell-each-spec =

@@ -1,27 +1,13 @@
-// Runs the calls on a profile, a case to a line of cases.txt: each refusal with a neighbour that is accepted, Three read and written back, and
-// writings at each edge. A case is told again with what came of it.
+// The calls on a profile at their edges: each refusal with a neighbour that is accepted, Three read and written back, and writings one step apart.
+// A case is told again with what came of it.
+use profile::Unpacked;
 use test_kit::count;
 use test_kit::part;
 use test_kit::say;
 use test_kit::say_number;
 
-fn main() {
-    let mut text = io::large_buffer();
-    let n = files::read_file(b"cases.txt", &mut text);
-    tell_each(&text[..n]);
-}
-
-fn tell_each(text: &[u8]) {
-    let mut at = 0;
-    while at < text.len() {
-        let end = lines::find(text, at, b'\n');
-        tell(&text[at..end]);
-        at = end + 1;
-    }
-}
-
 // A case begins with the letter of its call; what begins with none is a heading.
-fn tell(line: &[u8]) {
+pub fn tell(line: &[u8]) {
     let row = test_kit::numbers(line);
     io::write_all(1, line);
     match test_kit::first(line) {
@@ -82,17 +68,15 @@ fn tell_read(row: [u32; 24]) {
         &mut worst[0..d],
     );
     say_number(b": ", read.refusal.number);
+    say_tables(masks, deadlines, averages, worst);
+    say_back(read, &masks, &deadlines, &averages, &worst);
+}
+
+fn say_tables(masks: [u64; 3], deadlines: [u32; 3], averages: [u32; 6], worst: [u32; 6]) {
     say_masks(masks);
-    say_tables(&deadlines, &averages, &worst);
-    say_back(
-        read.n,
-        read.levels,
-        read.cycle,
-        &masks,
-        &deadlines,
-        &averages,
-        &worst,
-    );
+    say(b", deadlines _ _ _", &deadlines);
+    say(b", averages _ _ _ _ _ _", &averages);
+    say(b", worst _ _ _ _ _ _", &worst);
 }
 
 fn say_masks(masks: [u64; 3]) {
@@ -102,17 +86,9 @@ fn say_masks(masks: [u64; 3]) {
     io::print_hex(1, masks[2], 1);
 }
 
-fn say_tables(deadlines: &[u32; 3], averages: &[u32; 6], worst: &[u32; 6]) {
-    say(b", deadlines _ _ _", deadlines);
-    say(b", averages _ _ _ _ _ _", averages);
-    say(b", worst _ _ _ _ _ _", worst);
-}
-
 // What comes of writing it back.
 fn say_back(
-    n: usize,
-    levels: usize,
-    cycle: u32,
+    read: Unpacked,
     masks: &[u64; 3],
     deadlines: &[u32; 3],
     averages: &[u32; 6],
@@ -120,9 +96,9 @@ fn say_back(
 ) {
     let mut image = [0u8; 78];
     let written = profile::write(
-        n,
-        levels,
-        cycle,
+        read.n,
+        read.levels,
+        read.cycle,
         masks,
         deadlines,
         averages,

@@ -1,27 +1,13 @@
-// Runs whole cycles, a case to a line of cases.txt, each asked and reported action by action and by the dry run: Three, a long coast with an
-// overrun in it, a late cycle, tables of others; then what the dry run refuses. A case is told again with what came of it.
+// Whole cycles, each asked and reported action by action and by the dry run: Three, a long coast with an overrun in it, a late cycle, tables of
+// others; then what the dry run refuses. A case is told again with what came of it.
 use run::Answer;
 use run::Run;
+use test_kit::count;
 use test_kit::part;
 use test_kit::say_number;
 
-fn main() {
-    let mut text = io::large_buffer();
-    let n = files::read_file(b"cases.txt", &mut text);
-    tell_each(&text[..n]);
-}
-
-fn tell_each(text: &[u8]) {
-    let mut at = 0;
-    while at < text.len() {
-        let end = lines::find(text, at, b'\n');
-        tell(&text[at..end]);
-        at = end + 1;
-    }
-}
-
 // What begins with none of these letters is a heading.
-fn tell(line: &[u8]) {
+pub fn tell(line: &[u8]) {
     io::write_all(1, line);
     match test_kit::first(line) {
         b't' => tell_planned(line),
@@ -39,18 +25,15 @@ fn tell_planned(line: &[u8]) {
     let name = lines::find(line, 0, b' ');
     let mut image = io::buffer();
     let bytes = files::read_file(&line[0..name], &mut image);
+    plan_and_tell(&image[..bytes], test_kit::numbers(line));
+}
+
+fn plan_and_tell(image: &[u8], row: [u32; 24]) {
     let mut order = [0u8; 64];
     let mut limits = [0i32; 512];
     let mut worst = [0u32; 512];
     let mut bounds = [0i32; 8192];
-    planner::plan(
-        &image[..bytes],
-        &mut order,
-        &mut limits,
-        &mut worst,
-        &mut bounds,
-    );
-    let row = test_kit::numbers(line);
+    planner::plan(image, &mut order, &mut limits, &mut worst, &mut bounds);
     tell_cycle(row[0], row[1], &order, &limits, &worst, &bounds, row);
 }
 
@@ -93,24 +76,29 @@ fn tell_cycle(
     );
 }
 
-// n, levels, how much there is of limits, worst times, bounds, durations, levels and marks, and the entry of the durations that is not 1 and what it is.
+// n, levels, how much there is of limits, worst times, bounds, durations, levels and marks, and the entry of the durations that is not 1 and
+// what it is.
 fn tell_dry(row: [u32; 24]) {
+    let durations = ones_but(row[8], row[9]);
+    let d = part(row[5], 7);
+    io::write_all(1, b":");
+    tell_dry_with(row, &durations[0..d]);
+}
+
+fn tell_dry_with(row: [u32; 24], durations: &[u32]) {
     let limits = [100i32; 7];
     let worst = [1u32; 7];
     let bounds = [100i32; 97];
-    let durations = ones_but(row[8], row[9]);
     let a = part(row[2], 7);
     let b = part(row[3], 7);
     let c = part(row[4], 97);
-    let d = part(row[5], 7);
-    io::write_all(1, b":");
     dried(
-        test_kit::count(row[0]),
-        test_kit::count(row[1]),
+        count(row[0]),
+        count(row[1]),
         &limits[0..a],
         &worst[0..b],
         &bounds[0..c],
-        &durations[0..d],
+        durations,
         row[6],
         row[7],
         4,
@@ -200,14 +188,7 @@ fn step(
     let answer = asked.answer;
     let next = asked.run;
     say_answer(answer, next.left);
-    let end = std::num::wrapping_add_u32(next.clock, duration);
-    let reported = next.report(end, worst);
-    let ended = reported.run;
-    if reported.refusal != 0 {
-        say_number(b" refused ", reported.refusal);
-    }
-    say_marks(next, ended);
-    ended
+    ended(next, worst, duration)
 }
 
 fn say_answer(answer: Answer, left: u32) {
@@ -220,19 +201,38 @@ fn say_answer(answer: Answer, left: u32) {
             late,
         } => {
             test_kit::say(b" _:_", &[action, level]);
-            test_kit::say_whether(decided, b"d", b"");
-            if decided && 0 < left {
-                say_number(b"+", left);
+            if decided {
+                say_decided(left);
             }
-            test_kit::say_whether(late, b"l", b"");
+            say_if(late, b"l");
         }
     }
 }
 
-// What the report of an end did to the record.
-fn say_marks(before: Run, after: Run) {
-    test_kit::say_whether(after.overrun && !before.overrun, b"!", b"");
-    test_kit::say_whether(after.left < before.left, b"x", b"");
+fn say_decided(left: u32) {
+    io::write_all(1, b"d");
+    if 0 < left {
+        say_number(b"+", left);
+    }
+}
+
+fn say_if(yes: bool, words: &[u8]) {
+    if yes {
+        io::write_all(1, words);
+    }
+}
+
+// The end reported, and what that did to the record.
+fn ended(run: Run, worst: &[u32], duration: u32) -> Run {
+    let end = std::num::wrapping_add_u32(run.clock, duration);
+    let reported = run.report(end, worst);
+    let next = reported.run;
+    if reported.refusal != 0 {
+        say_number(b" refused ", reported.refusal);
+    }
+    say_if(next.overrun & !run.overrun, b"!");
+    say_if(next.left < run.left, b"x");
+    next
 }
 
 fn say_end(decisions: u32, end: u32, overrun: bool, late: bool) {

@@ -1,25 +1,10 @@
-// Runs the speed reading, a case to a line of cases.txt: case 6 and the times around it, the room at 1, at 0 and below, and each refusal. A case is
-// told again with the reading: its bits are the exact value, and for a reader it is told in thousandths too.
+// The speed reading at its edges: case 6 and the times around it, the room at 1, at 0 and below, and each refusal. A case is told again with the
+// reading: its bits are the exact value, and for a reader it is told in thousandths too.
 use reading_text::put_reading;
 use speed_stretch::Reading;
 use test_kit::count;
 
-fn main() {
-    let mut text = io::large_buffer();
-    let n = files::read_file(b"cases.txt", &mut text);
-    tell_each(&text[..n]);
-}
-
-fn tell_each(text: &[u8]) {
-    let mut at = 0;
-    while at < text.len() {
-        let end = lines::find(text, at, b'\n');
-        tell(&text[at..end]);
-        at = end + 1;
-    }
-}
-
-fn tell(line: &[u8]) {
+pub fn tell(line: &[u8]) {
     io::write_all(1, line);
     if test_kit::first(line) != b'#' {
         tell_reading(line);

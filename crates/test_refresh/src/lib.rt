@@ -1,26 +1,10 @@
-// Runs the refresh, a case to a line of cases.txt: new and raised averages, each refusal of a trace, as many records as can be and one more, little
-// room, and damaged images. A case is told again with what came of it.
+// The refresh at its edges: new and raised averages, each refusal of a trace, as many records as can be and one more, little room, and damaged
+// images. A case is told again with what came of it.
 use test_kit::part;
-ghost use Prim.Native.Nat.{_+_, _*_, _≤_, _<_};
 ghost use mathlib.Core.Path.{_≡_};
 ghost use lib.ListN.{length};
 
-fn main() {
-    let mut text = io::large_buffer();
-    let n = files::read_file(b"cases.txt", &mut text);
-    tell_each(&text[..n]);
-}
-
-fn tell_each(text: &[u8]) {
-    let mut at = 0;
-    while at < text.len() {
-        let end = lines::find(text, at, b'\n');
-        tell(&text[at..end]);
-        at = end + 1;
-    }
-}
-
-fn tell(line: &[u8]) {
+pub fn tell(line: &[u8]) {
     io::write_all(1, line);
     if test_kit::first(line) != b'#' {
         tell_refresh(line);

@@ -1,5 +1,5 @@
-// Runs the calls on a run record, a case to a line of cases.txt: starts, records at each edge of each field, tables of odd lengths, calls out of
-// turn, and clocks. A case is told again with the numbers that the calls answer: 0 for none, 99 for a refusal that changed the record.
+// The calls on a run record at their edges: starts, records at each edge of each field, tables of odd lengths, calls out of turn, and clocks. A case
+// is told again with the numbers that the calls answer: 0 for none, 99 for a refusal that changed the record.
 use run::Answer;
 use run::Asked;
 use run::Reported;
@@ -8,23 +8,8 @@ use test_kit::part;
 use test_kit::say;
 use test_kit::say_number;
 
-fn main() {
-    let mut text = io::large_buffer();
-    let n = files::read_file(b"cases.txt", &mut text);
-    tell_each(&text[..n]);
-}
-
-fn tell_each(text: &[u8]) {
-    let mut at = 0;
-    while at < text.len() {
-        let end = lines::find(text, at, b'\n');
-        tell(&text[at..end]);
-        at = end + 1;
-    }
-}
-
 // A case begins with the letter of its call; what begins with none is a heading.
-fn tell(line: &[u8]) {
+pub fn tell(line: &[u8]) {
     let row = test_kit::numbers(line);
     io::write_all(1, line);
     match test_kit::first(line) {
