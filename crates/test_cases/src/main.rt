@@ -3,8 +3,8 @@
 // durations 6, 8, 4, then 0, 8, 8, then 8, 4, 8, each at both levels. Those from 071 on are written by the independent program of host/.
 // Last, what the programs print where a file is not there: it is empty, so an image is refused as short and durations are too few.
 use files::read_file;
-use files::sum_up;
-use files::tell;
+use test_kit::sum_up;
+use test_kit::tell;
 ghost use Rattle.io.specs.Counts.{Counts};
 
 const CASES: usize = 418;

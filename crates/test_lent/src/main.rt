@@ -9,7 +9,7 @@ ghost use Prim.Native.Nat.{_≤_};
 mod through;
 
 fn main() {
-    let image = samples::three();
+    let image = test_kit::samples::three();
     let mut order = [0u8; 3];
     let mut limits = [0i32; 6];
     let mut worst = [0u32; 6];

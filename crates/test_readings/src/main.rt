@@ -1,9 +1,9 @@
 // Outside readings: each line of readings.txt has an image in hexadecimal, the first position, the last, the level, the time, and the
 // reading as the programs print it.
 use files::read_file;
-use files::sum_up;
-use files::tell;
 use reading_text::put_reading;
+use test_kit::sum_up;
+use test_kit::tell;
 
 // Whether the reading that a line asks for is the one that it says.
 fn agrees(line: &[u8]) -> bool {
@@ -29,7 +29,7 @@ fn compare(text: &[u8]) {
         let end = lines::find(text, at, b'\n');
         line += 1;
         agreed += tell(agrees(&text[at..end]), b"line", line);
-        at = lines::next(text, at, b'\n');
+        at = end + 1;
     }
     sum_up(agreed, line, b" readings");
 }

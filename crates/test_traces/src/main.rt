@@ -1,7 +1,7 @@
 // Outside traces: tNN.profile is an image, tNN.trace a trace, and tNN.refreshed the new image, empty with a refusal.
 use files::read_file;
-use files::sum_up;
-use files::tell;
+use test_kit::sum_up;
+use test_kit::tell;
 ghost use Rattle.io.specs.Counts.{Counts};
 
 const TRACES: usize = 24;

@@ -1,14 +1,14 @@
 -- Assumes nothing.
-use borrow.Author.Needs.{needs}
 use Prim.Native.Nat.{_≤_, _-_}
+use borrow.Author.Needs.{needs}
 use Rattle.test_cycle.proofs.cycle.Statement.{statement}
 use Rattle.test_cycle.proofs.cycle.Tie as tie
 
 abbrev Inv-loop : tie.InvT-loop
-Inv-loop n levels order limits worst bounds durations run₀ k₀ run k = k ≤ n
+Inv-loop n levels order limits worst bounds row run₀ k₀ run k = k ≤ n
 
 abbrev μ-loop : tie.MeasureT-loop
-μ-loop n levels order limits worst bounds durations run₀ k₀ run k = n - k
+μ-loop n levels order limits worst bounds row run₀ k₀ run k = n - k
 
 pub cycle-spec : {M : Type 1} → statement M
 cycle-spec =
@@ -16,8 +16,6 @@ cycle-spec =
     (tie.spec
     Inv-loop
     μ-loop
-    (λ c κs. search needs)
-    (λ c. search needs)
     (λ c κs. search needs)
     (λ c. search needs)
     (λ c. search needs)

@@ -5,10 +5,10 @@ use Rattle.test_cycle.proofs.spread.Statement.{statement}
 use Rattle.test_cycle.proofs.spread.Tie as tie
 
 abbrev Inv-loop : tie.InvT-loop
-Inv-loop row each table₀ k₀ table k = k ≤ 512
+Inv-loop row levels table₀ k₀ table k = k ≤ 64
 
 abbrev μ-loop : tie.MeasureT-loop
-μ-loop row each table₀ k₀ table k = 512 - k
+μ-loop row levels table₀ k₀ table k = 64 - k
 
 pub spread-spec : {M : Type 1} → statement M
 spread-spec =
@@ -16,8 +16,6 @@ spread-spec =
     (tie.spec
     Inv-loop
     μ-loop
-    (λ c. search needs)
-    (λ c. search needs)
     (λ c. search needs)
     (λ c. search needs)
     (λ c. search needs)

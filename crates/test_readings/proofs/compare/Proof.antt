@@ -1,5 +1,5 @@
 -- No more lines are counted than bytes are passed, and no more agree than are counted. Assumes nothing.
-use Prim.Native.Nat.{_≤_, _<_, _-_}
+use Prim.Native.Nat.{_+_, _≤_, _-_}
 use lib.ListN.{length}
 use native.Mathlib.Omega.{arith}
 use borrow.Author.Needs.{needs}
@@ -7,19 +7,10 @@ use Rattle.test_readings.proofs.compare.Statement.{statement}
 use Rattle.test_readings.proofs.compare.Tie as tie
 
 abbrev Inv-loop : tie.InvT-loop
-Inv-loop text at₀ line₀ agreed₀ t6 t7 at line agreed = (at ≤ length text) × (line ≤ at) × (agreed ≤ line)
+Inv-loop text at₀ line₀ agreed₀ t6 t7 at line agreed = (at ≤ length text + 1) × (line ≤ at) × (agreed ≤ line)
 
 abbrev μ-loop : tie.MeasureT-loop
-μ-loop text at₀ line₀ agreed₀ t6 t7 at line agreed = length text - at
-
-further : (c : tie.After-next Inv-loop μ-loop) → c .before .before .before .before .before .before .before .loop .at < c .next .result
-further c = c .next .ensures .0 .1 (c .before .before .before .before .before .before .loop-test .taken)
-
-loop-less : tie.Need-loop-less Inv-loop μ-loop
-loop-less c = omega (arith, further c)
-
-loop-again : tie.Need-loop-again Inv-loop μ-loop
-loop-again c = let e = further c in (omega arith, omega arith, omega arith)
+μ-loop text at₀ line₀ agreed₀ t6 t7 at line agreed = length text + 1 - at
 
 pub compare-spec : {M : Type 1} → statement M
 compare-spec =
@@ -37,9 +28,9 @@ compare-spec =
     (λ c. search needs)
     (λ c κs. search needs)
     (λ c. omega arith)
-    (λ c κs. search needs)
-    loop-less
-    loop-again
+    (λ c. omega arith)
+    (λ c. omega arith)
+    (λ c. omega arith)
     (λ c. search needs)
     (λ c κs. search needs)
     (λ c. search needs))

@@ -7,10 +7,10 @@ use Rattle.test_refresh.proofs.fill.Statement.{statement}
 use Rattle.test_refresh.proofs.fill.Tie as tie
 
 abbrev Inv-loop : tie.InvT-loop
-Inv-loop trace₀ «record» r₀ trace r = (r ≤ length trace / 5) × (length trace ≡ length trace₀)
+Inv-loop trace₀ row r₀ trace r = (r ≤ length trace / 5) × (length trace ≡ length trace₀)
 
 abbrev μ-loop : tie.MeasureT-loop
-μ-loop trace₀ «record» r₀ trace r = length trace / 5 - r
+μ-loop trace₀ row r₀ trace r = length trace / 5 - r
 
 pub fill-spec : {M : Type 1} → statement M
 fill-spec =
@@ -19,6 +19,8 @@ fill-spec =
     Inv-loop
     μ-loop
     (λ c. search needs)
+    (λ c. search needs)
+    (λ c κs. search needs)
     (λ c κs. search needs)
     (λ c. search needs)
     (λ c. search needs)

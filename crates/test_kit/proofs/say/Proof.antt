@@ -2,8 +2,8 @@
 use Prim.Native.Nat.{_≤_, _-_}
 use lib.ListN.{length}
 use borrow.Author.Needs.{needs}
-use Rattle.say.proofs.numbers.Statement.{statement}
-use Rattle.say.proofs.numbers.Tie as tie
+use Rattle.test_kit.proofs.say.Statement.{statement}
+use Rattle.test_kit.proofs.say.Tie as tie
 
 abbrev Inv-loop : tie.InvT-loop
 Inv-loop words row from₀ k₀ from k = (from ≤ length words) × (k ≤ length row)
@@ -11,8 +11,8 @@ Inv-loop words row from₀ k₀ from k = (from ≤ length words) × (k ≤ lengt
 abbrev μ-loop : tie.MeasureT-loop
 μ-loop words row from₀ k₀ from k = length row - k
 
-pub numbers-spec : {M : Type 1} → statement M
-numbers-spec =
+pub say-spec : {M : Type 1} → statement M
+say-spec =
     tie.close
     (tie.spec
     Inv-loop

@@ -1,0 +1,134 @@
+// What the programs that run under the gate share: sample images, the numbers of a case, and lines on standard output. A case is a line of text,
+// told again with what came of it. No contract of `io` can say which bytes a write takes, so what only writes promises only that it ends: what a
+// program wrote is compared with its file `stdout`.
+use text::put_bytes;
+ghost use Prim.Native.Nat.{ℕ, _+_, _≤_, _<_, min};
+ghost use mathlib.Core.Path.{_≡_};
+ghost use lib.ListN.{length, getD};
+ghost use Rattle.io.specs.Counts.{Counts};
+ghost use Rattle.lines.specs.Words.{from-word, decimal, capped};
+
+pub mod samples;
+
+// ---- what a case says
+
+// The byte that a case begins with; 0 for an empty line.
+pub fn first(line: &[u8]) -> u8
+    ensures { λ r. ⌜ (length (now (line .entry)) ≡ 0 → r ≡ 0) × (0 < length (now (line .entry)) → r ≡ getD (now (line .entry)) 0 0) ⌝ }
+{
+    if line.len() == 0 {
+        return 0;
+    }
+    line[0]
+}
+
+// The numbers that its words say, those after the first word: 0 for a word that is no number.
+pub fn numbers(line: &[u8]) -> [u32; 24]
+    ensures { λ r. ⌜ 24 ≡ length r ⌝ }
+    ensures { λ r. ⌜ ((k : ℕ) → k < 24 → getD r k 0 ≡ capped (decimal 0 (from-word (k + 1) (now (line .entry))))) ⌝ }
+{
+    let mut row = [0u32; 24];
+    let mut k = 0;
+    while k < 24 {
+        row[k] = lines::number(line, k + 1);
+        k += 1;
+    }
+    row
+}
+
+// As much of something as a case says, where there is `most` of it.
+pub fn part(n: u32, most: usize) -> usize
+    ensures { λ r. ⌜ r ≡ min n most ⌝ }
+{
+    if n as usize <= most { n as usize } else { most }
+}
+
+// A count. The largest number of 32 bits, which stands for every larger one, stands for the largest count.
+pub fn count(n: u32) -> usize
+    ensures { λ r. ⌜ (n < 4294967295 → r ≡ n) × (n ≡ 4294967295 → r ≡ 18446744073709551615) ⌝ }
+{
+    if n == 4_294_967_295 {
+        return 18_446_744_073_709_551_615;
+    }
+    n as usize
+}
+
+// The profile that it names by its first word, at the start of `out`: Three, Near, One, Long, or a damaged One, as `5-damaged`. Answers how many
+// bytes it has.
+pub fn sample(line: &[u8], out: &mut [u8]) -> usize
+    ensures { λ r. ⌜ Counts r (now (out .exit)) ⌝ }
+{
+    match first(line) {
+        b'T' => put_bytes(out, 0, &samples::three()),
+        b'N' => put_bytes(out, 0, &samples::near()),
+        b'O' => put_bytes(out, 0, &samples::one()),
+        b'L' => put_bytes(out, 0, &samples::long()),
+        digit => put_damaged(out, digit),
+    }
+}
+
+fn put_damaged(out: &mut [u8], digit: u8) -> usize
+    ensures { λ r. ⌜ Counts r (now (out .exit)) ⌝ }
+{
+    let image = samples::damaged(digit);
+    let bytes = samples::damaged_bytes(digit);
+    put_bytes(out, 0, &image[0..bytes])
+}
+
+// ---- what is said of it
+
+// The words, with the numbers at the places that `_` marks.
+pub fn say(words: &[u8], row: &[u32]) {
+    let mut from = 0;
+    let mut k = 0;
+    while k < row.len() {
+        let end = lines::find(words, from, b'_');
+        say_number(&words[from..end], row[k]);
+        from = lines::next(words, from, b'_');
+        k += 1;
+    }
+    io::write_all(1, &words[from..]);
+}
+
+// The words, and a number after them.
+pub fn say_number(words: &[u8], n: u32) {
+    io::write_all(1, words);
+    io::print_decimal(1, n as u64);
+}
+
+pub fn say_count(words: &[u8], n: usize) {
+    io::write_all(1, words);
+    io::print_decimal(1, n as u64);
+}
+
+// Which of two it is.
+pub fn say_whether(yes: bool, words: &[u8], otherwise: &[u8]) {
+    if yes {
+        io::write_all(1, words);
+    } else {
+        io::write_all(1, otherwise);
+    }
+}
+
+// Counts what agrees with its file, and names what does not.
+pub fn tell(agrees: bool, what: &[u8], number: usize) -> u64
+    ensures { λ r. ⌜ r ≤ 1 ⌝ }
+{
+    if agrees {
+        return 1;
+    }
+    io::write_all(1, what);
+    io::write_all(1, b" does not agree: ");
+    io::print_decimal(1, number as u64);
+    io::write_all(1, b"\n");
+    0
+}
+
+// How many agree of how many.
+pub fn sum_up(agreed: u64, all: usize, what: &[u8]) {
+    io::print_decimal(1, agreed);
+    io::write_all(1, b" of ");
+    io::print_decimal(1, all as u64);
+    io::write_all(1, what);
+    io::write_all(1, b" agree\n");
+}
