@@ -166,7 +166,7 @@ fn cycle(
     bounds: &[i32],
     row: [u32; 24],
 ) {
-    let mut run = Run::start(n, levels).run;
+    let mut run = Run::start(n as usize, levels as usize).run;
     let mut k = 0;
     while k < n {
         run = step(run, order, limits, worst, bounds, duration(row, k as usize));
@@ -193,7 +193,7 @@ fn step(
 
 fn say_answer(answer: Answer, left: u32) {
     match answer {
-        Answer::Refused(number) => say_number(b" refused ", number),
+        Answer::Refused(refusal) => say_number(b" refused ", refusal.number),
         Answer::Given {
             action,
             level,
@@ -227,8 +227,8 @@ fn ended(run: Run, worst: &[u32], duration: u32) -> Run {
     let end = std::num::wrapping_add_u32(run.clock, duration);
     let reported = run.report(end, worst);
     let next = reported.run;
-    if reported.refusal != 0 {
-        say_number(b" refused ", reported.refusal);
+    if reported.refusal.number != 0 {
+        say_number(b" refused ", reported.refusal.number);
     }
     say_if(next.overrun & !run.overrun, b"!");
     say_if(next.left < run.left, b"x");
@@ -260,7 +260,7 @@ fn dried(
     let mut marks = [9u8; 24];
     let e = part(level_room, 24);
     let f = part(mark_room, 24);
-    let answer = dry_cycle::dry_run(
+    let answer = run::dry::dry_run(
         n,
         levels,
         limits,
@@ -270,7 +270,7 @@ fn dried(
         &mut given[0..e],
         &mut marks[0..f],
     );
-    say_number(b" refusal ", answer.refusal);
+    say_number(b" refusal ", answer.refusal.number);
     say_bytes(b", levels", given, shown);
     say_bytes(b", marks", marks, shown);
     say_end(answer.decisions, answer.end, answer.overrun, answer.late);

@@ -21,7 +21,7 @@ fn main() {
 }
 
 fn tell_each(text: &[u8], order: [u8; 3], limits: &[i32], worst: [u32; 6], bounds: &[i32]) {
-    let mut run = run::begun(0, 0);
+    let mut run = Run::start(0, 0).run;
     let mut at = 0;
     while at < text.len() {
         let end = lines::find(text, at, b'\n');
@@ -64,7 +64,7 @@ fn part(n: u32, most: usize) -> usize
 
 fn start(run: Run, n: usize, levels: usize) -> Run {
     let lent = through::started(run, n, levels);
-    let value = runs::start_flat(n, levels);
+    let value = Run::start(n, levels);
     say(lent.refusal.number);
     tell_record(
         lent.refusal.number == value.refusal.number,
@@ -97,7 +97,7 @@ fn ask(run: Run, much: u32, order: [u8; 3], limits: &[i32], bounds: &[i32]) -> R
 fn report(run: Run, clock: u32, much: u32, worst: [u32; 6]) -> Run {
     let k = part(much, 6);
     let lent = through::reported(run, clock, &worst[0..k]);
-    let value = runs::report_flat(run, clock, &worst[0..k]);
+    let value = run.report(clock, &worst[0..k]);
     say(lent.refusal.number);
     tell_record(
         lent.refusal.number == value.refusal.number,

@@ -1,10 +1,11 @@
 // From a record by value to the calls over a lent one, and back.
 use nyokazerubi::runs;
 use nyokazerubi::runs::Asked;
-use nyokazerubi::runs::Reported;
-use nyokazerubi::runs::Started;
+use run::Reported;
 use run::Run;
+use run::Started;
 ghost use mathlib.Core.Path.{_≡_};
+ghost use mathlib.Core.List.{[]};
 ghost use Rattle.rules.specs.Run.{start, ask, report};
 ghost use Rattle.run.specs.Calls.{run-of};
 ghost use Rattle.nyokazerubi.specs.Flat.{next-of, Asks};
@@ -18,7 +19,8 @@ pub fn started(run: Run, n: usize, levels: usize) -> Started
 }
 
 pub fn asked(run: Run, order: &[u8], limits: &[i32], bounds: &[i32]) -> Asked
-    ensures { λ r. ⌜ Asks (ask (now (order .entry)) (now (limits .entry)) (now (bounds .entry)) (run-of run)) (r .run) (r .given) ⌝ }
+    ensures { λ r. ⌜ Asks (ask
+        (record { order = now (order .entry); limits = now (limits .entry); worst = []; bounds = now (bounds .entry) }) (run-of run)) (r .run) (r .given) ⌝ }
 {
     let mut kept = run;
     let given = runs::nyokazerubi_ask(&mut kept, order, limits, bounds);

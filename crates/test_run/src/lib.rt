@@ -88,8 +88,8 @@ fn kept(number: u32, before: Run, after: Run) -> u32 {
 fn ask_number(run: Run, asked: Asked) -> u32 {
     let answer = asked.answer;
     let next = asked.run;
-    if let Answer::Refused(number) = answer {
-        return kept(number, run, next);
+    if let Answer::Refused(refusal) = answer {
+        return kept(refusal.number, run, next);
     }
     0
 }
@@ -103,16 +103,16 @@ fn asked(run: Run, order: u32, limits: u32, bounds: u32) -> Run {
 fn reported(run: Run, clock: u32, worst: u32) -> Run {
     let reported = report(run, clock, worst);
     let next = reported.run;
-    say_number(b": report ", kept(reported.refusal, run, next));
+    say_number(b": report ", kept(reported.refusal.number, run, next));
     next
 }
 
 // ---- cases
 
 fn tell_start(row: [u32; 24]) {
-    let started = Run::start(row[0], row[1]);
+    let started = Run::start(test_kit::count(row[0]), test_kit::count(row[1]));
     let run = started.run;
-    say_number(b": start ", started.refusal);
+    say_number(b": start ", started.refusal.number);
     say_record(run);
     tell_calls(run, run);
 }
@@ -156,7 +156,7 @@ fn say_record(run: Run) {
 // ---- turns
 
 fn tell_turns(line: &[u8]) {
-    let mut run = run::begun(3, 2);
+    let mut run = Run::start(3, 2).run;
     let mut at = lines::word(line, 1);
     while at < line.len() {
         run = turn(run, line[at]);
