@@ -1,5 +1,8 @@
 // What the programs print. A refusal is one line, `refused` and the number.
+pub mod reading;
+
 use dry_frame::Framed;
+pub use reading::put_reading;
 use text::put_byte;
 use text::put_bytes;
 use text::put_number;

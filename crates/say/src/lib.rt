@@ -6,9 +6,9 @@ pub fn numbers(words: &[u8], row: &[u32]) {
     let mut from = 0;
     let mut k = 0;
     while k < row.len() {
-        let end = lines::find(words, from, b'_');
+        let end = text::words::find(words, from, b'_');
         number(&words[from..end], row[k]);
-        from = lines::next(words, from, b'_');
+        from = text::words::next(words, from, b'_');
         k += 1;
     }
     io::write_all(1, &words[from..]);

@@ -1,5 +1,5 @@
 // Runs the speed reading: case 6 and the times around it, the room at 1, at 0 and below, and each refusal.
-use reading_text::put_reading;
+use print::put_reading;
 use speed_stretch::Reading;
 
 fn main() {

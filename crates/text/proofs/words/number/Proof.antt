@@ -4,11 +4,11 @@ use mathlib.Core.Path.{_≡_, sym, ap, _∙_}
 use mathlib.Core.List.{List}
 use native.Mathlib.Omega.{arith}
 use lib.ListN.{length, drop}
-use Rattle.lines.specs.Words.{from-word, decimal, capped}
-use Rattle.lines.proofs.Passed.{digit-here, digits-end, text-end, capped-once}
+use Rattle.text.specs.Words.{from-word, decimal, capped}
+use Rattle.text.proofs.Passed.{digit-here, digits-end, text-end, capped-once}
 use borrow.Author.Needs.{needs}
-use Rattle.lines.proofs.number.Statement.{statement}
-use Rattle.lines.proofs.number.Tie as tie
+use Rattle.text.proofs.words.number.Statement.{statement}
+use Rattle.text.proofs.words.number.Tie as tie
 
 abbrev Inv-loop : tie.InvT-loop
 Inv-loop line k value₀ at₀ value at = (at ≤ length line) × (value ≤ 4294967295) × (capped (decimal 0 (from-word k line)) ≡ capped (decimal value (drop at line)))

@@ -4,8 +4,8 @@ use native.Mathlib.Omega.{arith}
 use borrow.Author.Needs.{needs}
 use lib.ListN.{drop, drop-of-length-le}
 use lib.Seq.{drop-drop}
-use Rattle.lines.proofs.next.Statement.{statement}
-use Rattle.lines.proofs.next.Tie as tie
+use Rattle.text.proofs.words.next.Statement.{statement}
+use Rattle.text.proofs.words.next.Tie as tie
 
 returns : tie.Need-returns
 returns c =

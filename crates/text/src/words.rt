@@ -3,8 +3,8 @@ ghost use Prim.Native.Nat.{_+_, _≤_, _<_};
 ghost use mathlib.Core.Path.{_≡_};
 ghost use lib.ListN.{length, drop};
 ghost use Rattle.io.specs.Counts.{Counts};
-ghost use Rattle.lines.specs.Words.{from-first, after-first, from-word, decimal};
-ghost use Rattle.lines.specs.Words.{capped as Words·capped};
+ghost use Rattle.text.specs.Words.{from-first, after-first, from-word, decimal};
+ghost use Rattle.text.specs.Words.{capped as Words·capped};
 
 // Where the byte stands first, from index `from` on; the length where it does not.
 pub fn find(text: &[u8], from: usize, byte: u8) -> usize

@@ -4,8 +4,8 @@ use mathlib.Core.Path.{_≡_}
 use lib.ListN.{length, length-set, length-take}
 use native.Mathlib.Omega.{arith}
 use borrow.Author.Needs.{needs}
-use Rattle.lines.proofs.bytes.Statement.{statement}
-use Rattle.lines.proofs.bytes.Tie as tie
+use Rattle.text.proofs.words.bytes.Statement.{statement}
+use Rattle.text.proofs.words.bytes.Tie as tie
 
 abbrev Inv-loop : tie.InvT-loop
 Inv-loop line out₀ n₀ at₀ out n at = (n ≤ length out) × (length out ≡ length out₀)

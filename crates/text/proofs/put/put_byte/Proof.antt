@@ -2,8 +2,8 @@
 use lib.ListN.{length-set, length-take}
 use native.Mathlib.Omega.{arith}
 use borrow.Author.Needs.{needs}
-use Rattle.text.proofs.put_byte.Statement.{statement}
-use Rattle.text.proofs.put_byte.Tie as tie
+use Rattle.text.proofs.put.put_byte.Statement.{statement}
+use Rattle.text.proofs.put.put_byte.Tie as tie
 
 returns : tie.Need-returns
 returns c = (simp length-set (omega arith), simp (length-take, length-set) (omega arith))

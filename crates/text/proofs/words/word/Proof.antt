@@ -4,10 +4,10 @@ use mathlib.Core.Path.{_≡_, sym, ap, _∙_}
 use native.Mathlib.Omega.{arith}
 use lib.ListN.{length, drop}
 use borrow.Author.Needs.{needs}
-use Rattle.lines.specs.Words.{from-word}
-use Rattle.lines.proofs.Passed.{word-after}
-use Rattle.lines.proofs.word.Statement.{statement}
-use Rattle.lines.proofs.word.Tie as tie
+use Rattle.text.specs.Words.{from-word}
+use Rattle.text.proofs.Passed.{word-after}
+use Rattle.text.proofs.words.word.Statement.{statement}
+use Rattle.text.proofs.words.word.Tie as tie
 
 abbrev Inv-loop : tie.InvT-loop
 Inv-loop line k at₀ left₀ at left = (at ≤ length line) × (from-word k line ≡ from-word left (drop at line))

@@ -4,10 +4,10 @@ use mathlib.Core.Path.{_≡_, sym, _∙_}
 use lib.ListN.{length, drop}
 use native.Mathlib.Omega.{arith}
 use borrow.Author.Needs.{needs}
-use Rattle.lines.specs.Words.{from-first}
-use Rattle.lines.proofs.Passed.{first-here, first-later, first-nowhere}
-use Rattle.lines.proofs.find.Statement.{statement}
-use Rattle.lines.proofs.find.Tie as tie
+use Rattle.text.specs.Words.{from-first}
+use Rattle.text.proofs.Passed.{first-here, first-later, first-nowhere}
+use Rattle.text.proofs.words.find.Statement.{statement}
+use Rattle.text.proofs.words.find.Tie as tie
 
 abbrev Inv-loop : tie.InvT-loop
 Inv-loop text from byte at₀ at =

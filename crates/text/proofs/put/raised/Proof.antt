@@ -10,8 +10,8 @@ use lib.Signed.{mag, nonNeg}
 use mir.Syntax.{w32, w64}
 use mir.Val.{SFits}
 use mir.Facts.{toZ-ofZ, sfits-widen}
-use Rattle.text.proofs.raised.Statement.{statement}
-use Rattle.text.proofs.raised.Tie as tie
+use Rattle.text.proofs.put.raised.Statement.{statement}
+use Rattle.text.proofs.put.raised.Tie as tie
 
 record Above (w : ℤ) : Type 0 where
   size : mag w < 4294967296

@@ -4,8 +4,8 @@ use mathlib.Core.Bool.{true, not}
 use lib.Dec.{T}
 use lib.Ieee.{Float, nan, inf, fin, isNan, lt, eq, le}
 use borrow.Author.Needs.{needs}
-use Rattle.reading_text.proofs.bits.Statement.{statement}
-use Rattle.reading_text.proofs.bits.Tie as tie
+use Rattle.print.proofs.reading.bits.Statement.{statement}
+use Rattle.print.proofs.reading.bits.Tie as tie
 
 is-number : (y x : Float) → le y x ≡ true → T (not (isNan x))
 unfolding lt eq le isNan

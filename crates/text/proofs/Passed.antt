@@ -9,7 +9,7 @@ use borrow.Author.Tests.{eq-eqb, ne-eqb, le-leb, leb-true}
 use lib.Dec.{leb}
 use lib.ListN.{length, drop, getD, drop-of-length-le}
 use lib.Seq.{drop-cons}
-use Rattle.lines.specs.Words.{from-first, after-first, from-word, decimal, capped}
+use Rattle.text.specs.Words.{from-first, after-first, from-word, decimal, capped}
 
 no-digit : (x : ℕ) → (48 ≤ x → x ≤ 57 → ⊥) → (leb 48 x && leb x 57) ≡ false
 no-digit x h = by (leb 48 x) (leb x 57) refl refl
