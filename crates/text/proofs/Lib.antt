@@ -1,1 +1,4 @@
 mod Passed
+pub mod Puts
+mod Decimal
+mod Signed

@@ -1,15 +1,15 @@
 -- The sum of a 32-bit number and 2 ^ 31 is not negative and below 2 ^ 32. Assumes nothing.
-use Prim.Native.Nat.{suc, _-_, _<_}
-use mathlib.Core.Path.{_≡_, sym, subst}
+use Prim.Native.Nat.{_<_}
+use mathlib.Core.Path.{_≡_, refl, sym, subst}
 use native.Mathlib.Omega.{arith}
 use borrow.Author.Needs.{needs}
-use borrow.Author.Tests.{le-ltb}
 use lib.Dec.{T}
 use lib.IntN.{ℤ, pos, negsuc, natAbs, _+ℤ_}
 use lib.Signed.{mag, nonNeg}
 use mir.Syntax.{w32, w64}
 use mir.Val.{SFits}
 use mir.Facts.{toZ-ofZ, sfits-widen}
+use Rattle.text.proofs.Signed.{raised-negative}
 use Rattle.text.proofs.put.raised.Statement.{statement}
 use Rattle.text.proofs.put.raised.Tie as tie
 
@@ -17,13 +17,12 @@ record Above (w : ℤ) : Type 0 where
   size : mag w < 4294967296
   sign : T (nonNeg w)
   whole : natAbs w < 4294967296
+  same : pos (natAbs w) ≡ w
 
 above : (z : ℤ) → mag z < 2147483648 → Above (z +ℤ pos 2147483648)
-above (pos n) h = record { size = omega arith; sign = tt; whole = omega arith }
-above (negsuc n) h = subst Above (sym is) (record { size = omega arith; sign = tt; whole = omega arith })
-  where
-    is : negsuc n +ℤ pos 2147483648 ≡ pos (2147483648 - suc n)
-    is = rw (le-ltb 2147483648 (suc n) h)
+above (pos n) h = record { size = omega arith; sign = tt; whole = omega arith; same = refl }
+above (negsuc n) h =
+    subst Above (sym (raised-negative n h)) (record { size = omega arith; sign = tt; whole = omega arith; same = refl })
 
 module _ (c : tie.Start) where
   in32 : SFits w32 (c .args .z)
@@ -44,10 +43,13 @@ cast-result c = rw (toZ-ofZ (in32 c)) (in64 c)
 add-result : tie.Need-add-result
 add-result c = rw (toZ-ofZ (in32 c), toZ-ofZ (in64 c)) (sum c)
 
-cast-result-2 : tie.Need-cast-result-2
-cast-result-2 c =
+cast-result-3 : tie.Need-cast-result-3
+cast-result-3 c =
     rw (toZ-ofZ (in32 c), toZ-ofZ (in64 c), toZ-ofZ (sum c))
     (high c .sign, record { fits = omega (arith, high c .whole) })
 
+returns : tie.Need-returns
+returns c = rw (toZ-ofZ (in32 c), toZ-ofZ (in64 c), toZ-ofZ (sum c)) (high c .same)
+
 pub raised-spec : {M : Type 1} → statement M
-raised-spec = tie.close (tie.spec cast-result add-result cast-result-2 (λ c. search needs))
+raised-spec = tie.close (tie.spec cast-result (λ c. search needs) add-result cast-result-3 returns)
