@@ -1,0 +1,3 @@
+pub mod Refused
+pub mod Plan
+pub mod Dry
