@@ -1,15 +1,14 @@
 -- The fewest digits that hold a number are its decimal digits. Assumes nothing.
 use Prim.Native.Nat.{ℕ, zero, suc, _-_, _/_, _%_, _^_, _≤_, _<_}
-use mathlib.Core.Path.{_≡_, refl, sym, ap, _∙_}
-use mathlib.Core.List.{List, [], _∷_, _++_}
-use native.Mathlib.Nat.{mod-eq-of-lt, pow-suc, pow-zero}
+use mathlib.Core.Path.{_≡_}
+use native.Mathlib.Nat.{mod-eq-of-lt, pow-suc, pow-zero, pow-le-pow-right}
 use native.Mathlib.Decide.{decLt}
 use native.Mathlib.Omega.{arith}
+use lib.Dec.{lit<}
 use borrow.Author.Tests.{lt-ltb, le-ltb}
 use Rattle.io.specs.Digits.{digits, glyph, Fewest}
-use Rattle.text.specs.Digits.{digit, last-digits, decimal}
+use Rattle.text.specs.Digits.{digit, last-digits, most-digits, decimal}
 
--- j is below 10 ^ j, so n + 1 digits hold n
 below : (j : ℕ) → j < 10 ^ j
 below zero = rw pow-zero (omega arith)
 below (suc j) = rw pow-suc (omega (arith, below j))
@@ -31,17 +30,14 @@ by-last (suc j) (suc most) n small least room =
     let rest = by-last j most (n / 10) few (λ l. omega (arith, pow-suc 10 j)) (omega arith) in
     rw (le-ltb n 10 more, last, rest)
 
-pub decimal-is : (k n : ℕ) → Fewest 10 1 n k → digits 10 k n ≡ decimal n
+pub decimal-is : (k n : ℕ) → n < 10 ^ most-digits → Fewest 10 1 n k → digits 10 k n ≡ decimal n
 unfolding decimal
-decimal-is zero n h = absurd (omega arith)
-decimal-is (suc j) n h =
-    let e : suc j - 1 ≡ j = omega arith in
-    let least : 0 < j → 10 ^ j ≤ n = λ l. rw e at (h .2 (omega arith)) in
-    by-last j (suc n) n (h .1) least (room least)
+decimal-is zero n small h = absurd (omega arith)
+decimal-is (suc j) n small h = by-last j most-digits n (h .1) least (few (decLt j most-digits))
   where
-    room : (0 < j → 10 ^ j ≤ n) → j < suc n
-    room least = by (decLt 0 j)
-      where
-        by : Dec (0 < j) → j < suc n
-        by (yes l) = omega (arith, below j, least l)
-        by (no l) = omega arith
+    least : 0 < j → 10 ^ j ≤ n
+    least l = let e : suc j - 1 ≡ j = omega arith in rw e at (h .2 (omega arith))
+
+    few : Dec (j < most-digits) → j < most-digits
+    few (yes l) = l
+    few (no l) = absurd (omega (arith, pow-le-pow-right {n = 10} (lit< tt) {i = most-digits} {j = j} (omega arith), least (omega arith)))

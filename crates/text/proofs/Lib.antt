@@ -1,3 +1,4 @@
+mod Cases
 mod Passed
 pub mod Puts
 mod Decimal

@@ -27,9 +27,13 @@ unfoldable pub last-digits : ℕ → ℕ → List ℕ
 last-digits zero n = []
 last-digits (suc most) n = cond (ltb n 10) (digit n ∷ []) (last-digits most (n / 10) ++ (digit (n % 10) ∷ []))
 
--- n in decimal digits, all of them: it has no more than n + 1. None in front is 0, but that 0 is `0`.
+-- a number of 64 bits has no more digits
+abbrev pub most-digits : ℕ
+most-digits = 20
+
+-- n in decimal digits, all of them where it is a number of 64 bits. The first is not 0, but that of 0.
 unfoldable pub decimal : ℕ → List ℕ
-decimal n = last-digits (suc n) n
+decimal n = last-digits most-digits n
 
 -- a number that may be negative: it then has a minus sign in front
 abbrev pub signed : ℤ → List ℕ

@@ -1,4 +1,5 @@
 -- A negative number has its sign and then its digits, any other its digits. Assumes nothing.
+use native.Mathlib.Omega.{arith}
 use mir.Facts.{toZ-ofZ}
 use borrow.Author.Needs.{needs}
 use Rattle.text.proofs.Puts.{put-then, put-as}
@@ -12,7 +13,9 @@ returns c =
     let above = put .before .before in
     let high = above .before in
     let z = high .before .before in
-    put-as (as-positive (high .raised .result) (z .args .z) (z .fits .z .sfits) (rw (toZ-ofZ (z .fits .z)) at (high .raised .ensures)) (above .if1 .taken)) (put .put-number .ensures)
+    put-as
+    (as-positive (high .raised .result) (z .args .z) (z .fits .z .sfits) (rw (toZ-ofZ (z .fits .z)) at (high .raised .ensures)) (omega arith))
+    (put .put-number .ensures)
 
 returns-2 : tie.Need-returns-2
 returns-2 c =
@@ -22,7 +25,7 @@ returns-2 c =
     let high = below .before in
     let z = high .before .before in
     put-as
-    (as-negative (high .raised .result) (z .args .z) (z .fits .z .sfits) (rw (toZ-ofZ (z .fits .z)) at (high .raised .ensures)) (below .if1 .left))
+    (as-negative (high .raised .result) (z .args .z) (z .fits .z .sfits) (rw (toZ-ofZ (z .fits .z)) at (high .raised .ensures)) (omega arith))
     (put-then (z .pre .0) (sign .put-byte .ensures) (put .put-number2 .ensures))
 
 pub put-signed-spec : {M : Type 1} → statement M
