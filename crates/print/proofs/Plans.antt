@@ -41,7 +41,7 @@ few {s} h =
 
 -- ---- the line of a position, by equal numbers
 
-position-ext : (i : ℕ) {a b : ℕ} (f g : ℕ → ℤ) (L : ℕ) → a ≡ b → ((q : ℕ) → q < L → f q ≡ g q) → position-line i a f L ≡ position-line i b g L
+pub position-ext : (i : ℕ) {a b : ℕ} (f g : ℕ → ℤ) (L : ℕ) → a ≡ b → ((q : ℕ) → q < L → f q ≡ g q) → position-line i a f L ≡ position-line i b g L
 unfolding position-line
 position-ext i {b = b} f g L e h =
     rw e (ap (λ (ws : List (List ℕ)). line (decimal i ∷ decimal b ∷ ws)) (tab-ext _ _ L (λ q l. ap signed (h q l))))

@@ -2,10 +2,14 @@
 use speed_stretch::Reading;
 use text::put_bytes;
 use text::put_number;
-ghost use Rattle.io.specs.Counts.{Counts};
+ghost use mathlib.Core.Path.{_≡_};
+ghost use Rattle.text.specs.Put.{Puts};
+ghost use Rattle.print.specs.Reading.{ratio-bits, reading-text};
 
 // The bits of a ratio. A ratio is never below 0, so what is has bits that no ratio has.
-fn bits(x: f64) -> u64 {
+fn bits(x: f64) -> u64
+    ensures { λ r. ⌜ r ≡ ratio-bits x ⌝ }
+{
     if 0.0 <= x {
         return f64::to_bits(x);
     }
@@ -13,7 +17,7 @@ fn bits(x: f64) -> u64 {
 }
 
 pub fn put_reading(out: &mut [u8], reading: Reading) -> usize
-    ensures { λ r. ⌜ Counts r (now (out .exit)) ⌝ }
+    ensures { λ r. ⌜ Puts (now (out .entry)) 0 (reading-text reading) (now (out .exit)) r ⌝ }
 {
     match reading {
         Reading::Ratio(x) => {

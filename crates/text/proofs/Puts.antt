@@ -94,3 +94,11 @@ module _ {out : List ℕ} {at : ℕ} (h : at ≤ length out) where
 -- the same text, said in another way
 pub put-as : {out : List ℕ} {at : ℕ} {s t out′ : List ℕ} {r : ℕ} → s ≡ t → Puts out at s out′ r → Puts out at t out′ r
 put-as {out} {at} {out′ = out′} {r} e p = subst (λ (x : List ℕ). Puts out at x out′ r) e p
+
+-- equal texts put into one buffer leave one buffer and one count
+pub puts-one : {out : List ℕ} {at : ℕ} {s t out₁ out₂ : List ℕ} {r₁ r₂ : ℕ} → s ≡ t → Puts out at s out₁ r₁ → Puts out at t out₂ r₂
+    → (out₁ ≡ out₂) × (r₁ ≡ r₂)
+puts-one {out} {at} e p q = (
+  p .written ∙ ap (over out at) e ∙ sym (q .written),
+  p .count ∙ ap (λ (x : List ℕ). min (at + length x) (length out)) e ∙ sym (q .count),
+)

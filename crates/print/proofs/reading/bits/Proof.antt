@@ -1,9 +1,10 @@
 -- What is at least 0 is a number. Assumes nothing.
-use mathlib.Core.Path.{_≡_, sym, subst}
-use mathlib.Core.Bool.{true, not}
+use Prim.Native.Nat.{ℕ}
+use mathlib.Core.Path.{_≡_, sym, ap, subst}
+use mathlib.Core.Bool.{Bool, true, not, cond}
 use lib.Dec.{T}
-use lib.Ieee.{Float, nan, inf, fin, isNan, lt, eq, le}
-use borrow.Author.Needs.{needs}
+use lib.Ieee.{Float, binary64, toBits, nan, inf, fin, isNan, lt, eq, le}
+use Rattle.print.specs.Reading.{ratio-bits}
 use Rattle.print.proofs.reading.bits.Statement.{statement}
 use Rattle.print.proofs.reading.bits.Tie as tie
 
@@ -18,5 +19,16 @@ is-number y (fin t n d) h = tt
 float-to-bits-result : tie.Need-float-to-bits-result
 float-to-bits-result c = is-number _ _ (c .if1 .taken)
 
+abbrev picked : Float → Bool → ℕ
+picked x b = cond b (toBits binary64 x) 18446744073709551615
+
+returns : tie.Need-returns
+unfolding ratio-bits
+returns c = sym (ap (picked (c .before .args .x)) (c .if1 .taken))
+
+returns-2 : tie.Need-returns-2
+unfolding ratio-bits
+returns-2 c = sym (ap (picked (c .before .args .x)) (c .if1 .left))
+
 pub bits-spec : {M : Type 1} → statement M
-bits-spec = tie.close (tie.spec float-to-bits-result (λ c. search needs) (λ c. search needs))
+bits-spec = tie.close (tie.spec float-to-bits-result returns returns-2)
