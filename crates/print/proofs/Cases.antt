@@ -2,12 +2,12 @@
 use Prim.Native.Nat.{ℕ}
 use mathlib.Core.Path.{_≡_, refl}
 use mathlib.Core.Bool.{false}
-use mathlib.Core.List.{List, [], _∷_}
+use mathlib.Core.List.{[], _∷_}
 use lib.IntN.{ℤ, pos}
 use lib.ListN.{getD}
 use Rattle.rules.specs.Words.{cat}
 use Rattle.text.specs.Digits.{newline, space, last-digits, decimal, line}
-use Rattle.print.specs.Refused.{refused, refused-text}
+use Rattle.print.specs.Refused.{refused-text}
 use Rattle.print.specs.Plan.{counts-line, position-line, plan-text}
 use Rattle.print.specs.Dry.{four-line, dry-text}
 

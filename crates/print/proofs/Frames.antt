@@ -1,6 +1,6 @@
 -- What a frame run dry answered and wrote is what the dry-run program tells. Assumes nothing.
 use Prim.Native.Nat.{ℕ, suc, _*_, _≤_}
-use mathlib.Core.Path.{_≡_, refl, sym, ap, _∙_}
+use mathlib.Core.Path.{_≡_, ap}
 use mathlib.Core.List.{List, [], _∷_, _++_}
 use mathlib.Core.Logic.{_⊎_, _≢_, ⊎-elim, inl, inr}
 use native.Mathlib.Omega.{arith}

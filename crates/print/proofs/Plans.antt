@@ -1,6 +1,6 @@
 -- What the planner answered and wrote is what the plan program tells. Assumes nothing.
 use Prim.Native.Nat.{ℕ, _+_, _*_, _≤_, _<_}
-use mathlib.Core.Path.{_≡_, ap, _∙_}
+use mathlib.Core.Path.{_≡_, ap}
 use mathlib.Core.List.{List, [], _∷_, _++_}
 use mathlib.Core.Logic.{_⊎_, _≢_, ⊎-elim, inl, inr}
 use native.Mathlib.Nat.{mul-le-mul}
@@ -8,7 +8,7 @@ use native.Mathlib.Omega.{arith}
 use lib.IntN.{ℤ, pos}
 use lib.ListN.{length, getD}
 use Rattle.rules.specs.Numbers.{most-actions, most-levels, refused-room}
-use Rattle.rules.specs.Words.{cat, tab}
+use Rattle.rules.specs.Words.{cat}
 use Rattle.rules.specs.Image.{profile}
 use Rattle.rules.specs.Limits.{tables, limit}
 use Rattle.rules.specs.Refusals.{Ground, Tight, _when_, First, image-checks}

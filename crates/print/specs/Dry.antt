@@ -9,7 +9,7 @@ use Rattle.rules.specs.Words.{cat, tab, one-if}
 use Rattle.rules.specs.Image.{be, profile}
 use Rattle.rules.specs.Order.{Order, TheOrder}
 use Rattle.rules.specs.Refusals.{First, kept}
-use Rattle.rules.specs.Run.{Run, decides}
+use Rattle.rules.specs.Run.{decides}
 use Rattle.rules.specs.Dry.{frame-call}
 use Rattle.dry_frame.specs.Frame.{run-at}
 use Rattle.text.specs.Digits.{decimal, line}

@@ -1,6 +1,6 @@
 -- Nothing put, one byte put, and two texts put one after the other. Assumes nothing.
 use Prim.Native.Nat.{ℕ, _+_, min, _≤_, _<_}
-use mathlib.Core.Path.{_≡_, refl, sym, ap, subst, _∙_}
+use mathlib.Core.Path.{_≡_, sym, ap, subst, _∙_}
 use mathlib.Core.List.{List, [], _∷_, _++_, append-assoc}
 use native.Mathlib.Decide.{decLt}
 use native.Mathlib.Omega.{arith}
@@ -22,7 +22,8 @@ length-over out at s h = simp (length-take, length-append, length-drop) (omega a
 fits : (out : List ℕ) (at : ℕ) (s : List ℕ) → at + length s ≤ length out → over out at s ≡ splice out at s
 fits out at s h = take-all (length out) (splice out at s) (omega (arith, length-splice out at s h))
 
-cut : (out : List ℕ) (at : ℕ) (s : List ℕ) → at ≤ length out → length out ≤ at + length s → over out at s ≡ take (length out) (take at out ++ s)
+cut : (out : List ℕ) (at : ℕ) (s : List ℕ) → at ≤ length out → length out ≤ at + length s
+    → over out at s ≡ take (length out) (take at out ++ s)
 unfolding splice
 cut out at s h l =
     ap (take (length out)) (sym (append-assoc (take at out) s (drop (at + length s) out)))

@@ -1,7 +1,7 @@
 -- A number raised by 2 ^ 31 is below 2 ^ 31 exactly if it is negative, and says the digits either way. Assumes nothing.
 use Prim.Native.Nat.{ℕ, suc, _+_, _-_, _≤_, _<_}
 use mathlib.Core.Path.{_≡_, ap, _∙_}
-use mathlib.Core.List.{List, _∷_}
+use mathlib.Core.List.{_∷_}
 use native.Mathlib.Omega.{arith}
 use borrow.Author.Tests.{le-ltb}
 use lib.IntN.{ℤ, pos, negsuc, natAbs, _+ℤ_}

@@ -4,7 +4,7 @@ use native.Mathlib.Omega.{arith}
 use lib.Dec.{lit≤}
 use borrow.Author.Needs.{needs}
 use Rattle.text.proofs.Puts.{put-then}
-use Rattle.print.proofs.Frames.{positions, Ample, dry-refused, dry-told}
+use Rattle.print.proofs.Frames.{positions, dry-refused, dry-told}
 use Rattle.print.proofs.dry.dry_text.Statement.{statement}
 use Rattle.print.proofs.dry.dry_text.Tie as tie
 
@@ -15,7 +15,8 @@ returns c =
     let framed = refused .before .before .before .before .before .before in
     let said = framed .before .before .before .before .before .before in
     let frames = rw (said .take-durations .ensures .1) at (framed .dry-frame .ensures) in
-    dry-refused frames (record { order-room = lit≤ tt; given-room = lit≤ tt; marks-room = lit≤ tt }) (refused .if1 .taken) (put .put-refusal .ensures)
+    dry-refused frames (record { order-room = lit≤ tt; given-room = lit≤ tt; marks-room = lit≤ tt })
+    (refused .if1 .taken) (put .put-refusal .ensures)
 
 put-steps-requires : tie.Need-put-steps-requires
 put-steps-requires c κs =
@@ -33,7 +34,8 @@ returns-2 c =
     let framed = accepted .before .before .before .before .before .before in
     let said = framed .before .before .before .before .before .before in
     let frames = rw (said .take-durations .ensures .1) at (framed .dry-frame .ensures) in
-    dry-told frames (record { order-room = lit≤ tt; given-room = lit≤ tt; marks-room = lit≤ tt }) (accepted .if1 .left) (put-then zero-le (steps .put-steps .ensures) (end .put-end .ensures))
+    dry-told frames (record { order-room = lit≤ tt; given-room = lit≤ tt; marks-room = lit≤ tt })
+    (accepted .if1 .left) (put-then zero-le (steps .put-steps .ensures) (end .put-end .ensures))
 
 pub dry-text-spec : {M : Type 1} → statement M
 dry-text-spec =

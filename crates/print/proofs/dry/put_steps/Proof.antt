@@ -24,14 +24,14 @@ loop-again : tie.Need-loop-again Inv-loop μ-loop
 loop-again c =
     let put = c .before .before in
     let turn = put .before .before .before .before .before .before in
-    let start = turn .before .before .before .before .before in
-    (omega arith, omega arith, loop-turn zero-le (step (start .args .order .now) (start .args .given .now) (start .args .marks .now)) (turn .loop .i) (turn .loop .inv .2) (put .put-four .ensures))
+    let x = turn .before .before .before .before .before .args in
+    (omega arith, omega arith, loop-turn zero-le (step (x .order .now) (x .given .now) (x .marks .now)) (turn .loop .i) (turn .loop .inv .2) (put .put-four .ensures))
 
 returns : tie.Need-returns Inv-loop μ-loop
 returns c =
     let turn = c .before in
-    let start = turn .before .before .before .before .before in
-    loop-done zero-le (step (start .args .order .now) (start .args .given .now) (start .args .marks .now)) (turn .loop .i) (start .args .n) (omega arith) (turn .loop .inv .2)
+    let x = turn .before .before .before .before .before .args in
+    loop-done zero-le (step (x .order .now) (x .given .now) (x .marks .now)) (turn .loop .i) (x .n) (omega arith) (turn .loop .inv .2)
 
 pub put-steps-spec : {M : Type 1} → statement M
 put-steps-spec =

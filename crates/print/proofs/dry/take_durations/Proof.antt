@@ -24,7 +24,8 @@ tab-taken f out₀ k is e = ap (take k) is ∙ take-at (tab f k) (drop (0 + leng
 
 abbrev Inv-loop : tie.InvT-loop
 Inv-loop bytes durations₀ said k₀ durations k =
-    (length durations ≡ length durations₀) × (k ≤ length durations₀) × (k ≤ length bytes / 4) × (durations ≡ splice durations₀ 0 (tab (duration bytes) k))
+    (length durations ≡ length durations₀) × (k ≤ length durations₀) × (k ≤ length bytes / 4)
+    × (durations ≡ splice durations₀ 0 (tab (duration bytes) k))
 
 abbrev μ-loop : tie.MeasureT-loop
 μ-loop bytes durations₀ said k₀ durations k = length durations₀ - k
@@ -47,7 +48,8 @@ loop-again c =
       search needs,
       omega arith,
       omega arith,
-      tab-more (duration (start .args .bytes .now)) (start .args .durations .now) 0 (turn .loop .k) (turn .loop .k) (omega arith) (omega arith) (omega arith) (c .be32 .ensures .0)
+      tab-more (duration (start .args .bytes .now)) (start .args .durations .now) 0 (turn .loop .k) (turn .loop .k)
+          (omega arith) (omega arith) (omega arith) (c .be32 .ensures .0)
           (turn .loop .inv .3),
     )
 

@@ -4,7 +4,7 @@ use native.Mathlib.Omega.{arith}
 use lib.Dec.{lit≤}
 use borrow.Author.Needs.{needs}
 use Rattle.text.proofs.Puts.{put-then}
-use Rattle.print.proofs.Plans.{counts, Ample, plan-refused, plan-told}
+use Rattle.print.proofs.Plans.{counts, plan-refused, plan-told}
 use Rattle.print.proofs.plan.plan_text.Statement.{statement}
 use Rattle.print.proofs.plan.plan_text.Tie as tie
 
@@ -13,7 +13,9 @@ returns c =
     let put = c .before .before in
     let refused = put .before .before in
     let planned = refused .before .before .before .before .before .before .before in
-    plan-refused (planned .plan .ensures) (record { order-room = lit≤ tt; limits-room = lit≤ tt; worst-room = lit≤ tt; bounds-room = lit≤ tt }) (refused .if1 .taken) (put .put-refusal .ensures)
+    plan-refused (planned .plan .ensures)
+    (record { order-room = lit≤ tt; limits-room = lit≤ tt; worst-room = lit≤ tt; bounds-room = lit≤ tt })
+    (refused .if1 .taken) (put .put-refusal .ensures)
 
 put-counts-requires : tie.Need-put-counts-requires
 put-counts-requires c κs =
@@ -36,7 +38,9 @@ returns-2 c =
     let head = rows .before .before .before .before .before .before in
     let accepted = head .before .before in
     let planned = accepted .before .before .before .before .before .before .before in
-    plan-told (planned .plan .ensures) (record { order-room = lit≤ tt; limits-room = lit≤ tt; worst-room = lit≤ tt; bounds-room = lit≤ tt }) (accepted .if1 .left) (put-then zero-le (head .put-counts .ensures) (rows .put-positions .ensures))
+    plan-told (planned .plan .ensures)
+    (record { order-room = lit≤ tt; limits-room = lit≤ tt; worst-room = lit≤ tt; bounds-room = lit≤ tt })
+    (accepted .if1 .left) (put-then zero-le (head .put-counts .ensures) (rows .put-positions .ensures))
 
 pub plan-text-spec : {M : Type 1} → statement M
 plan-text-spec =

@@ -1,6 +1,6 @@
 -- The limits before the level are put. Assumes nothing.
 use Prim.Native.Nat.{ℕ, _≤_, _-_}
-use mathlib.Core.Path.{_≡_, sym, ap}
+use mathlib.Core.Path.{_≡_}
 use mathlib.Core.List.{List, _∷_}
 use native.Mathlib.Omega.{arith}
 use lib.IntN.{ℤ, pos}
@@ -45,7 +45,8 @@ returns : tie.Need-returns Inv-loop μ-loop
 returns c =
     let turn = c .before in
     let start = turn .before .before in
-    loop-done (start .pre .0) (entry (start .args .limits .now)) (turn .loop .q) (length (start .args .limits .now)) (omega arith) (turn .loop .inv .2)
+    let limits = start .args .limits .now in
+    loop-done (start .pre .0) (entry limits) (turn .loop .q) (length limits) (omega arith) (turn .loop .inv .2)
 
 pub put-limits-spec : {M : Type 1} → statement M
 put-limits-spec =

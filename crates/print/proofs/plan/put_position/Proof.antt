@@ -20,11 +20,12 @@ returns c =
     let position = action .before .before .before .before in
     let start = position .before .before .before in
     let room = start .pre .0 .0 in
-    let row-at = start .args .i * start .args .levels in
-    let part = limits-part (start .args .limits .now) row-at (start .args .levels) (row-at + start .args .levels - row-at) (omega arith) (omega arith) in
+    let L = start .args .levels in
+    let row-at = start .args .i * L in
+    let part = limits-part (start .args .limits .now) row-at L (row-at + L - row-at) (omega arith) (omega arith) in
     put-as
     (ap (λ (x : List ℕ). ((decimal (start .args .i) ++ (space ∷ [])) ++ decimal (start .args .action)) ++ (x ++ (newline ∷ []))) part
-    ∙ position-is (start .args .i) (start .args .action) (λ q. getD (start .args .limits .now) (row-at + q) (pos 0)) (start .args .levels))
+    ∙ position-is (start .args .i) (start .args .action) (λ q. getD (start .args .limits .now) (row-at + q) (pos 0)) L)
     (put-then room (put-then room (position .put-field .ensures) (action .put-number .ensures))
     (put-then (action .put-number .ensures .counts .0) (row .put-limits .ensures) (end .put-byte .ensures)))
 

@@ -35,7 +35,8 @@ loop-again c =
     let start = turn .before .before .before in (
       omega arith,
       omega arith,
-      loop-turn (start .pre .0 .0) (told (start .args .order .now) (start .args .limits .now) (start .args .levels)) (turn .loop .i) (turn .loop .inv .2)
+      loop-turn (start .pre .0 .0) (told (start .args .order .now) (start .args .limits .now) (start .args .levels)) (turn .loop .i)
+          (turn .loop .inv .2)
           (put .put-position .ensures),
     )
 

@@ -26,7 +26,8 @@ returns c =
     let put = c .before .before in
     let spelled = put .before .before .before in
     let told = spelled .before .before in
-    let sixteen : spelled .hex .result ≡ 16 = sixteen-digits (spelled .hex .result) (told .bits .result) (omega arith) (spelled .hex .ensures .1 .0) in
+    let sixteen : spelled .hex .result ≡ 16 =
+    sixteen-digits (spelled .hex .result) (told .bits .result) (omega arith) (spelled .hex .ensures .1 .0) in
     rw (told .before .before .reading .given .1)
     (put-as (spelled .hex .ensures .1 .1 ∙ rw (sixteen, told .bits .ensures)) (put .put-bytes .ensures))
 
