@@ -1,4 +1,4 @@
-//! Links the product: libcamera.a of the folder NYOKAZERUBI_ARCHIVE, by default target/staticlib of the repository.
+//! Links the product: libnyokazerubi.a of the folder NYOKAZERUBI_ARCHIVE, by default target/staticlib of the repository.
 
 use std::env;
 use std::fs;
@@ -15,7 +15,7 @@ fn main() {
     let home = PathBuf::from(env::var("CARGO_MANIFEST_DIR").expect("cargo says where"));
     let by_default = || home.join("../target/staticlib");
     let folder = env::var_os("NYOKAZERUBI_ARCHIVE").map_or_else(by_default, PathBuf::from);
-    let path = folder.join("libcamera.a");
+    let path = folder.join("libnyokazerubi.a");
     let archive = fs::read(&path)
         .unwrap_or_else(|error| panic!("{}: {error}. host/check builds it and runs all of this", path.display()));
     let wanted = match env::var("CARGO_CFG_TARGET_ARCH").as_deref() {
@@ -31,5 +31,5 @@ fn main() {
     );
     println!("cargo:rerun-if-changed={}", path.display());
     println!("cargo:rustc-link-search=native={}", folder.display());
-    println!("cargo:rustc-link-lib=static=camera");
+    println!("cargo:rustc-link-lib=static=nyokazerubi");
 }

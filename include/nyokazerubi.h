@@ -1,42 +1,115 @@
-/* Nyokazerubi, a quality manager for platform cameras: the calls for a host in C.
+/* Nyokazerubi, a quality manager for platform cameras: the calls for a host in C or C++.
  *
- * Link libcamera.a, which `rt staticlib camera` writes for x86-64 Linux. It keeps nothing between calls, allocates nothing, and needs memcpy and
- * memset alone. Every call may be made at any time and by several threads at once. What a call answers and writes is proved for every input; the
- * contract stands in crates/camera/src.
+ * A camera encodes each frame as a cycle of actions, each at a quality level. From a profile image (who comes before whom, deadlines, average and
+ * worst times by level) a plan is made once; then, before each action of a cycle, the manager is asked for the action and its level, and after it
+ * is told the clock. While no action takes longer than its worst time, no deadline is missed.
  *
- * Lent memory. A table is lent as a pointer and then the number of its entries. A call reads what is const and writes the rest. Until it
- * returns, the host sees to it that
+ * Link libnyokazerubi.a. It is for x86-64 Linux; it keeps nothing between calls, allocates nothing, and needs memcpy and memset alone. What a call
+ * answers and writes is proved for every input.
+ *
+ * LENT MEMORY. A table is lent as a pointer and then the number of its entries (of bytes where the entries are bytes). A call reads what is const
+ * and writes the rest. Until it returns, the host sees to it that
  *   - each pointer is aligned and not null, with length 0 too, and has as many entries as it says;
- *   - what the call writes overlaps nothing else that it is lent, and no other thread touches it;
- *   - a bool is 0 or 1; so a new record is { 0 }.
- * Nothing else is asked. Counts, positions, clocks and entries may have any value; a table may be too short (17), or longer than needed, and then
- * its tail is kept. A refusal leaves every lent table as it was and gives back the run record that it was handed, but for a refused start.
+ *   - what the call writes overlaps nothing else that it is lent, and no other thread touches it meanwhile; what it reads, any thread may read;
+ *   - the three bools of the run record are 0 or 1 when it is lent to ask and to report. A start writes every field of the record and reads none, so
+ *     it may be made over any bytes; after it, accepted or refused, they are, as long as the host does not write the record itself.
+ * Nothing else is asked. Counts, positions, clocks and entries may have any value, which is refused if it does not fit. A table may be longer than
+ * needed: its tail is kept. Calls may be made at any time and by several threads at once, each with a run record of its own, all over one plan.
  *
- * Tables lie row by row, the last index fastest. For n actions and L levels they take, in bytes, with the encoder's (9 and 8) and the most (64 and 8):
+ * REFUSALS. Every answer has a refusal (but those of on_time and of boundary, which are plain): its number is 0, accepted, or the first that applies
+ * of those that stand at the call, in that order. With a number other than 0 the call has written nothing, the run record is as it was, and all else
+ * in the answer is 0 or false. One exception: a refused start leaves a record of zero actions, on which ask and report answer 11 until a start is
+ * accepted.
  *
- *   image      uint8_t   6 + n(12 + 6L)         546    3846
- *   order      uint8_t   n                        9      64   the action at each position
- *   limits     int32_t   4nL                    288    2048   by position and level
- *   worst      uint32_t  4nL                    288    2048   by position and level
- *   bounds     int32_t   64nL                  4608   32768   by position, level and length of the coast, 1 to 16
- *   run        record    32                      32      32
- *   in all, to plan and run a cycle            5771   40806
+ * A CYCLE, for profiles of up to 9 actions and 8 levels; encode() is the host's own. host/check compiles and runs these lines as they stand.
  *
- *   durations  uint32_t  4nL                    288    2048   by position and level, for a dry run
- *   given      uint8_t   n                        9      64   by position, from a dry run
- *   marks      uint8_t   n                        9      64   by position, from a dry run
- *   in all, to plan and dry-run a cycle        6045   42950
+ * ---- the loop
+ * #include "nyokazerubi.h"
  *
- *   masks      uint64_t  8n                      72     512   by action, to read and write an image
- *   deadlines  uint32_t  4n                      36     256   by action
- *   averages   uint32_t  4nL                    288    2048   by action and level
- *   worst      uint32_t  4nL                    288    2048   by action and level
- *   in all, with the image                     1230    8710
+ * enum { ACTIONS = 9, TABLE = NYOKAZERUBI_TABLE_ENTRIES(9, 8), BOUNDS = NYOKAZERUBI_BOUNDS_ENTRIES(9, 8) };
+ * static uint8_t order[ACTIONS];
+ * static int32_t limits[TABLE], bounds[BOUNDS];
+ * static uint32_t worst_by_position[TABLE];
  *
- *   trace      uint8_t   5 a record           at most 327675, for a refresh, with an image and room for the new one
+ * uint32_t encode(uint32_t action, uint32_t level); // does the action at the level, answers the clock since the cycle began
  *
- * Stack, as compiled today, in bytes: under 4096 a call, but for the refresh, under 9216, the dry run, under 16384 (of 64 actions), and the dry
- * run from an image, which has its tables there, under 53248.
+ * // Once for a profile.
+ * struct nyokazerubi_planned prepare(const uint8_t *image, size_t bytes) {
+ *     return nyokazerubi_plan(image, bytes, order, ACTIONS, limits, TABLE, worst_by_position, TABLE, bounds, BOUNDS);
+ * }
+ *
+ * // Once for a frame. The number of the refusal, 0 when every action is done; then run->overrun and run->late tell how it went.
+ * uint32_t cycle(struct nyokazerubi_run *run, size_t n, size_t levels) {
+ *     struct nyokazerubi_refusal refusal = nyokazerubi_start(run, n, levels);
+ *     for (size_t i = 0; i < n && refusal.number == NYOKAZERUBI_ACCEPTED; i++) {
+ *         struct nyokazerubi_given given = nyokazerubi_ask(run, order, ACTIONS, limits, TABLE, bounds, BOUNDS);
+ *         if (given.refusal.number != NYOKAZERUBI_ACCEPTED) return given.refusal.number;
+ *         uint32_t clock = encode(given.action, given.level);
+ *         refusal = nyokazerubi_report(run, clock, worst_by_position, TABLE);
+ *     }
+ *     return refusal.number;
+ * }
+ * ---- the end of the loop
+ *
+ * GLOSSARY. Position i is the i-th action in the order that the plan found; t is the last reported clock, 0 at the start of a cycle.
+ *   limit     The last t at which a level may be given at a position, so that every deadline to come can still be met, whatever the action takes
+ *             within its worst time. The highest level whose limit is not below t is given. A limit may be negative: that level is never given there.
+ *   coast     Up to 16 actions with one decision: they get its level without looking at t, where no durations within worst could change it.
+ *   decided   The answer was worked out at this asking (true) or belongs to a coast (false). The record counts the decided ones.
+ *   late      No level's limit reaches t, so that level 0 is given and a deadline may be missed. It happens only after an overrun, or with tables
+ *             that are not the plan of the profile. The host goes on, since level 0 is the fastest there is, or drops the frame and starts the next
+ *             cycle. In an answer late is of that decision, and false in a coast; in the record it stays to the end of the cycle.
+ *   overrun   An action took longer than its worst time at its level. The report is accepted, the rest of the coast is cancelled, so that the next
+ *             asking decides anew, and the record's mark stays to the end of the cycle. For the rest of it deadlines are not promised. The host goes
+ *             on; a worst time that is overrun is wrong, and the profile wants a higher one.
+ * After a refused report the record is as it was: the action still counts as running, so the host reports again with the right clock (12, 13) or the
+ * whole table (17). With 11 no action was running: it asks first, or starts. A cycle may be given up at any point by starting the next one.
+ *
+ * IMAGE, high bits and bytes first. As one number h of 48 bits, its first 6 bytes are
+ *   h >> 44                  version, 1
+ *   h >> 37 & 0x7f           n, the number of actions, 1 to 64
+ *   h >> 33 & 0xf            L, the number of levels, 1 to 8
+ *   h >> 3 & 0x3fffffff      cycle, the length of a cycle, 1 to 1073741823
+ *   h & 7                    spare, 0
+ * Then n records of 12 + 6L bytes, action 0 first; that of action a begins at byte 6 + a(12 + 6L):
+ *   8 bytes                  mask: the bit worth 1 << b says that action b comes before action a
+ *   4 bytes, a number w      w >> 2 is the deadline, at most the cycle; w & 3 is spare, 0. Deadline 0 stands for the cycle, and is kept as 0 by
+ *                            reading, writing and refreshing
+ *   6 bytes for each level   from 0 up: average 3 bytes, worst 3 bytes. At each level average is at most worst; neither falls as the level rises
+ * Times, deadlines and clocks are in one unit of the host's choice. Deadlines count from the start of the cycle, and are of the action's end.
+ *
+ * TRACE, for new averages: records of 5 bytes, each a number e of 40 bits, high byte first:
+ *   e >> 39                  open: 1 if it was measured while the platform was open, and counts; 0 if closed: it is checked, and not counted
+ *   e >> 33 & 0x3f           action
+ *   e >> 30 & 7              level
+ *   e & 0x3fffffff           duration
+ *
+ * MEMORY. Tables lie row by row, the last index fastest. For n actions and L levels they take, in bytes, with the encoder's (9 and 8) and the most
+ * (64 and 8):
+ *
+ *   image              uint8_t   6 + n(12 + 6L)     546    3846
+ *   order              uint8_t   n                    9      64   the action at each position
+ *   limits             int32_t   4nL                288    2048   by position and level
+ *   worst_by_position  uint32_t  4nL                288    2048   by position and level
+ *   bounds             int32_t   64nL              4608   32768   by position, level and length of the coast, 1 to 16
+ *   run                record    32                  32      32
+ *   in all, to plan and run a cycle                5771   40806
+ *
+ *   durations          uint32_t  4nL                288    2048   by position and level, for a dry run
+ *   given              uint8_t   n                    9      64   by position, from a dry run
+ *   marks              uint8_t   n                    9      64   by position, from a dry run
+ *   in all, to plan and dry-run a cycle            6045   42950
+ *
+ *   masks              uint64_t  8n                  72     512   by action, to read and write an image
+ *   deadlines          uint32_t  4n                  36     256   by action
+ *   averages           uint32_t  4nL                288    2048   by action and level
+ *   worst_by_action    uint32_t  4nL                288    2048   by action and level
+ *   in all, with the image                         1230    8710
+ *
+ *   trace              uint8_t   5 a record         at most 327675, for a refresh, with an image and room for the new one
+ *
+ * STACK. NYOKAZERUBI_STACK_... below has the most bytes that a call takes for any input, besides what memcpy and memset take. host/check works
+ * them out from the archive's own code and holds the header to them.
  */
 #ifndef NYOKAZERUBI_H
 #define NYOKAZERUBI_H
@@ -49,39 +122,53 @@
 extern "C" {
 #endif
 
+/* The version of this boundary, and that of the archive that is linked: a host compares them once. */
+#define NYOKAZERUBI_BOUNDARY 1u
+uint32_t nyokazerubi_boundary(void);
+
 #define NYOKAZERUBI_MOST_ACTIONS 64
 #define NYOKAZERUBI_MOST_LEVELS 8
 #define NYOKAZERUBI_LONGEST_COAST 16
 #define NYOKAZERUBI_MOST_RECORDS 65535
-#define NYOKAZERUBI_LAST_CLOCK 1073741823u
-#define NYOKAZERUBI_LONGEST_TIME 16777215u
+#define NYOKAZERUBI_LAST_CLOCK 1073741823u   /* the longest cycle, the latest deadline, the latest clock */
+#define NYOKAZERUBI_LONGEST_TIME 16777215u   /* the longest average, worst time and duration of a dry run */
+#define NYOKAZERUBI_ABSENT_BOUND INT32_MIN   /* the coast bound where a coast would go past the last position */
 
-/* the bytes of an image, and the entries of the limits and of the coast bounds */
-#define NYOKAZERUBI_IMAGE(n, levels) (6u + (size_t)(n) * (12u + 6u * (size_t)(levels)))
-#define NYOKAZERUBI_CELLS(n, levels) ((size_t)(n) * (size_t)(levels))
-#define NYOKAZERUBI_BOUNDS(n, levels) (16u * NYOKAZERUBI_CELLS(n, levels))
+/* Stack in bytes: of start, ask and report; of the refresh; of the dry run; of the dry run from an image, whose tables lie there; of any other. */
+#define NYOKAZERUBI_STACK_RUN 512
+#define NYOKAZERUBI_STACK_REFRESH 10240
+#define NYOKAZERUBI_STACK_DRY_RUN 16384
+#define NYOKAZERUBI_STACK_DRY_FRAME 57344
+#define NYOKAZERUBI_STACK_OTHER 4096
 
-/* the numbers of refusal */
+/* The bytes of an image; the entries of limits, durations, averages and both tables of worst times; the entries of the coast bounds; the bytes of
+ * a trace. */
+#define NYOKAZERUBI_IMAGE_BYTES(n, levels) ((size_t)6 + (size_t)(n) * ((size_t)12 + (size_t)6 * (size_t)(levels)))
+#define NYOKAZERUBI_TABLE_ENTRIES(n, levels) ((size_t)(n) * (size_t)(levels))
+#define NYOKAZERUBI_BOUNDS_ENTRIES(n, levels) ((size_t)NYOKAZERUBI_LONGEST_COAST * NYOKAZERUBI_TABLE_ENTRIES(n, levels))
+#define NYOKAZERUBI_TRACE_BYTES(records) ((size_t)5 * (size_t)(records))
+
+/* The numbers of refusal. */
 enum {
     NYOKAZERUBI_ACCEPTED = 0,
-    NYOKAZERUBI_SHORT = 1,     /* image under 6 bytes */
-    NYOKAZERUBI_VERSION = 2,   /* version is not 1 */
-    NYOKAZERUBI_COUNT = 3,     /* n, L or cycle outside its range */
-    NYOKAZERUBI_LENGTH = 4,    /* image length differs from the formula */
-    NYOKAZERUBI_SPARE = 5,     /* a spare bit is set */
-    NYOKAZERUBI_RANGE = 6,     /* deadline above the cycle, or a mask names an absent action; on writing, a time above 16777215 */
-    NYOKAZERUBI_TABLE = 7,     /* average above worst, or a time that falls with the level */
-    NYOKAZERUBI_LOOP = 8,      /* the masks contain a loop */
-    NYOKAZERUBI_UNFIT = 9,     /* no permitted order meets all deadlines at level 0 worst times */
-    NYOKAZERUBI_FINISHED = 10, /* a level is asked for, all actions done */
-    NYOKAZERUBI_TURN = 11,     /* asked while an action runs, reported while none runs, or a record with a field outside its range */
-    NYOKAZERUBI_BACK = 12,     /* clock below the last accepted one */
-    NYOKAZERUBI_CLOCK = 13,    /* clock above 1073741823 */
-    NYOKAZERUBI_TRACE = 14,    /* length not a multiple of 5, or over 65535 records */
-    NYOKAZERUBI_NAME = 15,     /* trace record or lookup names an absent action or level */
-    NYOKAZERUBI_DURATION = 16, /* trace record longer than that worst time; dry run entry above 16777215 */
-    NYOKAZERUBI_ROOM = 17,     /* a lent table shorter than needed */
-    NYOKAZERUBI_READING = 18   /* speed reading with first position above last, or a position or level absent */
+    NYOKAZERUBI_REFUSED_SHORT = 1,     /* image under 6 bytes */
+    NYOKAZERUBI_REFUSED_VERSION = 2,   /* version is not 1 */
+    NYOKAZERUBI_REFUSED_COUNT = 3,     /* n, L or cycle outside its range */
+    NYOKAZERUBI_REFUSED_LENGTH = 4,    /* image length differs from 6 + n(12 + 6L) */
+    NYOKAZERUBI_REFUSED_SPARE = 5,     /* a spare bit is set */
+    NYOKAZERUBI_REFUSED_RANGE = 6,     /* deadline above the cycle, or a mask names an absent action; on writing, a time above 16777215 */
+    NYOKAZERUBI_REFUSED_TABLE = 7,     /* average above worst, or a time that falls with the level */
+    NYOKAZERUBI_REFUSED_LOOP = 8,      /* the masks contain a loop, a single action included */
+    NYOKAZERUBI_REFUSED_UNFIT = 9,     /* no permitted order meets all deadlines at level 0 worst times */
+    NYOKAZERUBI_REFUSED_FINISHED = 10, /* a level is asked for, all actions done */
+    NYOKAZERUBI_REFUSED_TURN = 11,     /* asked while an action runs, reported while none runs, or a record with a field outside its range */
+    NYOKAZERUBI_REFUSED_BACK = 12,     /* clock below the last accepted one */
+    NYOKAZERUBI_REFUSED_CLOCK = 13,    /* clock above 1073741823 */
+    NYOKAZERUBI_REFUSED_TRACE = 14,    /* length not a multiple of 5, or over 65535 records */
+    NYOKAZERUBI_REFUSED_NAME = 15,     /* trace record or lookup names an absent action or level */
+    NYOKAZERUBI_REFUSED_DURATION = 16, /* trace record longer than that worst time; dry run entry above 16777215 */
+    NYOKAZERUBI_REFUSED_ROOM = 17,     /* a lent table shorter than needed */
+    NYOKAZERUBI_REFUSED_READING = 18   /* speed reading with first position above last, or a position or level absent */
 };
 
 struct nyokazerubi_refusal {
@@ -90,10 +177,9 @@ struct nyokazerubi_refusal {
 
 /* ---- the profile */
 
-/* The check of an image: 1 to 9. Every call on an image makes it first. */
+/* The check of an image: 1 to 9, each over the whole image before the next. Every call on an image makes it first. */
 struct nyokazerubi_refusal nyokazerubi_check(const uint8_t *image, size_t image_length);
 
-/* with a refusal n, levels and cycle are 0 */
 struct nyokazerubi_unpacked {
     struct nyokazerubi_refusal refusal;
     size_t n;
@@ -107,12 +193,11 @@ struct nyokazerubi_unpacked nyokazerubi_read(
     uint64_t *masks, size_t masks_length,
     uint32_t *deadlines, size_t deadlines_length,
     uint32_t *averages, size_t averages_length,
-    uint32_t *worst, size_t worst_length);
+    uint32_t *worst_by_action, size_t worst_by_action_length);
 
-/* with a refusal bytes is 0 */
 struct nyokazerubi_written {
     struct nyokazerubi_refusal refusal;
-    size_t bytes;
+    size_t bytes; /* of the image */
 };
 
 /* Packs the four tables into the image. 3, 17, 6, 7, 8, 9. */
@@ -121,16 +206,15 @@ struct nyokazerubi_written nyokazerubi_write(
     const uint64_t *masks, size_t masks_length,
     const uint32_t *deadlines, size_t deadlines_length,
     const uint32_t *averages, size_t averages_length,
-    const uint32_t *worst, size_t worst_length,
+    const uint32_t *worst_by_action, size_t worst_by_action_length,
     uint8_t *image, size_t image_length);
 
 /* The encoder's profile, 546 bytes. 17. */
 struct nyokazerubi_written nyokazerubi_write_encoder(uint8_t *image, size_t image_length);
 
-/* the action's own part is image + start, length bytes long; with a refusal both are 0 */
 struct nyokazerubi_place {
     struct nyokazerubi_refusal refusal;
-    size_t start;
+    size_t start; /* the action's own part is image + start, length bytes long */
     size_t length;
 };
 
@@ -142,7 +226,6 @@ struct nyokazerubi_refusal nyokazerubi_lookup_refusal(const uint8_t *image, size
 
 /* ---- the plan */
 
-/* with a refusal n, levels and cycle are 0 */
 struct nyokazerubi_planned {
     struct nyokazerubi_refusal refusal;
     size_t n;
@@ -150,84 +233,84 @@ struct nyokazerubi_planned {
     uint32_t cycle;
 };
 
-/* Plans an image: the order, the limits, the worst times by position and the coast bounds (INT32_MIN past the last position). 1 to 9, 17. */
+/* Plans an image: the order, the limits, the worst times by position and the coast bounds. 1 to 9, 17. */
 struct nyokazerubi_planned nyokazerubi_plan(
     const uint8_t *image, size_t image_length,
     uint8_t *order, size_t order_length,
     int32_t *limits, size_t limits_length,
-    uint32_t *worst, size_t worst_length,
+    uint32_t *worst_by_position, size_t worst_by_position_length,
     int32_t *bounds, size_t bounds_length);
 
 /* ---- the run */
 
-/* The run record. The host keeps it, and lends it to start, ask and report; it does not write the fields. */
+/* The run record. The host keeps it and lends it to start, ask and report; it reads the fields, and does not write them. */
 struct nyokazerubi_run {
     uint32_t n;
     uint32_t levels;
-    uint32_t position;
-    uint32_t clock;
-    uint32_t level;
-    uint32_t left; /* of the coast */
+    uint32_t position; /* actions ended, and while one runs its position */
+    uint32_t clock;    /* the last accepted one */
+    uint32_t level;    /* the last given one */
+    uint32_t left;     /* actions left of the coast */
     uint32_t decisions;
     bool running;
-    bool overrun;
-    bool late;
+    bool overrun; /* to the end of the cycle */
+    bool late;    /* to the end of the cycle */
 };
 
-/* with a refusal all else is 0 or false */
 struct nyokazerubi_given {
-    uint32_t refusal;
+    struct nyokazerubi_refusal refusal;
     uint32_t action;
     uint32_t level;
     bool decided;
-    bool late;
+    bool late; /* at this decision; false in a coast */
 };
 
-/* Starts a cycle in the record, whatever it held; zeroed memory is a record. 3, with which it becomes a record of zero actions: each later call on it answers 11. */
-uint32_t nyokazerubi_start(struct nyokazerubi_run *run, uint32_t n, uint32_t levels);
+/* Starts a cycle in the record, whatever bytes it held. 3, which leaves a record of zero actions. */
+struct nyokazerubi_refusal nyokazerubi_start(struct nyokazerubi_run *run, size_t n, size_t levels);
 
-/* The next action and its level; the record says that it runs. 11, 17, 11, 10. */
+/* The next action and its level; from then on it runs. 11 (a field outside its range), 17, 11 (an action runs), 10. */
 struct nyokazerubi_given nyokazerubi_ask(
     struct nyokazerubi_run *run,
     const uint8_t *order, size_t order_length,
     const int32_t *limits, size_t limits_length,
     const int32_t *bounds, size_t bounds_length);
 
-/* The running action ended, by the clock since the cycle began. 11, 17, 11, 12, 13. */
-uint32_t nyokazerubi_report(struct nyokazerubi_run *run, uint32_t clock, const uint32_t *worst, size_t worst_length);
+/* The running action ended, by the clock since the cycle began. Its duration is the clock less the last accepted one, 0 at the start, so that waiting
+ * before the asking is part of it; it may be 0. 11 (a field outside its range), 17, 11 (none runs), 12, 13. */
+struct nyokazerubi_refusal nyokazerubi_report(
+    struct nyokazerubi_run *run, uint32_t clock,
+    const uint32_t *worst_by_position, size_t worst_by_position_length);
 
 /* ---- the dry run */
 
-/* with a refusal all else is 0 or false */
 struct nyokazerubi_dried {
-    uint32_t refusal;
+    struct nyokazerubi_refusal refusal;
     uint32_t decisions;
-    uint32_t end;
+    uint32_t end; /* the clock at the end of the cycle */
     bool overrun;
     bool late;
 };
 
-/* A whole cycle over the planned tables and n by L durations: writes n levels and n decided marks (1 or 0). 3, 17, 16. */
+/* A whole cycle over the planned tables and n by L durations: writes n levels given and n decided marks (1 or 0). 3, 17, 16. */
 struct nyokazerubi_dried nyokazerubi_dry_run(
     size_t n, size_t levels,
     const int32_t *limits, size_t limits_length,
-    const uint32_t *worst, size_t worst_length,
+    const uint32_t *worst_by_position, size_t worst_by_position_length,
     const int32_t *bounds, size_t bounds_length,
     const uint32_t *durations, size_t durations_length,
     uint8_t *given, size_t given_length,
     uint8_t *marks, size_t marks_length);
 
-/* with a refusal all else is 0 or false */
 struct nyokazerubi_framed {
     struct nyokazerubi_refusal refusal;
     size_t n;
     uint32_t decisions;
-    uint32_t end;
+    uint32_t end; /* the clock at the end of the cycle */
     bool overrun;
     bool late;
 };
 
-/* The same from an image, which it plans into tables of its own: writes the order, n levels and n decided marks. 1 to 9, 17, 16. */
+/* The same from an image, which it plans into tables of its own: writes the order, n levels given and n decided marks. 1 to 9, 17, 16. */
 struct nyokazerubi_framed nyokazerubi_dry_frame(
     const uint8_t *image, size_t image_length,
     const uint32_t *durations, size_t durations_length,
@@ -237,14 +320,14 @@ struct nyokazerubi_framed nyokazerubi_dry_frame(
 
 /* ---- the speed reading */
 
-/* with a refusal, or spent, the ratio is 0 */
 struct nyokazerubi_reading {
-    uint32_t refusal;
-    bool spent;
-    double ratio;
+    struct nyokazerubi_refusal refusal;
+    bool spent;   /* no time is left for these positions */
+    double ratio; /* 0 when spent */
 };
 
-/* How fast positions first to last must run at the level from time t to end in time. 1 to 9, 18, 13. */
+/* The speed that positions first to last need at the level from time t on, to end in time: their average time over what is left for it up to the
+ * deadline of the last one, less a margin for worst times. At most 1 is on time. 1 to 9, 18, 13. */
 struct nyokazerubi_reading nyokazerubi_speed_reading(
     const uint8_t *image, size_t image_length, size_t first, size_t last, size_t level, uint32_t t);
 
@@ -253,13 +336,13 @@ bool nyokazerubi_on_time(const uint8_t *image, size_t image_length, size_t first
 
 /* ---- refreshing averages */
 
-/* with a refusal bytes is 0 */
 struct nyokazerubi_refreshed {
     struct nyokazerubi_refusal refusal;
-    size_t bytes;
+    size_t bytes; /* of the image written */
 };
 
-/* Writes to out the image with new averages by the trace. 1 to 9, 14, record by record 15 before 16, 17. */
+/* Writes to out the image with new averages by the trace: the mean of the open records of an action and level, rounded down, the old one where there
+ * are none; then none falls with the level. 1 to 9, 14, record by record 15 before 16, 17. */
 struct nyokazerubi_refreshed nyokazerubi_refresh(
     const uint8_t *image, size_t image_length,
     const uint8_t *trace, size_t trace_length,

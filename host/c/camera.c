@@ -8,6 +8,7 @@
 
 /* The record is laid out as other hosts have it. */
 _Static_assert(sizeof(struct nyokazerubi_refusal) == 4, "refusal");
+_Static_assert(sizeof(struct nyokazerubi_run) == 32, "run");
 _Static_assert(sizeof(struct nyokazerubi_given) == 16, "given");
 _Static_assert(sizeof(struct nyokazerubi_dried) == 16, "dried");
 _Static_assert(sizeof(struct nyokazerubi_reading) == 16, "reading");
@@ -44,14 +45,14 @@ static uint32_t duration(struct camera *camera, uint32_t worst) {
 }
 
 static void profile(struct camera *camera) {
-    camera->bytes = NYOKAZERUBI_IMAGE(9, 8);
+    camera->bytes = NYOKAZERUBI_IMAGE_BYTES(9, 8);
     camera->image = lend(camera->bytes);
-    hold(nyokazerubi_write_encoder(camera->image, camera->bytes - 1).refusal.number == NYOKAZERUBI_ROOM, "no room");
+    hold(nyokazerubi_write_encoder(camera->image, camera->bytes - 1).refusal.number == NYOKAZERUBI_REFUSED_ROOM, "no room");
     hold(camera->image[0] == 0xa5, "a refusal writes nothing");
     struct nyokazerubi_written written = nyokazerubi_write_encoder(camera->image, camera->bytes);
     hold(written.refusal.number == 0 && written.bytes == 546, "the encoder's profile");
     hold(nyokazerubi_check(camera->image, camera->bytes).number == 0, "it is accepted");
-    hold(nyokazerubi_check(camera->image, camera->bytes - 1).number == NYOKAZERUBI_LENGTH, "one byte less is not");
+    hold(nyokazerubi_check(camera->image, camera->bytes - 1).number == NYOKAZERUBI_REFUSED_LENGTH, "one byte less is not");
 
     /* Reading and writing back. */
     uint64_t *masks = lend(9 * sizeof *masks);
@@ -68,8 +69,8 @@ static void profile(struct camera *camera) {
     /* Motion's own part, uncopied, and an action that is absent. */
     struct nyokazerubi_place motion = nyokazerubi_lookup(camera->image, camera->bytes, 1);
     hold(motion.refusal.number == 0 && motion.start == 66 && motion.length == 60, "motion's part");
-    hold(nyokazerubi_lookup(camera->image, camera->bytes, 9).refusal.number == NYOKAZERUBI_NAME, "no tenth action");
-    hold(nyokazerubi_lookup_refusal(camera->image, camera->bytes, 9).number == NYOKAZERUBI_NAME, "nor here");
+    hold(nyokazerubi_lookup(camera->image, camera->bytes, 9).refusal.number == NYOKAZERUBI_REFUSED_NAME, "no tenth action");
+    hold(nyokazerubi_lookup_refusal(camera->image, camera->bytes, 9).number == NYOKAZERUBI_REFUSED_NAME, "nor here");
     free(masks), free(deadlines), free(averages), free(worst), free(again);
 }
 
@@ -77,27 +78,27 @@ static void plan(struct camera *camera) {
     camera->order = lend(9);
     camera->limits = lend(72 * sizeof *camera->limits);
     camera->worst = lend(72 * sizeof *camera->worst);
-    camera->bounds = lend(NYOKAZERUBI_BOUNDS(9, 8) * sizeof *camera->bounds);
+    camera->bounds = lend(NYOKAZERUBI_BOUNDS_ENTRIES(9, 8) * sizeof *camera->bounds);
     struct nyokazerubi_planned planned =
         nyokazerubi_plan(camera->image, camera->bytes, camera->order, 9, camera->limits, 72, camera->worst, 72,
-                         camera->bounds, NYOKAZERUBI_BOUNDS(9, 8));
+                         camera->bounds, NYOKAZERUBI_BOUNDS_ENTRIES(9, 8));
     hold(planned.refusal.number == 0 && planned.cycle == 320000, "it is planned");
     camera->n = planned.n;
     camera->levels = planned.levels;
-    camera->cells = NYOKAZERUBI_CELLS(planned.n, planned.levels);
+    camera->cells = NYOKAZERUBI_TABLE_ENTRIES(planned.n, planned.levels);
     hold(camera->limits[8] == 168000 && camera->limits[9] == 69000 && camera->limits[10] == -31000, "limits at position 1");
 }
 
 /* One cycle; keeps the durations met for a dry run, and records of a trace. */
 static void cycle(struct camera *camera, uint32_t *durations, uint8_t *trace) {
     struct nyokazerubi_run *run = &camera->run;
-    hold(nyokazerubi_start(run, (uint32_t)camera->n, (uint32_t)camera->levels) == 0, "a start");
+    hold(nyokazerubi_start(run, camera->n, camera->levels).number == 0, "a start");
     uint32_t clock = 0;
     for (size_t i = 0; i < camera->n; i++) {
         struct nyokazerubi_run before = *run;
         struct nyokazerubi_given given = nyokazerubi_ask(run, camera->order, camera->n, camera->limits, camera->cells,
                                                          camera->bounds, 16 * camera->cells);
-        hold(given.refusal == 0 && given.action == camera->order[i] && given.level < camera->levels, "an action");
+        hold(given.refusal.number == 0 && given.action == camera->order[i] && given.level < camera->levels, "an action");
         hold(!given.late && run->running && run->position == i, "in time");
         hold(run->decisions == before.decisions + (given.decided ? 1 : 0), "its decision");
 
@@ -109,15 +110,15 @@ static void cycle(struct camera *camera, uint32_t *durations, uint8_t *trace) {
         for (int b = 0; b < 5; b++) trace[5 * i + (size_t)b] = (uint8_t)(record >> (32 - 8 * b));
         clock += took;
         before = *run;
-        hold(nyokazerubi_report(run, clock, camera->worst, camera->cells) == 0, "its end");
+        hold(nyokazerubi_report(run, clock, camera->worst, camera->cells).number == 0, "its end");
         hold(run->position == before.position + 1, "the next position");
         hold(run->clock == clock && !run->running && !run->overrun, "the record");
     }
     hold(clock <= 320000, "no deadline is missed");
     struct nyokazerubi_given over = nyokazerubi_ask(run, camera->order, camera->n, camera->limits, camera->cells,
                                                     camera->bounds, 16 * camera->cells);
-    hold(over.refusal == NYOKAZERUBI_FINISHED, "the cycle is over");
-    hold(nyokazerubi_report(run, clock, camera->worst, camera->cells) == NYOKAZERUBI_TURN, "none runs");
+    hold(over.refusal.number == NYOKAZERUBI_REFUSED_FINISHED, "the cycle is over");
+    hold(nyokazerubi_report(run, clock, camera->worst, camera->cells).number == NYOKAZERUBI_REFUSED_TURN, "none runs");
     printf("%u decisions, end %u\n", run->decisions, run->clock);
 }
 
@@ -127,7 +128,7 @@ static void dry(const struct camera *camera, const uint32_t *durations) {
     struct nyokazerubi_dried dried =
         nyokazerubi_dry_run(camera->n, camera->levels, camera->limits, camera->cells, camera->worst, camera->cells,
                             camera->bounds, 16 * camera->cells, durations, camera->cells, given, camera->n, marks, camera->n);
-    hold(dried.refusal == 0 && dried.decisions == camera->run.decisions && dried.end == camera->run.clock, "the dry run");
+    hold(dried.refusal.number == 0 && dried.decisions == camera->run.decisions && dried.end == camera->run.clock, "the dry run");
     hold(!dried.overrun && !dried.late && marks[0] == 1, "its marks");
     uint8_t *order = lend(camera->n);
     struct nyokazerubi_framed framed = nyokazerubi_dry_frame(camera->image, camera->bytes, durations, camera->cells, order,
@@ -141,7 +142,7 @@ static void dry(const struct camera *camera, const uint32_t *durations) {
 static void refresh(struct camera *camera, const uint8_t *trace, size_t length) {
     uint8_t *fresh = lend(camera->bytes);
     hold(nyokazerubi_refresh(camera->image, camera->bytes, trace, length - 1, fresh, camera->bytes).refusal.number ==
-             NYOKAZERUBI_TRACE,
+             NYOKAZERUBI_REFUSED_TRACE,
          "a record cut short");
     struct nyokazerubi_refreshed refreshed =
         nyokazerubi_refresh(camera->image, camera->bytes, trace, length, fresh, camera->bytes);
@@ -152,16 +153,17 @@ static void refresh(struct camera *camera, const uint8_t *trace, size_t length) 
 
 static void readings(const struct camera *camera) {
     struct nyokazerubi_reading reading = nyokazerubi_speed_reading(camera->image, camera->bytes, 0, 8, 0, 0);
-    hold(reading.refusal == 0 && !reading.spent && reading.ratio > 0 && reading.ratio < 1, "time is left at level 0");
+    hold(reading.refusal.number == 0 && !reading.spent && reading.ratio > 0 && reading.ratio < 1, "time is left at level 0");
     hold(nyokazerubi_on_time(camera->image, camera->bytes, 0, 8, 0, 0), "so it is on time");
     reading = nyokazerubi_speed_reading(camera->image, camera->bytes, 0, 8, 0, 320000);
-    hold(reading.refusal == 0 && reading.spent, "at the end it is spent");
+    hold(reading.refusal.number == 0 && reading.spent, "at the end it is spent");
     reading = nyokazerubi_speed_reading(camera->image, camera->bytes, 0, 9, 0, 0);
-    hold(reading.refusal == NYOKAZERUBI_READING, "no tenth position");
+    hold(reading.refusal.number == NYOKAZERUBI_REFUSED_READING, "no tenth position");
 }
 
 int main(void) {
     struct camera camera = {.seed = 1};
+    hold(nyokazerubi_boundary() == NYOKAZERUBI_BOUNDARY, "the archive is of this header");
     profile(&camera);
     plan(&camera);
     uint32_t *durations = lend(camera.cells * sizeof *durations);
@@ -174,9 +176,10 @@ int main(void) {
     readings(&camera);
 
     /* A refused start, and a call on its record. */
-    hold(nyokazerubi_start(&camera.run, 65, 8) == NYOKAZERUBI_COUNT && camera.run.n == 0, "65 actions");
-    hold(nyokazerubi_start(&camera.run, 9, 9) == NYOKAZERUBI_COUNT && camera.run.n == 0, "9 levels");
-    hold(nyokazerubi_report(&camera.run, 0, camera.worst, camera.cells) == NYOKAZERUBI_TURN, "a record of zero actions");
+    hold(nyokazerubi_start(&camera.run, 65, 8).number == NYOKAZERUBI_REFUSED_COUNT && camera.run.n == 0, "65 actions");
+    hold(nyokazerubi_start(&camera.run, 9, 9).number == NYOKAZERUBI_REFUSED_COUNT && camera.run.n == 0, "9 levels");
+    hold(nyokazerubi_start(&camera.run, (size_t)-1, 8).number == NYOKAZERUBI_REFUSED_COUNT && camera.run.n == 0, "all of a size_t");
+    hold(nyokazerubi_report(&camera.run, 0, camera.worst, camera.cells).number == NYOKAZERUBI_REFUSED_TURN, "a record of zero actions");
     free(durations), free(trace), free(camera.image), free(camera.order), free(camera.limits), free(camera.worst), free(camera.bounds);
     printf("every answer is as it must be\n");
     return 0;

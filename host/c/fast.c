@@ -64,10 +64,10 @@ typedef struct {
     uint32_t n, levels, cycle, stride;
 } shape;
 
-static inline bool shape_fits(uint32_t n, uint32_t levels) { return n - 1 < 64 && levels - 1 < 8; }
+static inline bool shape_fits(size_t n, size_t levels) { return n - 1 < 64 && levels - 1 < 8; }
 
-static inline bool make_shape(shape *s, uint32_t n, uint32_t levels, uint32_t cycle) {
-    *s = (shape){n, levels, cycle, 12 + 6 * levels};
+static inline bool make_shape(shape *s, size_t n, size_t levels, uint32_t cycle) {
+    *s = (shape){(uint32_t)n, (uint32_t)levels, cycle, 12 + 6 * (uint32_t)levels};
     return shape_fits(n, levels) && cycle - 1 < LAST_CLOCK;
 }
 
@@ -319,18 +319,18 @@ static uint32_t judge(const shape *s, const uint64_t *masks, const uint32_t *dea
     return arrange(&of, s->n, order);
 }
 
-uint32_t fast_write(uint32_t n, uint32_t levels, uint32_t cycle, const uint64_t *restrict masks, size_t masks_room,
+uint32_t fast_write(size_t n, size_t levels, uint32_t cycle, const uint64_t *restrict masks, size_t masks_room,
                     const uint32_t *restrict deadlines, size_t deadlines_room, const uint32_t *restrict averages,
                     size_t averages_room, const uint32_t *restrict worst, size_t worst_room, uint8_t *restrict image,
                     size_t room, size_t *written) {
     shape s;
     if (!make_shape(&s, n, levels, cycle)) return COUNT;
-    size_t cells = (size_t)n * levels, bytes = shape_bytes(&s);
+    size_t cells = n * levels, bytes = shape_bytes(&s);
     if (masks_room < n || deadlines_room < n || averages_room < cells || worst_room < cells || room < bytes)
         return ROOM;
     uint32_t refusal = judge(&s, masks, deadlines, averages, worst);
     if (refusal) return refusal;
-    put32(image, UINT32_C(1) << 28 | n << 21 | levels << 17 | cycle >> 13);
+    put32(image, UINT32_C(1) << 28 | s.n << 21 | s.levels << 17 | cycle >> 13);
     image[4] = (uint8_t)(cycle >> 5);
     image[5] = (uint8_t)(cycle << 3);
     uint8_t *at = image + 6;
@@ -349,12 +349,12 @@ uint32_t fast_write(uint32_t n, uint32_t levels, uint32_t cycle, const uint64_t 
     return 0;
 }
 
-uint32_t fast_lookup(const uint8_t *image, size_t length, uint32_t action, const uint8_t **part, size_t *part_length) {
+uint32_t fast_lookup(const uint8_t *image, size_t length, size_t action, const uint8_t **part, size_t *part_length) {
     shape s;
     uint8_t order[64];
     uint32_t refusal = examine(image, length, &s, order);
     if (!refusal && action >= s.n) refusal = NAME;
-    *part = refusal ? image : record_of(&s, image, action);
+    *part = refusal ? image : record_of(&s, image, (uint32_t)action);
     *part_length = refusal ? 0 : s.stride;
     return refusal;
 }
@@ -392,14 +392,14 @@ static void last_coast_row(int32_t limit, int32_t *bounds) {
 
 uint32_t fast_plan(const uint8_t *image, size_t length, uint8_t *restrict order, size_t order_room,
                    int32_t *restrict limits, size_t limits_room, uint32_t *restrict worst, size_t worst_room,
-                   int32_t *restrict coasts, size_t coasts_room, fast_counts *counts) {
+                   int32_t *restrict bounds, size_t bounds_room, fast_counts *counts) {
     shape s;
     uint8_t arranged[64];
     uint32_t refusal = examine(image, length, &s, arranged);
     if (refusal) return refusal;
     uint32_t levels = s.levels;
     size_t cells = (size_t)s.n * levels;
-    if (order_room < s.n || limits_room < cells || worst_room < cells || coasts_room < cells * COAST) return ROOM;
+    if (order_room < s.n || limits_room < cells || worst_room < cells || bounds_room < cells * COAST) return ROOM;
     memcpy(order, arranged, s.n);
 
     /* limit(i,q) = min(min(deadline(i), limit(i+1,0)) - worst(i,q), limit(i+1,q) - average(i,q)); none past the end. */
@@ -419,11 +419,11 @@ uint32_t fast_plan(const uint8_t *image, size_t length, uint8_t *restrict order,
             after[q] = limit;
             limits[row + q] = limit;
             worst[row + q] = (uint32_t)longest;
-            int32_t *bounds = coasts + (row + q) * COAST;
+            int32_t *cell = bounds + (row + q) * COAST;
             if (i + 1 < s.n)
-                coast_row(limit, longest, bounds + levels * COAST, bounds);
+                coast_row(limit, longest, cell + levels * COAST, cell);
             else
-                last_coast_row(limit, bounds);
+                last_coast_row(limit, cell);
         }
     }
     *counts = (fast_counts){s.n, levels, s.cycle};
@@ -436,7 +436,7 @@ static inline bool in_range(const fast_run *run) {
     /* 64-bit sums: any field may hold any value. */
     uint64_t reached = (uint64_t)run->position + run->running;
     return shape_fits(run->n, run->levels) && reached <= run->n && run->clock <= LAST_CLOCK &&
-           run->level < run->levels && run->coast_left <= 15 && run->coast_left + reached <= run->n &&
+           run->level < run->levels && run->left <= 15 && run->left + reached <= run->n &&
            run->decisions <= reached;
 }
 
@@ -446,13 +446,13 @@ typedef struct {
 } decision;
 
 /* Limits and coast bounds from a position on, of `rows` positions in all. */
-static inline decision decide(uint32_t levels, uint32_t rows, const int32_t *limits, const int32_t *coasts, uint32_t clock) {
+static inline decision decide(uint32_t levels, uint32_t rows, const int32_t *limits, const int32_t *rows_bounds, uint32_t clock) {
     int32_t t = (int32_t)clock;
     decision d = {levels, 1, false};
     while (d.level > 0 && t > limits[d.level - 1]) d.level--;
     d.late = d.level == 0;
     d.level -= !d.late;
-    const int32_t *bounds = coasts + d.level * COAST;
+    const int32_t *bounds = rows_bounds + d.level * COAST;
     uint32_t most = rows < COAST ? rows : COAST;
     if (d.level + 1 == levels) {
         while (most > 1 && t > bounds[most - 1]) most--;
@@ -466,36 +466,36 @@ static inline decision decide(uint32_t levels, uint32_t rows, const int32_t *lim
     return d;
 }
 
-uint32_t fast_start(fast_run *run, uint32_t n, uint32_t levels) {
+uint32_t fast_start(fast_run *run, size_t n, size_t levels) {
     if (!shape_fits(n, levels)) {
         *run = (fast_run){0};
         return COUNT;
     }
-    *run = (fast_run){.n = n, .levels = levels};
+    *run = (fast_run){.n = (uint32_t)n, .levels = (uint32_t)levels};
     return 0;
 }
 
 uint32_t fast_ask(fast_run *run, const uint8_t *order, size_t order_room, const int32_t *limits, size_t limits_room,
-                  const int32_t *coasts, size_t coasts_room, fast_asked *asked) {
+                  const int32_t *bounds, size_t bounds_room, fast_given *given) {
     if (!in_range(run)) return TURN;
     size_t cells = (size_t)run->n * run->levels;
-    if (order_room < run->n || limits_room < cells || coasts_room < cells * COAST) return ROOM;
+    if (order_room < run->n || limits_room < cells || bounds_room < cells * COAST) return ROOM;
     if (run->running) return TURN;
     if (run->position == run->n) return FINISHED;
     uint32_t action = order[run->position];
     run->running = true;
-    if (run->coast_left > 0) {
-        run->coast_left--;
-        *asked = (fast_asked){action, run->level, false, false};
+    if (run->left > 0) {
+        run->left--;
+        *given = (fast_given){action, run->level, false, false};
         return 0;
     }
     size_t row = (size_t)run->position * run->levels;
-    decision d = decide(run->levels, run->n - run->position, limits + row, coasts + row * COAST, run->clock);
+    decision d = decide(run->levels, run->n - run->position, limits + row, bounds + row * COAST, run->clock);
     run->level = d.level;
-    run->coast_left = d.grant - 1;
+    run->left = d.grant - 1;
     run->decisions++;
     run->late |= d.late;
-    *asked = (fast_asked){action, d.level, true, d.late};
+    *given = (fast_given){action, d.level, true, d.late};
     return 0;
 }
 
@@ -507,7 +507,7 @@ uint32_t fast_report(fast_run *run, uint32_t clock, const uint32_t *worst, size_
     if (clock > LAST_CLOCK) return CLOCK;
     if (clock - run->clock > worst[(size_t)run->position * run->levels + run->level]) {
         run->overrun = true;
-        run->coast_left = 0;
+        run->left = 0;
     }
     run->position++;
     run->clock = clock;
@@ -515,22 +515,22 @@ uint32_t fast_report(fast_run *run, uint32_t clock, const uint32_t *worst, size_
     return 0;
 }
 
-uint32_t fast_dry_run(uint32_t n, uint32_t levels, const int32_t *limits, size_t limits_room, const uint32_t *worst,
-                      size_t worst_room, const int32_t *coasts, size_t coasts_room, const uint32_t *durations,
-                      size_t durations_room, uint8_t *restrict given, size_t given_room, uint8_t *restrict decided,
-                      size_t decided_room, fast_cycle *cycle) {
+uint32_t fast_dry_run(size_t n, size_t levels, const int32_t *limits, size_t limits_room, const uint32_t *worst,
+                      size_t worst_room, const int32_t *bounds, size_t bounds_room, const uint32_t *durations,
+                      size_t durations_room, uint8_t *restrict given, size_t given_room, uint8_t *restrict marks,
+                      size_t marks_room, fast_dried *dried) {
     if (!shape_fits(n, levels)) return COUNT;
-    size_t cells = (size_t)n * levels;
-    if (limits_room < cells || worst_room < cells || coasts_room < cells * COAST || durations_room < cells ||
-        given_room < n || decided_room < n)
+    size_t cells = n * levels;
+    if (limits_room < cells || worst_room < cells || bounds_room < cells * COAST || durations_room < cells ||
+        given_room < n || marks_room < n)
         return ROOM;
     uint32_t all = 0;
     for (size_t cell = 0; cell < cells; cell++) all |= durations[cell];
     if (all > LAST_TIME) return DURATION;
-    fast_cycle c = {0};
+    fast_dried c = {0};
     for (uint32_t i = 0; i < n;) {
         size_t row = (size_t)i * levels;
-        decision d = decide(levels, n - i, limits + row, coasts + row * COAST, c.end);
+        decision d = decide((uint32_t)levels, (uint32_t)n - i, limits + row, bounds + row * COAST, c.end);
         c.decisions++;
         c.late |= d.late;
         uint8_t mark = 1;
@@ -538,7 +538,7 @@ uint32_t fast_dry_run(uint32_t n, uint32_t levels, const int32_t *limits, size_t
         for (uint32_t left = d.grant; left > 0; left--, i++) {
             size_t cell = (size_t)i * levels + d.level;
             given[i] = (uint8_t)d.level;
-            decided[i] = mark;
+            marks[i] = mark;
             mark = 0;
             c.end += durations[cell];
             if (durations[cell] > worst[cell]) {
@@ -547,32 +547,32 @@ uint32_t fast_dry_run(uint32_t n, uint32_t levels, const int32_t *limits, size_t
             }
         }
     }
-    *cycle = c;
+    *dried = c;
     return 0;
 }
 
 /* ---- Speed reading ---- */
 
-uint32_t fast_reading(const uint8_t *image, size_t length, uint32_t first, uint32_t last, uint32_t level,
-                      uint32_t time, double *ratio) {
+uint32_t fast_speed_reading(const uint8_t *image, size_t length, size_t first, size_t last, size_t level,
+                            uint32_t t, double *ratio) {
     shape s;
     uint8_t order[64];
     uint32_t refusal = examine(image, length, &s, order);
     if (refusal) return refusal;
     if (first > last || last >= s.n || level >= s.levels) return READING;
-    if (time > LAST_CLOCK) return CLOCK;
+    if (t > LAST_CLOCK) return CLOCK;
     /* Sums over j to k of the averages, over j+1 to k of the worst times at level 0. */
     int32_t average = 0, tail = 0, margin = INT32_MIN;
-    for (uint32_t j = last + 1; j-- > first;) {
+    for (size_t j = last + 1; j-- > first;) {
         const uint8_t *record = record_of(&s, image, order[j]);
-        uint64_t pair = pair_of(record, level);
+        uint64_t pair = pair_of(record, (uint32_t)level);
         average += (int32_t)average_in(pair);
         int32_t over = (int32_t)worst_in(pair) + tail - average;
         if (over > margin) margin = over;
         tail += (int32_t)worst_in(pair_of(record, 0));
     }
     uint32_t deadline = deadline_of(&s, get32(record_of(&s, image, order[last]) + 8));
-    int64_t room = (int64_t)deadline - margin - time;
+    int64_t room = (int64_t)deadline - margin - t;
     if (room <= 0) return FAST_SPENT;
     *ratio = (double)average / (double)room;
     return 0;

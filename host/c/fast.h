@@ -10,25 +10,26 @@
 #include <stdint.h>
 
 typedef struct {
-    uint32_t n, levels, cycle;
+    size_t n, levels;
+    uint32_t cycle;
 } fast_counts;
 
 typedef struct {
-    uint32_t n, levels, position, clock, level, coast_left, decisions;
+    uint32_t n, levels, position, clock, level, left, decisions;
     bool running, overrun, late;
 } fast_run;
 
 typedef struct {
     uint32_t action, level;
     bool decided, late;
-} fast_asked;
+} fast_given;
 
 typedef struct {
     uint32_t decisions, end;
     bool overrun, late;
-} fast_cycle;
+} fast_dried;
 
-/* What fast_reading answers where the time is spent; no refusal has this number. */
+/* What fast_speed_reading answers where the time is spent; no refusal has this number. */
 #define FAST_SPENT 255u
 
 uint32_t fast_check(const uint8_t *image, size_t length, fast_counts *counts);
@@ -37,32 +38,32 @@ uint32_t fast_read(const uint8_t *image, size_t length, uint64_t *masks, size_t 
                    size_t deadlines_room, uint32_t *averages, size_t averages_room, uint32_t *worst, size_t worst_room,
                    fast_counts *counts);
 
-uint32_t fast_write(uint32_t n, uint32_t levels, uint32_t cycle, const uint64_t *masks, size_t masks_room,
+uint32_t fast_write(size_t n, size_t levels, uint32_t cycle, const uint64_t *masks, size_t masks_room,
                     const uint32_t *deadlines, size_t deadlines_room, const uint32_t *averages, size_t averages_room,
                     const uint32_t *worst, size_t worst_room, uint8_t *image, size_t room, size_t *written);
 
 /* The part begins at *part and has *part_length bytes, 0 with a refusal. */
-uint32_t fast_lookup(const uint8_t *image, size_t length, uint32_t action, const uint8_t **part, size_t *part_length);
+uint32_t fast_lookup(const uint8_t *image, size_t length, size_t action, const uint8_t **part, size_t *part_length);
 
 uint32_t fast_plan(const uint8_t *image, size_t length, uint8_t *order, size_t order_room, int32_t *limits,
-                   size_t limits_room, uint32_t *worst, size_t worst_room, int32_t *coasts, size_t coasts_room,
+                   size_t limits_room, uint32_t *worst, size_t worst_room, int32_t *bounds, size_t bounds_room,
                    fast_counts *counts);
 
-uint32_t fast_start(fast_run *run, uint32_t n, uint32_t levels);
+uint32_t fast_start(fast_run *run, size_t n, size_t levels);
 
 uint32_t fast_ask(fast_run *run, const uint8_t *order, size_t order_room, const int32_t *limits, size_t limits_room,
-                  const int32_t *coasts, size_t coasts_room, fast_asked *asked);
+                  const int32_t *bounds, size_t bounds_room, fast_given *given);
 
 uint32_t fast_report(fast_run *run, uint32_t clock, const uint32_t *worst, size_t worst_room);
 
-uint32_t fast_dry_run(uint32_t n, uint32_t levels, const int32_t *limits, size_t limits_room, const uint32_t *worst,
-                      size_t worst_room, const int32_t *coasts, size_t coasts_room, const uint32_t *durations,
-                      size_t durations_room, uint8_t *given, size_t given_room, uint8_t *decided, size_t decided_room,
-                      fast_cycle *cycle);
+uint32_t fast_dry_run(size_t n, size_t levels, const int32_t *limits, size_t limits_room, const uint32_t *worst,
+                      size_t worst_room, const int32_t *bounds, size_t bounds_room, const uint32_t *durations,
+                      size_t durations_room, uint8_t *given, size_t given_room, uint8_t *marks, size_t marks_room,
+                      fast_dried *dried);
 
 /* Answers 0 and the ratio, FAST_SPENT, or the number of the refusal. */
-uint32_t fast_reading(const uint8_t *image, size_t length, uint32_t first, uint32_t last, uint32_t level,
-                      uint32_t time, double *ratio);
+uint32_t fast_speed_reading(const uint8_t *image, size_t length, size_t first, size_t last, size_t level,
+                            uint32_t t, double *ratio);
 
 uint32_t fast_refresh(const uint8_t *image, size_t length, const uint8_t *trace, size_t trace_length, uint8_t *fresh,
                       size_t room, size_t *written);

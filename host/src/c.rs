@@ -1,6 +1,6 @@
 //! The calls of `c/fast.c`, from a shared library that is built and opened when asked for.
 
-use crate::calls::{Answer, Asked, Calls, Counts, Cycle, Reading, Run, Tables};
+use crate::calls::{Answer, Calls, Counts, Dried, Given, Reading, Run, Tables};
 use std::ffi::{c_char, c_int, c_void, CStr, CString};
 use std::os::unix::ffi::OsStrExt;
 use std::path::Path;
@@ -60,20 +60,20 @@ functions! {
         *const u8, usize, *mut u64, usize, *mut u32, usize, *mut u32, usize, *mut u32, usize, *mut Counts,
     ) -> u32,
     write: unsafe extern "C" fn(
-        u32, u32, u32, *const u64, usize, *const u32, usize, *const u32, usize, *const u32, usize, *mut u8, usize, *mut usize,
+        usize, usize, u32, *const u64, usize, *const u32, usize, *const u32, usize, *const u32, usize, *mut u8, usize, *mut usize,
     ) -> u32,
-    lookup: unsafe extern "C" fn(*const u8, usize, u32, *mut *const u8, *mut usize) -> u32,
+    lookup: unsafe extern "C" fn(*const u8, usize, usize, *mut *const u8, *mut usize) -> u32,
     plan: unsafe extern "C" fn(
         *const u8, usize, *mut u8, usize, *mut i32, usize, *mut u32, usize, *mut i32, usize, *mut Counts,
     ) -> u32,
-    start: unsafe extern "C" fn(*mut Run, u32, u32) -> u32,
-    ask: unsafe extern "C" fn(*mut Run, *const u8, usize, *const i32, usize, *const i32, usize, *mut Asked) -> u32,
+    start: unsafe extern "C" fn(*mut Run, usize, usize) -> u32,
+    ask: unsafe extern "C" fn(*mut Run, *const u8, usize, *const i32, usize, *const i32, usize, *mut Given) -> u32,
     report: unsafe extern "C" fn(*mut Run, u32, *const u32, usize) -> u32,
     dry_run: unsafe extern "C" fn(
-        u32, u32, *const i32, usize, *const u32, usize, *const i32, usize, *const u32, usize, *mut u8, usize, *mut u8, usize,
-        *mut Cycle,
+        usize, usize, *const i32, usize, *const u32, usize, *const i32, usize, *const u32, usize, *mut u8, usize, *mut u8, usize,
+        *mut Dried,
     ) -> u32,
-    reading: unsafe extern "C" fn(*const u8, usize, u32, u32, u32, u32, *mut f64) -> u32,
+    speed_reading: unsafe extern "C" fn(*const u8, usize, usize, usize, usize, u32, *mut f64) -> u32,
     refresh: unsafe extern "C" fn(*const u8, usize, *const u8, usize, *mut u8, usize, *mut usize) -> u32,
 }
 
@@ -119,7 +119,7 @@ impl Calls for C {
         masks: &mut [u64],
         deadlines: &mut [u32],
         averages: &mut [u32],
-        worst: &mut [u32],
+        worst_by_action: &mut [u32],
     ) -> Answer<Counts> {
         let mut counts = Counts::default();
         let number = unsafe {
@@ -132,8 +132,8 @@ impl Calls for C {
                 deadlines.len(),
                 averages.as_mut_ptr(),
                 averages.len(),
-                worst.as_mut_ptr(),
-                worst.len(),
+                worst_by_action.as_mut_ptr(),
+                worst_by_action.len(),
                 &mut counts,
             )
         };
@@ -146,7 +146,7 @@ impl Calls for C {
         masks: &[u64],
         deadlines: &[u32],
         averages: &[u32],
-        worst: &[u32],
+        worst_by_action: &[u32],
         image: &mut [u8],
     ) -> Answer<usize> {
         let mut written = 0;
@@ -161,8 +161,8 @@ impl Calls for C {
                 deadlines.len(),
                 averages.as_ptr(),
                 averages.len(),
-                worst.as_ptr(),
-                worst.len(),
+                worst_by_action.as_ptr(),
+                worst_by_action.len(),
                 image.as_mut_ptr(),
                 image.len(),
                 &mut written,
@@ -171,7 +171,7 @@ impl Calls for C {
         answer(number, written)
     }
 
-    fn lookup<'a>(&self, image: &'a [u8], action: u32) -> &'a [u8] {
+    fn lookup<'a>(&self, image: &'a [u8], action: usize) -> &'a [u8] {
         let (mut part, mut length) = (image.as_ptr(), 0);
         unsafe {
             (self.lookup)(image.as_ptr(), image.len(), action, &mut part, &mut length);
@@ -179,7 +179,7 @@ impl Calls for C {
         }
     }
 
-    fn lookup_refusal(&self, image: &[u8], action: u32) -> u8 {
+    fn lookup_refusal(&self, image: &[u8], action: usize) -> u8 {
         let (mut part, mut length) = (image.as_ptr(), 0);
         unsafe { (self.lookup)(image.as_ptr(), image.len(), action, &mut part, &mut length) as u8 }
     }
@@ -189,8 +189,8 @@ impl Calls for C {
         image: &[u8],
         order: &mut [u8],
         limits: &mut [i32],
-        worst: &mut [u32],
-        coasts: &mut [i32],
+        worst_by_position: &mut [u32],
+        bounds: &mut [i32],
     ) -> Answer<Counts> {
         let mut counts = Counts::default();
         let number = unsafe {
@@ -201,33 +201,33 @@ impl Calls for C {
                 order.len(),
                 limits.as_mut_ptr(),
                 limits.len(),
-                worst.as_mut_ptr(),
-                worst.len(),
-                coasts.as_mut_ptr(),
-                coasts.len(),
+                worst_by_position.as_mut_ptr(),
+                worst_by_position.len(),
+                bounds.as_mut_ptr(),
+                bounds.len(),
                 &mut counts,
             )
         };
         answer(number, counts)
     }
 
-    fn start(&self, n: u32, levels: u32) -> (Run, u8) {
+    fn start(&self, n: usize, levels: usize) -> (Run, u8) {
         let mut run = Run::default();
         let number = self.start_lent(&mut run, n, levels);
         (run, number)
     }
 
-    fn start_lent(&self, run: &mut Run, n: u32, levels: u32) -> u8 {
+    fn start_lent(&self, run: &mut Run, n: usize, levels: usize) -> u8 {
         unsafe { (self.start)(run, n, levels) as u8 }
     }
 
-    fn ask(&self, mut run: Run, order: &[u8], limits: &[i32], coasts: &[i32]) -> (Run, Answer<Asked>) {
-        let answer = self.ask_lent(&mut run, order, limits, coasts);
+    fn ask(&self, mut run: Run, order: &[u8], limits: &[i32], bounds: &[i32]) -> (Run, Answer<Given>) {
+        let answer = self.ask_lent(&mut run, order, limits, bounds);
         (run, answer)
     }
 
-    fn ask_lent(&self, run: &mut Run, order: &[u8], limits: &[i32], coasts: &[i32]) -> Answer<Asked> {
-        let mut asked = Asked::default();
+    fn ask_lent(&self, run: &mut Run, order: &[u8], limits: &[i32], bounds: &[i32]) -> Answer<Given> {
+        let mut asked = Given::default();
         let number = unsafe {
             (self.ask)(
                 run,
@@ -235,60 +235,60 @@ impl Calls for C {
                 order.len(),
                 limits.as_ptr(),
                 limits.len(),
-                coasts.as_ptr(),
-                coasts.len(),
+                bounds.as_ptr(),
+                bounds.len(),
                 &mut asked,
             )
         };
         // Field by field: what was written in parts is slow to load as a whole.
-        let Asked { action, level, decided, late } = asked;
-        answer(number, Asked { action, level, decided, late })
+        let Given { action, level, decided, late } = asked;
+        answer(number, Given { action, level, decided, late })
     }
 
-    fn report(&self, mut run: Run, clock: u32, worst: &[u32]) -> (Run, u8) {
-        let number = self.report_lent(&mut run, clock, worst);
+    fn report(&self, mut run: Run, clock: u32, worst_by_position: &[u32]) -> (Run, u8) {
+        let number = self.report_lent(&mut run, clock, worst_by_position);
         (run, number)
     }
 
-    fn report_lent(&self, run: &mut Run, clock: u32, worst: &[u32]) -> u8 {
-        unsafe { (self.report)(run, clock, worst.as_ptr(), worst.len()) as u8 }
+    fn report_lent(&self, run: &mut Run, clock: u32, worst_by_position: &[u32]) -> u8 {
+        unsafe { (self.report)(run, clock, worst_by_position.as_ptr(), worst_by_position.len()) as u8 }
     }
 
     fn dry_run(
         &self,
-        n: u32,
-        levels: u32,
+        n: usize,
+        levels: usize,
         tables: Tables,
         durations: &[u32],
         given: &mut [u8],
-        decided: &mut [u8],
-    ) -> Answer<Cycle> {
-        let mut cycle = Cycle::default();
+        marks: &mut [u8],
+    ) -> Answer<Dried> {
+        let mut cycle = Dried::default();
         let number = unsafe {
             (self.dry_run)(
                 n,
                 levels,
                 tables.limits.as_ptr(),
                 tables.limits.len(),
-                tables.worst.as_ptr(),
-                tables.worst.len(),
-                tables.coasts.as_ptr(),
-                tables.coasts.len(),
+                tables.worst_by_position.as_ptr(),
+                tables.worst_by_position.len(),
+                tables.bounds.as_ptr(),
+                tables.bounds.len(),
                 durations.as_ptr(),
                 durations.len(),
                 given.as_mut_ptr(),
                 given.len(),
-                decided.as_mut_ptr(),
-                decided.len(),
+                marks.as_mut_ptr(),
+                marks.len(),
                 &mut cycle,
             )
         };
         answer(number, cycle)
     }
 
-    fn reading(&self, image: &[u8], first: u32, last: u32, level: u32, time: u32) -> Reading {
+    fn speed_reading(&self, image: &[u8], first: usize, last: usize, level: usize, t: u32) -> Reading {
         let mut ratio = 0.0;
-        match unsafe { (self.reading)(image.as_ptr(), image.len(), first, last, level, time, &mut ratio) } {
+        match unsafe { (self.speed_reading)(image.as_ptr(), image.len(), first, last, level, t, &mut ratio) } {
             0 => Reading::Ratio(ratio),
             SPENT => Reading::Spent,
             number => Reading::Refused(number as u8),

@@ -3,72 +3,47 @@
 /// Either the values of a call or the number of its refusal.
 pub type Answer<T> = Result<T, u8>;
 
-/// The most actions that a profile has.
-pub const ACTIONS: usize = 64;
-/// The most levels that a profile has.
-pub const LEVELS: usize = 8;
-/// The longest coast, the first action included.
-pub const COAST: usize = 16;
-/// The longest cycle and the last clock.
-pub const CLOCK: u32 = 1_073_741_823;
-/// The longest average, worst time or duration.
-pub const TIME: u32 = 16_777_215;
-/// The most records of a trace.
-pub const RECORDS: usize = 65_535;
-/// A coast bound that reaches past the last position.
-pub const ABSENT: i32 = i32::MIN;
+pub use crate::boundary::{
+    Run, ABSENT_BOUND, LAST_CLOCK, LONGEST_COAST, LONGEST_TIME, MOST_ACTIONS, MOST_LEVELS, MOST_RECORDS,
+};
 
-/// The numbers of refusal by the names of the document's table.
-pub mod no {
-    pub const SHORT: u8 = 1;
-    pub const VERSION: u8 = 2;
-    pub const COUNT: u8 = 3;
-    pub const LENGTH: u8 = 4;
-    pub const SPARE: u8 = 5;
-    pub const RANGE: u8 = 6;
-    pub const TABLE: u8 = 7;
-    pub const LOOP: u8 = 8;
-    pub const UNFIT: u8 = 9;
-    pub const FINISHED: u8 = 10;
-    pub const TURN: u8 = 11;
-    pub const BACK: u8 = 12;
-    pub const CLOCK: u8 = 13;
-    pub const TRACE: u8 = 14;
-    pub const NAME: u8 = 15;
-    pub const DURATION: u8 = 16;
-    pub const ROOM: u8 = 17;
-    pub const READING: u8 = 18;
+/// The numbers of refusal, those of the boundary by their last word.
+pub mod refused {
+    use crate::boundary as of;
+
+    pub const SHORT: u8 = of::REFUSED_SHORT as u8;
+    pub const VERSION: u8 = of::REFUSED_VERSION as u8;
+    pub const COUNT: u8 = of::REFUSED_COUNT as u8;
+    pub const LENGTH: u8 = of::REFUSED_LENGTH as u8;
+    pub const SPARE: u8 = of::REFUSED_SPARE as u8;
+    pub const RANGE: u8 = of::REFUSED_RANGE as u8;
+    pub const TABLE: u8 = of::REFUSED_TABLE as u8;
+    pub const LOOP: u8 = of::REFUSED_LOOP as u8;
+    pub const UNFIT: u8 = of::REFUSED_UNFIT as u8;
+    pub const FINISHED: u8 = of::REFUSED_FINISHED as u8;
+    pub const TURN: u8 = of::REFUSED_TURN as u8;
+    pub const BACK: u8 = of::REFUSED_BACK as u8;
+    pub const CLOCK: u8 = of::REFUSED_CLOCK as u8;
+    pub const TRACE: u8 = of::REFUSED_TRACE as u8;
+    pub const NAME: u8 = of::REFUSED_NAME as u8;
+    pub const DURATION: u8 = of::REFUSED_DURATION as u8;
+    pub const ROOM: u8 = of::REFUSED_ROOM as u8;
+    pub const READING: u8 = of::REFUSED_READING as u8;
 }
 
 /// Actions, levels and cycle of a profile.
 #[derive(Clone, Copy, Debug, Default, PartialEq, Eq)]
 #[repr(C)]
 pub struct Counts {
-    pub n: u32,
-    pub levels: u32,
+    pub n: usize,
+    pub levels: usize,
     pub cycle: u32,
-}
-
-/// The run record, laid out as in `include/nyokazerubi.h` and in `c/fast.h`.
-#[derive(Clone, Copy, Debug, Default, PartialEq, Eq)]
-#[repr(C)]
-pub struct Run {
-    pub n: u32,
-    pub levels: u32,
-    pub position: u32,
-    pub clock: u32,
-    pub level: u32,
-    pub coast_left: u32,
-    pub decisions: u32,
-    pub running: bool,
-    pub overrun: bool,
-    pub late: bool,
 }
 
 /// What asking answers.
 #[derive(Clone, Copy, Debug, Default, PartialEq, Eq)]
 #[repr(C)]
-pub struct Asked {
+pub struct Given {
     pub action: u32,
     pub level: u32,
     pub decided: bool,
@@ -78,7 +53,7 @@ pub struct Asked {
 /// What the dry run of a cycle answers.
 #[derive(Clone, Copy, Debug, Default, PartialEq, Eq)]
 #[repr(C)]
-pub struct Cycle {
+pub struct Dried {
     pub decisions: u32,
     pub end: u32,
     pub overrun: bool,
@@ -111,8 +86,8 @@ impl Eq for Reading {}
 #[derive(Clone, Copy, Debug)]
 pub struct Tables<'a> {
     pub limits: &'a [i32],
-    pub worst: &'a [u32],
-    pub coasts: &'a [i32],
+    pub worst_by_position: &'a [u32],
+    pub bounds: &'a [i32],
 }
 
 /// The public calls. Lent slices are written only when there is no refusal, and keep their tails.
@@ -127,7 +102,7 @@ pub trait Calls {
         masks: &mut [u64],
         deadlines: &mut [u32],
         averages: &mut [u32],
-        worst: &mut [u32],
+        worst_by_action: &mut [u32],
     ) -> Answer<Counts>;
 
     /// Packs an image and answers its bytes.
@@ -137,15 +112,15 @@ pub trait Calls {
         masks: &[u64],
         deadlines: &[u32],
         averages: &[u32],
-        worst: &[u32],
+        worst_by_action: &[u32],
         image: &mut [u8],
     ) -> Answer<usize>;
 
     /// The action's own part of the image, empty with a refusal.
-    fn lookup<'a>(&self, image: &'a [u8], action: u32) -> &'a [u8];
+    fn lookup<'a>(&self, image: &'a [u8], action: usize) -> &'a [u8];
 
     /// The number of refusal of that lookup, 0 for none.
-    fn lookup_refusal(&self, image: &[u8], action: u32) -> u8;
+    fn lookup_refusal(&self, image: &[u8], action: usize) -> u8;
 
     /// Order, limits, worst times by position and coast bounds.
     fn plan(
@@ -153,36 +128,36 @@ pub trait Calls {
         image: &[u8],
         order: &mut [u8],
         limits: &mut [i32],
-        worst: &mut [u32],
-        coasts: &mut [i32],
+        worst_by_position: &mut [u32],
+        bounds: &mut [i32],
     ) -> Answer<Counts>;
 
     /// A new run record and the number of refusal, 0 for none.
-    fn start(&self, n: u32, levels: u32) -> (Run, u8);
+    fn start(&self, n: usize, levels: usize) -> (Run, u8);
 
     /// The next action and its level.
-    fn ask(&self, run: Run, order: &[u8], limits: &[i32], coasts: &[i32]) -> (Run, Answer<Asked>);
+    fn ask(&self, run: Run, order: &[u8], limits: &[i32], bounds: &[i32]) -> (Run, Answer<Given>);
 
     /// The end of the running action; the number of refusal, 0 for none.
-    fn report(&self, run: Run, clock: u32, worst: &[u32]) -> (Run, u8);
+    fn report(&self, run: Run, clock: u32, worst_by_position: &[u32]) -> (Run, u8);
 
     /// A start in the host's own record.
-    fn start_lent(&self, run: &mut Run, n: u32, levels: u32) -> u8 {
+    fn start_lent(&self, run: &mut Run, n: usize, levels: usize) -> u8 {
         let (next, number) = self.start(n, levels);
         *run = next;
         number
     }
 
     /// Asking on the host's own record.
-    fn ask_lent(&self, run: &mut Run, order: &[u8], limits: &[i32], coasts: &[i32]) -> Answer<Asked> {
-        let (next, answer) = self.ask(*run, order, limits, coasts);
+    fn ask_lent(&self, run: &mut Run, order: &[u8], limits: &[i32], bounds: &[i32]) -> Answer<Given> {
+        let (next, answer) = self.ask(*run, order, limits, bounds);
         *run = next;
         answer
     }
 
     /// A report on the host's own record.
-    fn report_lent(&self, run: &mut Run, clock: u32, worst: &[u32]) -> u8 {
-        let (next, number) = self.report(*run, clock, worst);
+    fn report_lent(&self, run: &mut Run, clock: u32, worst_by_position: &[u32]) -> u8 {
+        let (next, number) = self.report(*run, clock, worst_by_position);
         *run = next;
         number
     }
@@ -190,13 +165,13 @@ pub trait Calls {
     /// A whole cycle over given durations (n by L, by position).
     fn dry_run(
         &self,
-        n: u32,
-        levels: u32,
+        n: usize,
+        levels: usize,
         tables: Tables,
         durations: &[u32],
         given: &mut [u8],
-        decided: &mut [u8],
-    ) -> Answer<Cycle>;
+        marks: &mut [u8],
+    ) -> Answer<Dried>;
 
     /// A whole cycle from an image: its actions in order, and what the dry run over its plan gives. Answers n too.
     fn dry_frame(
@@ -205,28 +180,28 @@ pub trait Calls {
         durations: &[u32],
         order: &mut [u8],
         given: &mut [u8],
-        decided: &mut [u8],
-    ) -> Answer<(u32, Cycle)> {
-        const CELLS: usize = ACTIONS * LEVELS;
-        let (mut line, mut limits) = ([0; ACTIONS], [0; CELLS]);
-        let (mut worst, mut coasts) = ([0; CELLS], [0; CELLS * COAST]);
-        let Counts { n, levels, .. } = self.plan(image, &mut line, &mut limits, &mut worst, &mut coasts)?;
-        let line = &line[..n as usize];
+        marks: &mut [u8],
+    ) -> Answer<(usize, Dried)> {
+        const CELLS: usize = MOST_ACTIONS * MOST_LEVELS;
+        let (mut line, mut limits) = ([0; MOST_ACTIONS], [0; CELLS]);
+        let (mut worst, mut bounds) = ([0; CELLS], [0; CELLS * LONGEST_COAST]);
+        let Counts { n, levels, .. } = self.plan(image, &mut line, &mut limits, &mut worst, &mut bounds)?;
+        let line = &line[..n];
         if order.len() < line.len() {
-            return Err(no::ROOM);
+            return Err(refused::ROOM);
         }
-        let tables = Tables { limits: &limits, worst: &worst, coasts: &coasts };
-        let cycle = self.dry_run(n, levels, tables, durations, given, decided)?;
+        let tables = Tables { limits: &limits, worst_by_position: &worst, bounds: &bounds };
+        let cycle = self.dry_run(n, levels, tables, durations, given, marks)?;
         order[..line.len()].copy_from_slice(line);
         Ok((n, cycle))
     }
 
     /// The speed reading of positions `first` to `last` at a level and a time.
-    fn reading(&self, image: &[u8], first: u32, last: u32, level: u32, time: u32) -> Reading;
+    fn speed_reading(&self, image: &[u8], first: usize, last: usize, level: usize, t: u32) -> Reading;
 
     /// Whether that reading is a ratio of at most 1; no where it is spent or refused.
-    fn on_time(&self, image: &[u8], first: u32, last: u32, level: u32, time: u32) -> bool {
-        matches!(self.reading(image, first, last, level, time), Reading::Ratio(ratio) if ratio <= 1.0)
+    fn on_time(&self, image: &[u8], first: usize, last: usize, level: usize, t: u32) -> bool {
+        matches!(self.speed_reading(image, first, last, level, t), Reading::Ratio(ratio) if ratio <= 1.0)
     }
 
     /// The image with averages from a trace; answers its bytes.
@@ -247,9 +222,9 @@ macro_rules! calls_of_module {
                 masks: &mut [u64],
                 deadlines: &mut [u32],
                 averages: &mut [u32],
-                worst: &mut [u32],
+                worst_by_action: &mut [u32],
             ) -> Answer<Counts> {
-                $module::read(image, masks, deadlines, averages, worst)
+                $module::read(image, masks, deadlines, averages, worst_by_action)
             }
             fn write(
                 &self,
@@ -257,15 +232,15 @@ macro_rules! calls_of_module {
                 masks: &[u64],
                 deadlines: &[u32],
                 averages: &[u32],
-                worst: &[u32],
+                worst_by_action: &[u32],
                 image: &mut [u8],
             ) -> Answer<usize> {
-                $module::write(counts, masks, deadlines, averages, worst, image)
+                $module::write(counts, masks, deadlines, averages, worst_by_action, image)
             }
-            fn lookup<'a>(&self, image: &'a [u8], action: u32) -> &'a [u8] {
+            fn lookup<'a>(&self, image: &'a [u8], action: usize) -> &'a [u8] {
                 $module::lookup(image, action)
             }
-            fn lookup_refusal(&self, image: &[u8], action: u32) -> u8 {
+            fn lookup_refusal(&self, image: &[u8], action: usize) -> u8 {
                 $module::lookup_refusal(image, action)
             }
             fn plan(
@@ -273,33 +248,33 @@ macro_rules! calls_of_module {
                 image: &[u8],
                 order: &mut [u8],
                 limits: &mut [i32],
-                worst: &mut [u32],
-                coasts: &mut [i32],
+                worst_by_position: &mut [u32],
+                bounds: &mut [i32],
             ) -> Answer<Counts> {
-                $module::plan(image, order, limits, worst, coasts)
+                $module::plan(image, order, limits, worst_by_position, bounds)
             }
-            fn start(&self, n: u32, levels: u32) -> (Run, u8) {
+            fn start(&self, n: usize, levels: usize) -> (Run, u8) {
                 $module::start(n, levels)
             }
-            fn ask(&self, run: Run, order: &[u8], limits: &[i32], coasts: &[i32]) -> (Run, Answer<Asked>) {
-                $module::ask(run, order, limits, coasts)
+            fn ask(&self, run: Run, order: &[u8], limits: &[i32], bounds: &[i32]) -> (Run, Answer<Given>) {
+                $module::ask(run, order, limits, bounds)
             }
-            fn report(&self, run: Run, clock: u32, worst: &[u32]) -> (Run, u8) {
-                $module::report(run, clock, worst)
+            fn report(&self, run: Run, clock: u32, worst_by_position: &[u32]) -> (Run, u8) {
+                $module::report(run, clock, worst_by_position)
             }
             fn dry_run(
                 &self,
-                n: u32,
-                levels: u32,
+                n: usize,
+                levels: usize,
                 tables: Tables,
                 durations: &[u32],
                 given: &mut [u8],
-                decided: &mut [u8],
-            ) -> Answer<Cycle> {
-                $module::dry_run(n, levels, tables, durations, given, decided)
+                marks: &mut [u8],
+            ) -> Answer<Dried> {
+                $module::dry_run(n, levels, tables, durations, given, marks)
             }
-            fn reading(&self, image: &[u8], first: u32, last: u32, level: u32, time: u32) -> Reading {
-                $module::reading(image, first, last, level, time)
+            fn speed_reading(&self, image: &[u8], first: usize, last: usize, level: usize, t: u32) -> Reading {
+                $module::speed_reading(image, first, last, level, t)
             }
             fn refresh(&self, image: &[u8], trace: &[u8], fresh: &mut [u8]) -> Answer<usize> {
                 $module::refresh(image, trace, fresh)
@@ -314,8 +289,8 @@ use crate::{fast, reference};
 #[derive(Clone, Copy, Debug)]
 pub struct Reference;
 calls_of_module!(Reference, reference, {
-    fn on_time(&self, image: &[u8], first: u32, last: u32, level: u32, time: u32) -> bool {
-        reference::on_time(image, first, last, level, time)
+    fn on_time(&self, image: &[u8], first: usize, last: usize, level: usize, t: u32) -> bool {
+        reference::on_time(image, first, last, level, t)
     }
 });
 
@@ -323,10 +298,10 @@ calls_of_module!(Reference, reference, {
 #[derive(Clone, Copy, Debug)]
 pub struct Fast;
 calls_of_module!(Fast, fast, {
-    fn ask_lent(&self, run: &mut Run, order: &[u8], limits: &[i32], coasts: &[i32]) -> Answer<Asked> {
-        fast::ask_lent(run, order, limits, coasts)
+    fn ask_lent(&self, run: &mut Run, order: &[u8], limits: &[i32], bounds: &[i32]) -> Answer<Given> {
+        fast::ask_lent(run, order, limits, bounds)
     }
-    fn report_lent(&self, run: &mut Run, clock: u32, worst: &[u32]) -> u8 {
-        fast::report_lent(run, clock, worst)
+    fn report_lent(&self, run: &mut Run, clock: u32, worst_by_position: &[u32]) -> u8 {
+        fast::report_lent(run, clock, worst_by_position)
     }
 });

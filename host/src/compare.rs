@@ -1,6 +1,8 @@
 //! Two implementations of the calls side by side over drawn inputs, with a tally of what was met.
 
-use crate::calls::{Answer, Asked, Calls, Counts, Reading, Run, Tables, ACTIONS, CLOCK, COAST, LEVELS};
+use crate::calls::{
+    Answer, Calls, Counts, Given, Reading, Run, Tables, LAST_CLOCK, LONGEST_COAST, MOST_ACTIONS, MOST_LEVELS,
+};
 use crate::draw::{Draw, Size, PACES};
 use crate::reference::fields_out;
 use std::collections::BTreeMap;
@@ -87,7 +89,7 @@ impl Tally {
                 gaps.push(format!("{call}: {no} is none of its numbers"));
             }
         }
-        let grants = (1..=COAST).map(|r| format!("grant {r}"));
+        let grants = (1..=LONGEST_COAST).map(|r| format!("grant {r}"));
         for event in EVENTS.iter().map(|event| event.to_string()).chain(grants) {
             if !self.events.contains_key(&event) {
                 gaps.push(format!("{event} not met"));
@@ -144,9 +146,9 @@ fn hex(bytes: &[u8]) -> String {
 }
 
 /// n and L if they are inside their ranges.
-fn usable(n: u32, levels: u32) -> Option<(usize, usize)> {
-    let fits = (1..=ACTIONS as u32).contains(&n) && (1..=LEVELS as u32).contains(&levels);
-    fits.then_some((n as usize, levels as usize))
+fn usable(n: usize, levels: usize) -> Option<(usize, usize)> {
+    let fits = (1..=MOST_ACTIONS).contains(&n) && (1..=MOST_LEVELS).contains(&levels);
+    fits.then_some((n, levels))
 }
 
 /// Junk for a lent slice, so that what is left untouched can be seen.
@@ -175,7 +177,7 @@ impl Pair<'_> {
         self.read(&image, counts)?;
         self.lookup(&image, counts)?;
         self.plan(&image, counts)?;
-        self.reading(&image, counts)?;
+        self.speed_reading(&image, counts)?;
         self.refresh(&image, counts)?;
         self.frame(&image, counts)?;
         self.write(size)?;
@@ -196,7 +198,7 @@ impl Pair<'_> {
     }
 
     fn read(&mut self, image: &[u8], counts: Option<Counts>) -> Result<(), String> {
-        let (n, levels) = counts.map_or((3, 2), |counts| (counts.n as usize, counts.levels as usize));
+        let (n, levels) = counts.map_or((3, 2), |counts| (counts.n, counts.levels));
         let rooms = [n, n, n * levels, n * levels].map(|needed| self.draw.room(needed));
         let masks: Vec<u64> = junk(&mut self.draw, rooms[0]);
         let [deadlines, averages, worst]: [Vec<u32>; 3] = [1, 2, 3].map(|at: usize| junk(&mut self.draw, rooms[at]));
@@ -222,14 +224,14 @@ impl Pair<'_> {
     }
 
     fn plan(&mut self, image: &[u8], counts: Option<Counts>) -> Result<(), String> {
-        let (n, levels) = counts.map_or((3, 2), |counts| (counts.n as usize, counts.levels as usize));
-        let rooms = [n, n * levels, n * levels, n * levels * COAST].map(|needed| self.draw.room(needed));
+        let (n, levels) = counts.map_or((3, 2), |counts| (counts.n, counts.levels));
+        let rooms = [n, n * levels, n * levels, n * levels * LONGEST_COAST].map(|needed| self.draw.room(needed));
         let order: Vec<u8> = junk(&mut self.draw, rooms[0]);
         let limits: Vec<i32> = junk(&mut self.draw, rooms[1]);
         let worst: Vec<u32> = junk(&mut self.draw, rooms[2]);
-        let coasts: Vec<i32> = junk(&mut self.draw, rooms[3]);
+        let bounds: Vec<i32> = junk(&mut self.draw, rooms[3]);
         let result = self.same("plan", &|| format!("{} {rooms:?}", hex(image)), |calls| {
-            let mut lent = (order.clone(), limits.clone(), worst.clone(), coasts.clone());
+            let mut lent = (order.clone(), limits.clone(), worst.clone(), bounds.clone());
             let answer = calls.plan(image, &mut lent.0, &mut lent.1, &mut lent.2, &mut lent.3);
             (answer, lent)
         })?;
@@ -237,7 +239,7 @@ impl Pair<'_> {
         Ok(())
     }
 
-    fn reading(&mut self, image: &[u8], counts: Option<Counts>) -> Result<(), String> {
+    fn speed_reading(&mut self, image: &[u8], counts: Option<Counts>) -> Result<(), String> {
         let Counts { n, levels, cycle } = counts.unwrap_or(Counts { n: 3, levels: 2, cycle: 20 });
         let [mut first, mut last] = [n - 1; 2].map(|most| self.draw.name(most));
         if first > last && !self.draw.once_in(6) {
@@ -245,12 +247,12 @@ impl Pair<'_> {
         }
         let level = self.draw.name(levels - 1);
         let time = match self.draw.between(0, 9) {
-            0 => self.draw.pick(&[CLOCK, CLOCK + 1, u32::MAX]),
+            0 => self.draw.pick(&[LAST_CLOCK, LAST_CLOCK + 1, u32::MAX]),
             1 | 2 => 0,
             _ => self.draw.between(0, cycle),
         };
         let reading = self.same("reading", &|| format!("{} {first} {last} {level} {time}", hex(image)), |calls| {
-            calls.reading(image, first, last, level, time)
+            calls.speed_reading(image, first, last, level, time)
         })?;
         match reading {
             Reading::Ratio(_) => self.tally.event("ratio"),
@@ -270,8 +272,8 @@ impl Pair<'_> {
     fn refresh(&mut self, image: &[u8], counts: Option<Counts>) -> Result<(), String> {
         let trace = match counts {
             Some(Counts { n, levels, .. }) => {
-                let cells = (n * levels) as usize;
-                let (mut masks, mut heads) = (vec![0; n as usize], vec![0; n as usize]);
+                let cells = n * levels;
+                let (mut masks, mut heads) = (vec![0; n], vec![0; n]);
                 let (mut averages, mut worst) = (vec![0; cells], vec![0; cells]);
                 self.left
                     .read(image, &mut masks, &mut heads, &mut averages, &mut worst)
@@ -293,7 +295,7 @@ impl Pair<'_> {
 
     /// A whole cycle from an image.
     fn frame(&mut self, image: &[u8], counts: Option<Counts>) -> Result<(), String> {
-        let (n, levels) = counts.map_or((3, 2), |counts| (counts.n as usize, counts.levels as usize));
+        let (n, levels) = counts.map_or((3, 2), |counts| (counts.n, counts.levels));
         let pace = self.draw.pick(&PACES);
         let longest = self.draw.pick(&[0, 3, 40, 1000, 16_777_215]);
         let mut durations = self.draw.durations(&vec![longest; n * levels], pace);
@@ -314,7 +316,7 @@ impl Pair<'_> {
 
     fn write(&mut self, size: Size) -> Result<(), String> {
         let mut sketch = self.draw.writing(size);
-        let counts = Counts { n: sketch.n, levels: sketch.levels, cycle: sketch.cycle };
+        let counts = Counts { n: sketch.n as usize, levels: sketch.levels as usize, cycle: sketch.cycle };
         let (n, levels) = (sketch.masks.len(), sketch.averages.len() / sketch.masks.len());
         let rooms = [n, n, n * levels, n * levels].map(|needed| self.draw.room(needed));
         sketch.masks.resize(rooms[0], 0);
@@ -348,10 +350,10 @@ impl Pair<'_> {
     }
 
     /// An asking over the lent record, which comes back as the call leaves it.
-    fn ask(&mut self, run: Run, order: &[u8], limits: &[i32], coasts: &[i32]) -> Result<Run, String> {
-        let asked = self.same("ask", &|| format!("{run:?} {order:?} {limits:?} {coasts:?}"), |calls| {
+    fn ask(&mut self, run: Run, order: &[u8], limits: &[i32], bounds: &[i32]) -> Result<Run, String> {
+        let asked = self.same("ask", &|| format!("{run:?} {order:?} {limits:?} {bounds:?}"), |calls| {
             let mut run = run;
-            let answer = calls.ask_lent(&mut run, order, limits, coasts);
+            let answer = calls.ask_lent(&mut run, order, limits, bounds);
             (run, answer)
         })?;
         self.note_asked(&asked);
@@ -373,7 +375,7 @@ impl Pair<'_> {
     fn single_calls(&mut self) -> Result<(), String> {
         for _ in 0..4 {
             let n = self.draw.pick(&[1, 2, 3, 16, 17, 18, 63, 64]);
-            let levels = self.draw.between(1, LEVELS as u32);
+            let levels = self.draw.between(1, MOST_LEVELS as u32);
             let mut run = self.draw.run(n, levels);
             if self.draw.once_in(2) {
                 run = self.draw.edged(run);
@@ -382,27 +384,27 @@ impl Pair<'_> {
                 self.tally.event(format!("{field} out"));
             }
             // Tables by the record's own counts where these are of use.
-            let (n, levels) = usable(run.n, run.levels).unwrap_or((n as usize, levels as usize));
-            let (mut limits, mut coasts) = self.draw.foreign_tables(n, levels, run.clock);
+            let (n, levels) = usable(run.n as usize, run.levels as usize).unwrap_or((n as usize, levels as usize));
+            let (mut limits, mut bounds) = self.draw.foreign_tables(n, levels, run.clock);
             limits.resize(self.draw.room(n * levels), 0);
-            coasts.resize(self.draw.room(n * levels * COAST), 0);
+            bounds.resize(self.draw.room(n * levels * LONGEST_COAST), 0);
             let room = self.draw.room(n);
             let order = self.draw.bytes(room);
             let longest = self.draw.pick(&[0, 1, 5, 1000, u32::MAX]);
             let worst = vec![longest; self.draw.room(n * levels)];
             let clock = self.draw.clock(run, longest);
 
-            self.ask(run, &order, &limits, &coasts)?;
+            self.ask(run, &order, &limits, &bounds)?;
             self.report(run, clock, &worst)?;
         }
         Ok(())
     }
 
-    fn note_asked(&mut self, asked: &(Run, Answer<Asked>)) {
+    fn note_asked(&mut self, asked: &(Run, Answer<Given>)) {
         self.tally.number("ask", number_of(&asked.1));
         if let (run, Ok(answer)) = asked {
             if answer.decided {
-                self.tally.event(format!("grant {}", run.coast_left + 1));
+                self.tally.event(format!("grant {}", run.left + 1));
             } else {
                 self.tally.event("coasted");
             }
@@ -412,7 +414,14 @@ impl Pair<'_> {
         }
     }
 
-    fn dry_run(&mut self, n: u32, levels: u32, tables: Tables, durations: &[u32], needed: usize) -> Result<(), String> {
+    fn dry_run(
+        &mut self,
+        n: usize,
+        levels: usize,
+        tables: Tables,
+        durations: &[u32],
+        needed: usize,
+    ) -> Result<(), String> {
         let rooms = [needed; 2].map(|needed| self.draw.room(needed));
         let [given, decided]: [Vec<u8>; 2] = rooms.map(|room| junk(&mut self.draw, room));
         let input = || format!("{n} {levels} {tables:?} {durations:?} {rooms:?}");
@@ -434,44 +443,44 @@ impl Pair<'_> {
         let (count, width) = usable(n, levels).unwrap_or((4, 2));
         let cells = count * width;
         let centre = self.draw.pick(&[0, 3, 40]);
-        let (mut limits, mut coasts) = self.draw.foreign_tables(count, width, centre);
+        let (mut limits, mut bounds) = self.draw.foreign_tables(count, width, centre);
         let mut worst: Vec<u32> = (0..cells).map(|_| self.draw.between(0, 3)).collect();
         let pace = self.draw.pick(&PACES);
         let mut durations = self.draw.durations(&worst, pace);
         limits.resize(self.draw.room(cells), 0);
         worst.resize(self.draw.room(cells), 0);
-        coasts.resize(self.draw.room(cells * COAST), 0);
+        bounds.resize(self.draw.room(cells * LONGEST_COAST), 0);
         durations.resize(self.draw.room(cells), 0);
-        let tables = Tables { limits: &limits, worst: &worst, coasts: &coasts };
+        let tables = Tables { limits: &limits, worst_by_position: &worst, bounds: &bounds };
         self.dry_run(n, levels, tables, &durations, count)
     }
 
     /// Dry runs and whole runs over the planner's own tables.
     fn cycles(&mut self, image: &[u8]) -> Result<(), String> {
-        const CELLS: usize = ACTIONS * LEVELS;
-        let (mut order, mut limits) = (vec![0; ACTIONS], vec![0; CELLS]);
-        let (mut worst, mut coasts) = (vec![0; CELLS], vec![0; CELLS * COAST]);
-        let planned = self.left.plan(image, &mut order, &mut limits, &mut worst, &mut coasts);
+        const CELLS: usize = MOST_ACTIONS * MOST_LEVELS;
+        let (mut order, mut limits) = (vec![0; MOST_ACTIONS], vec![0; CELLS]);
+        let (mut worst, mut bounds) = (vec![0; CELLS], vec![0; CELLS * LONGEST_COAST]);
+        let planned = self.left.plan(image, &mut order, &mut limits, &mut worst, &mut bounds);
         let Counts { n, levels, .. } = planned.map_err(|no| format!("the plan is refused: {no}"))?;
-        let cells = (n * levels) as usize;
+        let cells = n * levels;
         for pace in PACES {
             let durations = self.draw.durations(&worst[..cells], pace);
-            let tables = Tables { limits: &limits, worst: &worst, coasts: &coasts };
-            self.dry_run(n, levels, tables, &durations, n as usize)?;
+            let tables = Tables { limits: &limits, worst_by_position: &worst, bounds: &bounds };
+            self.dry_run(n, levels, tables, &durations, n)?;
         }
-        self.walk(n, levels, (&order, &limits, &worst, &coasts))
+        self.walk(n, levels, (&order, &limits, &worst, &bounds))
     }
 
     /// Calls by turns until the cycle is over, with a wrong turn now and then.
-    fn walk(&mut self, n: u32, levels: u32, tables: (&[u8], &[i32], &[u32], &[i32])) -> Result<(), String> {
-        let (order, limits, worst, coasts) = tables;
+    fn walk(&mut self, n: usize, levels: usize, tables: (&[u8], &[i32], &[u32], &[i32])) -> Result<(), String> {
+        let (order, limits, worst, bounds) = tables;
         let (mut run, _) = self.left.start(n, levels);
         for _ in 0..2 * n + 8 {
             let asks = run.running == self.draw.once_in(16);
             run = if asks {
-                self.ask(run, order, limits, coasts)?
+                self.ask(run, order, limits, bounds)?
             } else {
-                let cell = (run.position * levels + run.level) as usize;
+                let cell = run.position as usize * levels + run.level as usize;
                 let longest = worst.get(cell).copied().unwrap_or(0);
                 let clock = match self.draw.between(0, 15) {
                     0 => self.draw.clock(run, longest),

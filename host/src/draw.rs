@@ -1,6 +1,6 @@
 //! Inputs from a seed: profiles small, large, extreme and damaged, durations, traces, run records and tables.
 
-use crate::calls::{Run, ACTIONS, CLOCK, COAST, LEVELS, RECORDS, TIME};
+use crate::calls::{Run, LAST_CLOCK, LONGEST_COAST, LONGEST_TIME, MOST_ACTIONS, MOST_LEVELS, MOST_RECORDS};
 
 /// A small generator (splitmix64): the same seed gives the same inputs everywhere.
 #[derive(Clone, Debug)]
@@ -181,7 +181,7 @@ impl Draw {
             }
             Size::Large => {
                 let (n, levels) = (self.between(1, 64), self.between(1, 8));
-                let scale = self.pick(&[1, 20, 1000, 300_000, TIME]);
+                let scale = self.pick(&[1, 20, 1000, 300_000, LONGEST_TIME]);
                 self.profile_of(n as usize, levels as usize, scale)
             }
             Size::Extreme => self.extreme(),
@@ -208,7 +208,7 @@ impl Draw {
             2 => most,
             _ => self.between(least, most.max(least)),
         }
-        .clamp(1, CLOCK);
+        .clamp(1, LAST_CLOCK);
         self.deadlines(&mut sketch, &line, scale);
         sketch
     }
@@ -238,7 +238,7 @@ impl Draw {
             let (mut average, mut longest) = (0, 0);
             for level in 0..levels {
                 if level == 0 || !fixed {
-                    longest = (longest + self.between(0, scale)).min(TIME);
+                    longest = (longest + self.between(0, scale)).min(LONGEST_TIME);
                     average = if exact { longest } else { self.between(average, longest) };
                 }
                 averages.push(average);
@@ -289,24 +289,24 @@ impl Draw {
             0 => {}
             // All times at the top.
             1 => {
-                sketch.averages.fill(TIME);
-                sketch.worst.fill(TIME);
+                sketch.averages.fill(LONGEST_TIME);
+                sketch.worst.fill(LONGEST_TIME);
             }
             // Averages 0, worst times at the top.
-            2 => sketch.worst.fill(TIME),
+            2 => sketch.worst.fill(LONGEST_TIME),
             // Level 0 takes nothing, the others all there is: limits far below 0.
             3 => {
                 for cell in (0..cells).filter(|cell| cell % levels > 0) {
-                    sketch.worst[cell] = TIME;
-                    sketch.averages[cell] = if self.once_in(2) { TIME } else { sketch.averages[cell - 1] };
+                    sketch.worst[cell] = LONGEST_TIME;
+                    sketch.averages[cell] = if self.once_in(2) { LONGEST_TIME } else { sketch.averages[cell - 1] };
                 }
             }
             // One action takes all.
             4 => {
                 let a = self.index(n);
-                sketch.worst[a * levels..(a + 1) * levels].fill(TIME);
+                sketch.worst[a * levels..(a + 1) * levels].fill(LONGEST_TIME);
             }
-            // Long coasts: the top level always fits.
+            // Long bounds: the top level always fits.
             _ => {
                 for cell in 0..cells {
                     let level = (cell % levels) as u32;
@@ -315,8 +315,8 @@ impl Draw {
             }
         }
         let (least, most) = (sketch.total(0), sketch.total(levels - 1));
-        let cycle = self.pick(&[least, least.saturating_sub(1), least + 1, most, 1, CLOCK]);
-        sketch.cycle = cycle.clamp(1, CLOCK);
+        let cycle = self.pick(&[least, least.saturating_sub(1), least + 1, most, 1, LAST_CLOCK]);
+        sketch.cycle = cycle.clamp(1, LAST_CLOCK);
         if self.once_in(2) {
             self.deadlines(&mut sketch, &line, 1);
         }
@@ -386,8 +386,8 @@ impl Draw {
                 sketch.spares = vec![0; n];
                 sketch.spares[a] = self.between(1, 3);
             }
-            6 if n < ACTIONS && self.once_in(2) => sketch.masks[a] |= 1 << self.between(n as u32, 63),
-            6 => sketch.deadlines[a] = self.pick(&[sketch.cycle.saturating_add(1), CLOCK]),
+            6 if n < MOST_ACTIONS && self.once_in(2) => sketch.masks[a] |= 1 << self.between(n as u32, 63),
+            6 => sketch.deadlines[a] = self.pick(&[sketch.cycle.saturating_add(1), LAST_CLOCK]),
             7 => match self.between(0, 3) {
                 0 | 1 => sketch.averages[cell] = sketch.worst[cell].saturating_add(1),
                 2 => sketch.worst[cell] = sketch.worst[cell].saturating_sub(1),
@@ -427,7 +427,7 @@ impl Draw {
 impl Sketch {
     /// The sum of worst times at level 0, whatever the header says.
     fn total_at_least(&self, levels: usize) -> u32 {
-        self.worst.iter().step_by(levels).fold(0u32, |sum, &time| sum.saturating_add(time)).min(CLOCK)
+        self.worst.iter().step_by(levels).fold(0u32, |sum, &time| sum.saturating_add(time)).min(LAST_CLOCK)
     }
 }
 
@@ -445,10 +445,10 @@ impl Draw {
             match self.between(0, 9) {
                 0 => sketch.n = self.pick(&[0, 65, u32::MAX]),
                 1 => sketch.levels = self.pick(&[0, 9, u32::MAX]),
-                2 => sketch.cycle = self.pick(&[0, CLOCK + 1, u32::MAX]),
-                3 => sketch.worst[cell] = self.pick(&[TIME + 1, u32::MAX]),
-                4 => sketch.averages[cell] = self.pick(&[TIME + 1, u32::MAX]),
-                5 => sketch.deadlines[a] = self.pick(&[CLOCK + 1, u32::MAX]),
+                2 => sketch.cycle = self.pick(&[0, LAST_CLOCK + 1, u32::MAX]),
+                3 => sketch.worst[cell] = self.pick(&[LONGEST_TIME + 1, u32::MAX]),
+                4 => sketch.averages[cell] = self.pick(&[LONGEST_TIME + 1, u32::MAX]),
+                5 => sketch.deadlines[a] = self.pick(&[LAST_CLOCK + 1, u32::MAX]),
                 _ => {
                     let spare = (sketch.masks.len(), sketch.averages.len());
                     self.spoil(&mut sketch);
@@ -486,21 +486,22 @@ impl Draw {
             .map(|&longest| match pace {
                 Pace::Zero => 0,
                 Pace::Worst => longest,
-                Pace::Over if self.once_in(4) => longest.saturating_add(self.between(1, 3)).min(TIME),
-                _ => self.between(0, longest.min(TIME)),
+                Pace::Over if self.once_in(4) => longest.saturating_add(self.between(1, 3)).min(LONGEST_TIME),
+                _ => self.between(0, longest.min(LONGEST_TIME)),
             })
             .collect();
         if pace == Pace::Absent && !durations.is_empty() {
             let cell = self.index(durations.len());
-            durations[cell] = self.pick(&[TIME + 1, u32::MAX]);
+            durations[cell] = self.pick(&[LONGEST_TIME + 1, u32::MAX]);
         }
         durations
     }
 
     /// A trace for worst times by action and level.
-    pub fn trace(&mut self, n: u32, levels: u32, worst: &[u32]) -> Vec<u8> {
+    pub fn trace(&mut self, n: usize, levels: usize, worst: &[u32]) -> Vec<u8> {
+        let (n, levels) = (n as u32, levels as u32);
         let records = match self.between(0, 199) {
-            0 => RECORDS + self.index(2),
+            0 => MOST_RECORDS + self.index(2),
             1..=20 => 0,
             _ => self.index(60),
         };
@@ -515,13 +516,13 @@ impl Draw {
             };
             self.record(&mut bits, action, level, duration);
         }
-        if records < RECORDS && self.once_in(4) {
+        if records < MOST_RECORDS && self.once_in(4) {
             for _ in 0..self.between(1, 2) {
                 let (most, top) = if self.once_in(2) { (n - 1, levels - 1) } else { (63, 7) };
                 let (action, level) = (self.between(0, most), self.between(0, top));
                 let cell = (action * levels + level) as usize;
                 let longest = if action < n && level < levels { worst[cell] } else { 0 };
-                let duration = self.pick(&[longest, longest + 1, CLOCK]);
+                let duration = self.pick(&[longest, longest + 1, LAST_CLOCK]);
                 self.record(&mut bits, action, level, duration);
             }
         }
@@ -543,7 +544,7 @@ impl Draw {
 
     /// Numbers that no planner wrote, many of them close to a clock.
     pub fn foreign(&mut self, count: usize, clock: u32) -> Vec<i32> {
-        let clock = clock.min(CLOCK) as i32;
+        let clock = clock.min(LAST_CLOCK) as i32;
         let spread = self.between(1, 3) as i32;
         (0..count)
             .map(|_| match self.between(0, 15) {
@@ -555,10 +556,10 @@ impl Draw {
             .collect()
     }
 
-    /// Limits and coast bounds that no planner wrote, such that long coasts are frequent.
+    /// Limits and coast bounds that no planner wrote, such that long bounds are frequent.
     pub fn foreign_tables(&mut self, n: usize, levels: usize, clock: u32) -> (Vec<i32>, Vec<i32>) {
         let mut limits = self.foreign(n * levels, clock);
-        let mut coasts = self.foreign(n * levels * COAST, clock);
+        let mut bounds = self.foreign(n * levels * LONGEST_COAST, clock);
         if self.once_in(2) {
             // One level fits, the others do not.
             let level = self.index(levels);
@@ -569,9 +570,9 @@ impl Draw {
             }
         }
         if self.once_in(4) {
-            coasts.fill(i32::MAX);
+            bounds.fill(i32::MAX);
         }
-        (limits, coasts)
+        (limits, bounds)
     }
 
     /// A run record with every field inside its range, for n and L inside theirs.
@@ -579,15 +580,15 @@ impl Draw {
         let position = self.between(0, n);
         let running = position < n && self.once_in(2);
         let reached = position + u32::from(running);
-        let coast_left = if self.once_in(2) { 0 } else { self.between(0, (n - reached).min(15)) };
+        let left = if self.once_in(2) { 0 } else { self.between(0, (n - reached).min(15)) };
         Run {
             n,
             levels,
             position,
             running,
-            clock: self.pick(&[0, 1, 5, 20, 1000, CLOCK - 1, CLOCK]),
+            clock: self.pick(&[0, 1, 5, 20, 1000, LAST_CLOCK - 1, LAST_CLOCK]),
             level: self.between(0, levels - 1),
-            coast_left,
+            left,
             decisions: self.between(0, reached),
             overrun: self.once_in(2),
             late: self.once_in(2),
@@ -603,10 +604,10 @@ impl Draw {
             0 => run.n = self.pick(&[0, 1, 64, 65, u32::MAX]),
             1 => run.levels = self.pick(&[0, 1, 8, 9, u32::MAX]),
             2 => run.position = edge(run.n),
-            3 => run.clock = edge(CLOCK),
+            3 => run.clock = edge(LAST_CLOCK),
             4 => run.level = edge(run.levels - 1),
-            5 => run.coast_left = edge(15),
-            6 => run.coast_left = edge(run.n.saturating_sub(reached)),
+            5 => run.left = edge(15),
+            6 => run.left = edge(run.n.saturating_sub(reached)),
             7 => run.decisions = edge(reached),
             _ => run.running = !run.running,
         }
@@ -619,27 +620,33 @@ impl Draw {
         match self.between(0, 9) {
             0 => last,
             1 => last.saturating_sub(self.between(1, 3)),
-            2 => CLOCK,
-            3 => self.pick(&[CLOCK + 1, u32::MAX]),
+            2 => LAST_CLOCK,
+            3 => self.pick(&[LAST_CLOCK + 1, u32::MAX]),
             4 => last.saturating_add(longest),
             5 => last.saturating_add(longest).saturating_add(1),
-            _ => last.saturating_add(self.between(0, longest.min(TIME))),
+            _ => last.saturating_add(self.between(0, longest.min(LONGEST_TIME))),
         }
     }
 
     /// A number up to `most`, now and then over it.
-    pub fn name(&mut self, most: u32) -> u32 {
+    pub fn name(&mut self, most: usize) -> usize {
         match self.between(0, 11) {
             0 => most + 1,
-            1 => self.pick(&[64, 255, u32::MAX]),
-            _ => self.between(0, most),
+            1 => self.pick(&[64, 255, u32::MAX as usize, 1 << 32, usize::MAX]),
+            _ => self.between(0, most as u32) as usize,
         }
     }
 
     /// n and L, mostly inside their ranges.
-    pub fn shape(&mut self) -> (u32, u32) {
-        let n = if self.once_in(12) { self.pick(&[0, 65, u32::MAX]) } else { self.between(1, ACTIONS as u32) };
-        let levels = if self.once_in(12) { self.pick(&[0, 9, u32::MAX]) } else { self.between(1, LEVELS as u32) };
-        (n, levels)
+    pub fn shape(&mut self) -> (usize, usize) {
+        (self.count(MOST_ACTIONS), self.count(MOST_LEVELS))
+    }
+
+    /// From 1 to the most, or now and then outside, by a little and by as much as a width of 64 bits lets.
+    fn count(&mut self, most: usize) -> usize {
+        if self.once_in(12) {
+            return self.pick(&[0, most + 1, u32::MAX as usize, (1 << 32) + 1, usize::MAX]);
+        }
+        self.between(1, most as u32) as usize
     }
 }

@@ -11,4 +11,4 @@ pub use image::{check, lookup, lookup_refusal, read, write};
 pub use plan::plan;
 pub use refresh::refresh;
 pub use run::{ask, ask_lent, dry_run, report, report_lent, start};
-pub use speed::reading;
+pub use speed::speed_reading;

@@ -1,13 +1,14 @@
-//! Test software for the quality manager: what document 01 says, written twice in Rust and once in C, and the means to compare
+//! Test software for the quality manager: what the rules say, written twice in Rust and once in C, and the means to compare
 //! any implementation of its public calls with the definitions.
 //!
 //! - [`calls`]: the public calls as a trait, and the values that they hand over.
-//! - [`reference`]: the calls by the document's definitions. Slow, plain, and the judge.
-//! - [`product`]: the product's own calls, linked.
+//! - [`reference`]: the calls by the definitions of the rules. Slow, plain, and the judge.
+//! - [`boundary`]: the header in Rust; [`product`]: the product's own calls, linked, each in a safe function.
 //! - [`fast`]: the same calls as a good engineer would write them for speed; [`c`] binds the same in C (`c/fast.c`).
 //! - [`text`]: what the two programs print.
 //! - [`draw`]: inputs from a seed; [`compare`]: two implementations side by side over such inputs; [`outside`]: vectors in files.
 
+pub mod boundary;
 pub mod c;
 pub mod calls;
 pub mod compare;
@@ -18,4 +19,4 @@ pub mod product;
 pub mod reference;
 pub mod text;
 
-pub use calls::{Answer, Asked, Calls, Counts, Cycle, Reading, Run, Tables};
+pub use calls::{Answer, Calls, Counts, Dried, Given, Reading, Run, Tables};

@@ -1,6 +1,6 @@
 //! Writes vectors: inputs with what the product must answer, in files that any program can read.
 
-use crate::calls::{Calls, Fast, Reading, Reference, CLOCK, TIME};
+use crate::calls::{Calls, Fast, Reading, Reference, LAST_CLOCK, LONGEST_TIME};
 use crate::draw::{Draw, Pace, Size, PACES};
 use crate::reference::{accept, Planned};
 use crate::text;
@@ -33,7 +33,7 @@ pub struct Written {
 
 const INTRODUCTION: &str = "# Vectors
 
-Made from the definitions of document 01, by a seed.
+Made from the definitions of the rules, by a seed.
 
 - NNN.profile (an image, any bytes), NNN.durations; NNN.plan is what the plan program prints for the image, NNN.dry what the dry-run program prints for both.
 - tNN.profile, tNN.trace; tNN.refreshed is the new image, empty with a refusal, whose number stands in the table below.
@@ -184,11 +184,11 @@ impl Maker<'_> {
                     "durations longer than needed"
                 }
                 4 => {
-                    case.durations[entry..entry + 4].copy_from_slice(&TIME.to_be_bytes());
+                    case.durations[entry..entry + 4].copy_from_slice(&LONGEST_TIME.to_be_bytes());
                     "one entry 16,777,215"
                 }
                 5 => {
-                    case.durations[entry..entry + 4].copy_from_slice(&(TIME + 1).to_be_bytes());
+                    case.durations[entry..entry + 4].copy_from_slice(&(LONGEST_TIME + 1).to_be_bytes());
                     "one entry 16,777,216"
                 }
                 _ => {
@@ -230,7 +230,7 @@ impl Maker<'_> {
                 }
                 Err(_) => (1, 1, vec![0]),
             };
-            let trace = self.draw.trace(n as u32, levels as u32, &worst);
+            let trace = self.draw.trace(n, levels, &worst);
             // Only one of the longest that there may be, at the end.
             if trace.len() < 1000 {
                 traces.push(Trace { what: "drawn", image, trace });
@@ -253,7 +253,7 @@ impl Maker<'_> {
             let size = if self.draw.once_in(20) { Size::Extreme } else { Size::Tiny };
             let image = self.draw.image(size);
             let (n, levels, cycle) = match accept(&image) {
-                Ok(profile) => (profile.n as u32, profile.levels as u32, profile.cycle as u32),
+                Ok(profile) => (profile.n, profile.levels, profile.cycle as u32),
                 Err(_) => (3, 2, 20),
             };
             let [mut first, mut last] = [n - 1; 2].map(|most| self.draw.name(most));
@@ -262,9 +262,9 @@ impl Maker<'_> {
             }
             let level = self.draw.name(levels - 1);
             let time =
-                if self.draw.once_in(12) { CLOCK + self.draw.between(0, 1) } else { self.draw.between(0, cycle) };
-            let reading = Reference.reading(&image, first, last, level, time);
-            assert_eq!(reading, Fast.reading(&image, first, last, level, time));
+                if self.draw.once_in(12) { LAST_CLOCK + self.draw.between(0, 1) } else { self.draw.between(0, cycle) };
+            let reading = Reference.speed_reading(&image, first, last, level, time);
+            assert_eq!(reading, Fast.speed_reading(&image, first, last, level, time));
             let words = match reading {
                 Reading::Ratio(ratio) => format!("{:016x}", ratio.to_bits()),
                 Reading::Spent => "spent".to_string(),

@@ -1,5 +1,5 @@
-//! Document 01 by its definitions: sums are summed, least and greatest are sought over all candidates, bits are taken one by one.
-//! Nothing here is worked out from its neighbour. Whole numbers are `i64`, in which no value of the document overflows.
+//! The rules by their definitions: sums are summed, least and greatest are sought over all candidates, bits are taken one by one.
+//! Nothing here is worked out from its neighbour. Whole numbers are `i64`, in which no value of the rules overflows.
 
 mod bits;
 mod image;
@@ -16,4 +16,4 @@ pub use order::{Follows, Order};
 pub use profile::Profile;
 pub use refresh::refresh;
 pub use run::{ask, asked, dry_run, fields_out, granted, in_range, report, start, Bounds};
-pub use speed::{on_time, reading};
+pub use speed::{on_time, speed_reading};

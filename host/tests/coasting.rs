@@ -3,7 +3,7 @@
 
 mod common;
 
-use nyokazerubi_host::calls::{Calls, Cycle, Reference, Tables, COAST};
+use nyokazerubi_host::calls::{Calls, Dried, Reference, Tables, LONGEST_COAST};
 use nyokazerubi_host::draw::{Draw, Size, Sketch};
 use nyokazerubi_host::product::Product;
 use nyokazerubi_host::reference::Planned;
@@ -24,15 +24,15 @@ impl Trial {
     fn new(sketch: &Sketch) -> Option<Trial> {
         let (n, cells) = (sketch.n as usize, sketch.averages.len());
         let (mut order, mut limits) = (vec![0; n], vec![0; cells]);
-        let (mut worst, mut coasts) = (vec![0; cells], vec![0; cells * COAST]);
-        Reference.plan(&sketch.image(), &mut order, &mut limits, &mut worst, &mut coasts).ok()?;
-        let mut planned = (vec![9; n], vec![9; cells], vec![9; cells], vec![9; cells * COAST]);
+        let (mut worst, mut bounds) = (vec![0; cells], vec![0; cells * LONGEST_COAST]);
+        Reference.plan(&sketch.image(), &mut order, &mut limits, &mut worst, &mut bounds).ok()?;
+        let mut planned = (vec![9; n], vec![9; cells], vec![9; cells], vec![9; cells * LONGEST_COAST]);
         let answer = Product.plan(&sketch.image(), &mut planned.0, &mut planned.1, &mut planned.2, &mut planned.3);
         assert!(answer.is_ok(), "the product's plan of {sketch:?}");
-        assert_eq!(planned, (order, limits.clone(), worst.clone(), coasts.clone()), "the product's plan of {sketch:?}");
+        assert_eq!(planned, (order, limits.clone(), worst.clone(), bounds.clone()), "the product's plan of {sketch:?}");
         let planned = Planned::of(&common::profile(sketch));
         let by_definition = planned.limits();
-        let tables = (limits, worst, coasts);
+        let tables = (limits, worst, bounds);
         Some(Trial { planned, limits: by_definition, tables, steady: HashMap::new(), cycles: 0 })
     }
 
@@ -64,7 +64,7 @@ impl Trial {
         let n = self.planned.n;
         let mut fewest = vec![0; n + 1];
         for i in (0..n).rev() {
-            let ways = (1..=COAST.min(n - i)).filter(|&r| self.can_not_differ(i, clocks[i], r));
+            let ways = (1..=LONGEST_COAST.min(n - i)).filter(|&r| self.can_not_differ(i, clocks[i], r));
             fewest[i] = 1 + ways.map(|r| fewest[i + r]).min().expect("one action at a time is a way");
         }
         fewest[0]
@@ -80,25 +80,25 @@ impl Trial {
             table[i * width + levels[i]] = durations[i] as u32;
         }
         let decisions = self.fewest(&clocks);
-        let wanted = Cycle { decisions, end: clocks[n] as u32, overrun: false, late: false };
+        let wanted = Dried { decisions, end: clocks[n] as u32, overrun: false, late: false };
         for calls in [&Reference as &dyn Calls, &Product] {
-            let (mut given, mut decided) = (vec![9; n], vec![9; n]);
-            let tables = Tables { limits: &self.tables.0, worst: &self.tables.1, coasts: &self.tables.2 };
-            let answer = calls.dry_run(n as u32, width as u32, tables, &table, &mut given, &mut decided);
+            let (mut given, mut marks) = (vec![9; n], vec![9; n]);
+            let tables = Tables { limits: &self.tables.0, worst_by_position: &self.tables.1, bounds: &self.tables.2 };
+            let answer = calls.dry_run(n, width, tables, &table, &mut given, &mut marks);
             assert_eq!(answer, Ok(wanted), "{:?} {durations:?}", self.planned);
             assert!((0..n).all(|i| given[i] as usize == levels[i]), "{:?} {durations:?}", self.planned);
             assert!((0..n).all(|i| clocks[i + 1] <= self.planned.deadline[i]), "{:?} {durations:?}", self.planned);
-            assert_eq!(decided.iter().filter(|&&mark| mark == 1).count(), decisions as usize);
-            self.coasts_can_not_differ(&clocks, &decided);
+            assert_eq!(marks.iter().filter(|&&mark| mark == 1).count(), decisions as usize);
+            self.coasts_can_not_differ(&clocks, &marks);
         }
         self.cycles += 1;
     }
 
     /// Each coast that was granted is itself one that can't differ.
-    fn coasts_can_not_differ(&mut self, clocks: &[i64], decided: &[u8]) {
+    fn coasts_can_not_differ(&mut self, clocks: &[i64], marks: &[u8]) {
         let n = self.planned.n;
-        for i in (0..n).filter(|&i| decided[i] == 1) {
-            let coasted = decided[i + 1..].iter().take_while(|&&mark| mark == 0).count();
+        for i in (0..n).filter(|&i| marks[i] == 1) {
+            let coasted = marks[i + 1..].iter().take_while(|&&mark| mark == 0).count();
             assert!(self.can_not_differ(i, clocks[i], 1 + coasted), "{:?} {clocks:?}", self.planned);
         }
     }
@@ -135,7 +135,7 @@ impl Trial {
 #[test]
 fn drawn_profiles() {
     let mut draw = Draw::new(5);
-    let (mut trials, mut cycles, mut coasts, mut longest) = (0, 0, 0, 0);
+    let (mut trials, mut cycles, mut bounds, mut longest) = (0, 0, 0, 0);
     while trials < 6000 {
         let sketch = draw.profile(Size::Tiny);
         if let Some(mut trial) = Trial::new(&sketch).filter(|_| sketch.worst.iter().all(|&time| time <= 4)) {
@@ -143,11 +143,11 @@ fn drawn_profiles() {
             trials += 1;
             cycles += trial.cycles;
             longest = longest.max(trial.cycles);
-            coasts += trial.steady.iter().filter(|((_, _, r), holds)| *r > 1 && **holds).count();
+            bounds += trial.steady.iter().filter(|((_, _, r), holds)| *r > 1 && **holds).count();
         }
     }
-    println!("{trials} profiles, {cycles} cycles, up to {longest} each, {coasts} coasts of two and more");
-    assert!(coasts > trials && longest > 3000);
+    println!("{trials} profiles, {cycles} cycles, up to {longest} each, {bounds} bounds of two and more");
+    assert!(bounds > trials && longest > 3000);
 }
 
 /// Two actions, two levels, all times up to 2 by the table rule, all deadlines, all cycles up to 5.
@@ -214,9 +214,9 @@ fn long_chains() {
             for _ in 0..20 {
                 trial.drawn_cycle(&mut draw);
             }
-            full += trial.steady.iter().filter(|((_, _, r), holds)| *r == COAST && **holds).count();
+            full += trial.steady.iter().filter(|((_, _, r), holds)| *r == LONGEST_COAST && **holds).count();
         }
     }
-    println!("{full} coasts of sixteen");
+    println!("{full} bounds of sixteen");
     assert!(full > 20);
 }

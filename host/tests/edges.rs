@@ -2,7 +2,7 @@
 
 mod common;
 
-use nyokazerubi_host::calls::{Calls, Counts, Cycle, Reading, Run, Tables, CLOCK, RECORDS, TIME};
+use nyokazerubi_host::calls::{Calls, Counts, Dried, Reading, Run, Tables, LAST_CLOCK, LONGEST_TIME, MOST_RECORDS};
 use nyokazerubi_host::draw::Sketch;
 
 fn on_all_sides(test: fn(&dyn Calls)) {
@@ -36,17 +36,17 @@ fn record(open: bool, action: u64, level: u64, duration: u64) -> [u8; 5] {
 #[test]
 fn full_trace() {
     on_all_sides(|calls| {
-        let mut sketch = full(vec![0; 64], 7, TIME, CLOCK);
+        let mut sketch = full(vec![0; 64], 7, LONGEST_TIME, LAST_CLOCK);
         let image = sketch.image();
-        let mut trace = record(true, 63, 7, TIME.into()).repeat(RECORDS);
+        let mut trace = record(true, 63, 7, LONGEST_TIME.into()).repeat(MOST_RECORDS);
         let mut fresh = vec![0; image.len()];
         assert_eq!(calls.refresh(&image, &trace, &mut fresh), Ok(image.len()));
-        sketch.averages[511] = TIME;
+        sketch.averages[511] = LONGEST_TIME;
         assert_eq!(fresh, sketch.image());
         // One record shorter by one: rounded down.
         trace[4] -= 1;
         assert_eq!(calls.refresh(&image, &trace, &mut fresh), Ok(image.len()));
-        sketch.averages[511] = TIME - 1;
+        sketch.averages[511] = LONGEST_TIME - 1;
         assert_eq!(fresh, sketch.image());
         trace.extend(record(true, 63, 7, 0));
         assert_eq!(calls.refresh(&image, &trace, &mut fresh), Err(14));
@@ -61,7 +61,8 @@ fn first_fault_of_a_trace() {
         let number = |records: &[[u8; 5]], room: usize| {
             calls.refresh(&image, &records.concat(), &mut vec![0; room]).err().unwrap_or(0)
         };
-        let (good, long, absent) = (record(true, 2, 1, 8), record(false, 0, 0, 5), record(false, 3, 0, CLOCK.into()));
+        let (good, long, absent) =
+            (record(true, 2, 1, 8), record(false, 0, 0, 5), record(false, 3, 0, LAST_CLOCK.into()));
         assert_eq!(number(&[good, long, absent], 78), 16);
         assert_eq!(number(&[good, absent, long], 78), 15);
         assert_eq!(number(&[good, record(true, 0, 2, 0)], 78), 15);
@@ -82,10 +83,10 @@ fn dense_orders() {
         let plan =
             |image: &[u8], order: &mut [u8]| calls.plan(image, order, &mut [0; 512], &mut [0; 512], &mut [0; 8192]);
         for (masks, first, last) in [(up, 0, 63), (down, 63, 0), (vec![0; 64], 0, 63)] {
-            let image = full(masks.clone(), TIME, TIME, 64 * TIME).image();
-            assert_eq!(plan(&image, &mut order), Ok(Counts { n: 64, levels: 8, cycle: 64 * TIME }));
+            let image = full(masks.clone(), LONGEST_TIME, LONGEST_TIME, 64 * LONGEST_TIME).image();
+            assert_eq!(plan(&image, &mut order), Ok(Counts { n: 64, levels: 8, cycle: 64 * LONGEST_TIME }));
             assert_eq!((order[0], order[63]), (first, last));
-            let image = full(masks, TIME, TIME, 64 * TIME - 1).image();
+            let image = full(masks, LONGEST_TIME, LONGEST_TIME, 64 * LONGEST_TIME - 1).image();
             assert_eq!(plan(&image, &mut order), Err(9));
         }
         let mut sketch = full(vec![0; 64], 0, 1, 64);
@@ -102,15 +103,15 @@ fn lowest_limits() {
         let masks = (0..64).map(|a| if a == 0 { 0 } else { 1 << (a - 1) }).collect();
         let mut sketch = full(masks, 0, 0, 1);
         for cell in (0..512).filter(|cell| cell % 8 > 0) {
-            (sketch.averages[cell], sketch.worst[cell]) = (TIME, TIME);
+            (sketch.averages[cell], sketch.worst[cell]) = (LONGEST_TIME, LONGEST_TIME);
         }
-        let (mut limits, mut coasts) = ([0; 512], [0; 8192]);
-        let answer = calls.plan(&sketch.image(), &mut [0; 64], &mut limits, &mut [0; 512], &mut coasts);
+        let (mut limits, mut bounds) = ([0; 512], [0; 8192]);
+        let answer = calls.plan(&sketch.image(), &mut [0; 64], &mut limits, &mut [0; 512], &mut bounds);
         assert_eq!(answer, Ok(Counts { n: 64, levels: 8, cycle: 1 }));
-        assert_eq!(limits[..2], [1, 1 - 64 * TIME as i32]);
+        assert_eq!(limits[..2], [1, 1 - 64 * LONGEST_TIME as i32]);
         // The limit falls towards the start, so the first is the least: 64 actions left.
-        assert_eq!(coasts[16..32], [1 - 64 * TIME as i32; 16]);
-        assert_eq!(coasts[(63 * 8 + 1) * 16..][..2], [1 - TIME as i32, i32::MIN]);
+        assert_eq!(bounds[16..32], [1 - 64 * LONGEST_TIME as i32; 16]);
+        assert_eq!(bounds[(63 * 8 + 1) * 16..][..2], [1 - LONGEST_TIME as i32, i32::MIN]);
     });
 }
 
@@ -118,16 +119,19 @@ fn lowest_limits() {
 #[test]
 fn readings_at_the_ends() {
     on_all_sides(|calls| {
-        let image = full(vec![0; 64], TIME, TIME, 64 * TIME).image();
-        assert_eq!(calls.reading(&image, 0, 63, 0, 0), Reading::Ratio(1.0));
-        assert_eq!(calls.reading(&image, 0, 63, 7, 64 * TIME - 1), Reading::Ratio(f64::from(64 * TIME)));
-        assert_eq!(calls.reading(&image, 0, 63, 7, 64 * TIME), Reading::Spent);
-        assert_eq!(calls.reading(&image, 0, 63, 7, CLOCK), Reading::Spent);
-        assert_eq!(calls.reading(&image, 0, 63, 7, CLOCK + 1), Reading::Refused(13));
-        assert_eq!(calls.reading(&image, 0, 64, 7, CLOCK + 1), Reading::Refused(18));
-        assert_eq!(calls.reading(&image, u32::MAX, u32::MAX, 0, 0), Reading::Refused(18));
-        let image = full(vec![0; 64], 0, 0, CLOCK).image();
-        assert_eq!(calls.reading(&image, 0, 63, 0, 0), Reading::Ratio(0.0));
+        let image = full(vec![0; 64], LONGEST_TIME, LONGEST_TIME, 64 * LONGEST_TIME).image();
+        assert_eq!(calls.speed_reading(&image, 0, 63, 0, 0), Reading::Ratio(1.0));
+        assert_eq!(
+            calls.speed_reading(&image, 0, 63, 7, 64 * LONGEST_TIME - 1),
+            Reading::Ratio(f64::from(64 * LONGEST_TIME))
+        );
+        assert_eq!(calls.speed_reading(&image, 0, 63, 7, 64 * LONGEST_TIME), Reading::Spent);
+        assert_eq!(calls.speed_reading(&image, 0, 63, 7, LAST_CLOCK), Reading::Spent);
+        assert_eq!(calls.speed_reading(&image, 0, 63, 7, LAST_CLOCK + 1), Reading::Refused(13));
+        assert_eq!(calls.speed_reading(&image, 0, 64, 7, LAST_CLOCK + 1), Reading::Refused(18));
+        assert_eq!(calls.speed_reading(&image, usize::MAX, usize::MAX, 0, 0), Reading::Refused(18));
+        let image = full(vec![0; 64], 0, 0, LAST_CLOCK).image();
+        assert_eq!(calls.speed_reading(&image, 0, 63, 0, 0), Reading::Ratio(0.0));
     });
 }
 
@@ -156,12 +160,12 @@ fn run_records() {
             (Run { levels: 1, ..still }, Run { levels: 0, ..still }),
             (Run { position: 20, ..still }, Run { position: 21, ..still }),
             (Run { position: 19, ..runs }, Run { position: 20, ..runs }),
-            (Run { clock: CLOCK, ..still }, Run { clock: CLOCK + 1, ..still }),
+            (Run { clock: LAST_CLOCK, ..still }, Run { clock: LAST_CLOCK + 1, ..still }),
             (Run { level: 2, ..still }, Run { level: 3, ..still }),
-            (Run { coast_left: 15, ..still }, Run { coast_left: 16, ..still }),
-            (Run { coast_left: 15, ..runs }, Run { coast_left: 16, ..runs }),
-            (Run { position: 18, coast_left: 2, ..still }, Run { position: 18, coast_left: 3, ..still }),
-            (Run { position: 18, coast_left: 1, ..runs }, Run { position: 18, coast_left: 2, ..runs }),
+            (Run { left: 15, ..still }, Run { left: 16, ..still }),
+            (Run { left: 15, ..runs }, Run { left: 16, ..runs }),
+            (Run { position: 18, left: 2, ..still }, Run { position: 18, left: 3, ..still }),
+            (Run { position: 18, left: 1, ..runs }, Run { position: 18, left: 2, ..runs }),
             (Run { position: 5, decisions: 5, ..still }, Run { position: 5, decisions: 6, ..still }),
             (Run { position: 5, decisions: 6, ..runs }, Run { position: 5, decisions: 7, ..runs }),
         ] {
@@ -183,8 +187,8 @@ fn refusals_of_a_run_in_order() {
         let done = Run { position: 2, ..still };
         assert_eq!([ask(over, 1), ask(runs, 1), ask(runs, 2), ask(done, 1), ask(done, 2)], [11, 17, 11, 17, 10]);
         assert_eq!([report(over, 0, 1), report(still, 0, 1), report(still, 0, 2)], [11, 17, 11]);
-        assert_eq!([report(runs, 8, 1), report(runs, 8, 2), report(runs, CLOCK + 1, 2)], [17, 12, 13]);
-        assert_eq!([report(runs, 9, 2), report(runs, CLOCK, 2), ask(still, 2)], [0, 0, 0]);
+        assert_eq!([report(runs, 8, 1), report(runs, 8, 2), report(runs, LAST_CLOCK + 1, 2)], [17, 12, 13]);
+        assert_eq!([report(runs, 9, 2), report(runs, LAST_CLOCK, 2), ask(still, 2)], [0, 0, 0]);
     });
 }
 
@@ -192,15 +196,15 @@ fn refusals_of_a_run_in_order() {
 #[test]
 fn bounds_that_rise_again() {
     on_all_sides(|calls| {
-        let mut coasts = [i32::MIN; 4 * 16];
-        coasts[2] = 5;
-        let tables = Tables { limits: &[5; 4], worst: &[3; 4], coasts: &coasts };
+        let mut bounds = [i32::MIN; 4 * 16];
+        bounds[2] = 5;
+        let tables = Tables { limits: &[5; 4], worst_by_position: &[3; 4], bounds: &bounds };
         let (mut given, mut decided) = ([9; 5], [9; 5]);
         let cycle = calls.dry_run(4, 1, tables, &[1, 1, 1, 1], &mut given, &mut decided);
-        assert_eq!(cycle, Ok(Cycle { decisions: 2, end: 4, overrun: false, late: false }));
+        assert_eq!(cycle, Ok(Dried { decisions: 2, end: 4, overrun: false, late: false }));
         assert_eq!((given, decided), ([0, 0, 0, 0, 9], [1, 0, 0, 1, 9]));
         let cycle = calls.dry_run(4, 1, tables, &[4, 1, 1, 1], &mut given, &mut decided);
-        assert_eq!(cycle, Ok(Cycle { decisions: 4, end: 7, overrun: true, late: true }));
+        assert_eq!(cycle, Ok(Dried { decisions: 4, end: 7, overrun: true, late: true }));
         assert_eq!(decided, [1, 1, 1, 1, 9]);
     });
 }

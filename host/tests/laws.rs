@@ -1,8 +1,8 @@
-//! Laws of the document that follow from its definitions, on drawn inputs.
+//! Laws of the rules that follow from its definitions, on drawn inputs.
 
 mod common;
 
-use nyokazerubi_host::calls::{Calls, Counts, Reading, Reference, CLOCK};
+use nyokazerubi_host::calls::{Calls, Counts, Reading, Reference, LAST_CLOCK};
 use nyokazerubi_host::draw::{Draw, Size};
 use nyokazerubi_host::reference::{accept, Planned};
 
@@ -36,7 +36,7 @@ fn reading_and_writing_undo_each_other() {
     let mut back = 0;
     for _ in 0..2000 {
         let sketch = draw.writing(Size::Small);
-        let counts = Counts { n: sketch.n, levels: sketch.levels, cycle: sketch.cycle };
+        let counts = Counts { n: sketch.n as usize, levels: sketch.levels as usize, cycle: sketch.cycle };
         let mut image = [0; 4000];
         let written =
             Reference.write(counts, &sketch.masks, &sketch.deadlines, &sketch.averages, &sketch.worst, &mut image);
@@ -64,8 +64,9 @@ fn the_ratio_tells_whether_time_is_left() {
             let (i, q) = (draw.index(k + 1), draw.index(planned.levels));
             let last = planned.deadline[k] - planned.mixed(i, k, q);
             let near = last + i64::from(draw.between(0, 4)) - 2;
-            let time = if draw.once_in(3) { draw.between(0, CLOCK).into() } else { near.clamp(0, CLOCK.into()) };
-            if let Reading::Ratio(ratio) = Reference.reading(&image, i as u32, k as u32, q as u32, time as u32) {
+            let time =
+                if draw.once_in(3) { draw.between(0, LAST_CLOCK).into() } else { near.clamp(0, LAST_CLOCK.into()) };
+            if let Reading::Ratio(ratio) = Reference.speed_reading(&image, i, k, q, time as u32) {
                 assert_eq!(ratio <= 1.0, time <= last);
                 *(if ratio <= 1.0 { &mut under } else { &mut over }) += 1;
             }
@@ -99,7 +100,7 @@ fn refreshed_images() {
     for image in accepted(&mut draw, 500) {
         let old = accept(&image).expect("accepted");
         let worst: Vec<u32> = old.worst.iter().flatten().map(|&time| time as u32).collect();
-        let trace = draw.trace(old.n as u32, old.levels as u32, &worst);
+        let trace = draw.trace(old.n, old.levels, &worst);
         let mut fresh = vec![0; image.len()];
         if Reference.refresh(&image, &trace, &mut fresh).is_ok() {
             let mut new = accept(&fresh).expect("accepted");

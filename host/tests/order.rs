@@ -2,7 +2,7 @@
 
 mod common;
 
-use nyokazerubi_host::calls::{no, Calls};
+use nyokazerubi_host::calls::{refused, Calls};
 use nyokazerubi_host::draw::{Draw, Size, Sketch};
 use nyokazerubi_host::product::Product;
 use nyokazerubi_host::reference::{Follows, Order, Profile};
@@ -18,7 +18,7 @@ fn confirm(profile: &Profile) -> Option<u8> {
     let follows = Follows::of(profile);
     let refusal = profile.refusal();
     assert_eq!(follows.has_loop(), every.is_empty(), "{profile:?}");
-    assert_eq!(refusal == Some(no::LOOP), every.is_empty(), "{profile:?}");
+    assert_eq!(refusal == Some(refused::LOOP), every.is_empty(), "{profile:?}");
     assert_eq!(Product.check(&image(profile)).err(), refusal, "the product's check of {profile:?}");
     if every.is_empty() {
         return refusal;
@@ -31,7 +31,7 @@ fn confirm(profile: &Profile) -> Option<u8> {
     }
     assert!(every.contains(&Order::by_urgency(profile)), "{profile:?}");
     let unfit = every.iter().all(|order| order.misses_a_deadline(profile));
-    assert_eq!(refusal == Some(no::UNFIT), unfit, "{profile:?}");
+    assert_eq!(refusal == Some(refused::UNFIT), unfit, "{profile:?}");
     refusal
 }
 
@@ -88,7 +88,7 @@ fn all_masks_of_four_actions() {
             let mut few = |most| (0..4).map(|_| i64::from(draw.between(0, most))).collect::<Vec<i64>>();
             let number = confirm(&bare(masks.clone(), few(8), &few(3), 8));
             met[number.unwrap_or(0) as usize] += 1;
-            if number == Some(no::LOOP) {
+            if number == Some(refused::LOOP) {
                 break;
             }
         }

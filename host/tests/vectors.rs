@@ -29,7 +29,7 @@ fn text(folder: &Path, name: &str, ending: &str) -> String {
 }
 
 fn programs(calls: &dyn Calls) -> usize {
-    let folder = common::vectors("cases");
+    let folder = common::vectors("test_cases");
     let names = cases(&folder, |first| first.is_ascii_digit());
     for name in &names {
         let image = bytes(&folder, name, "profile");
@@ -48,7 +48,7 @@ fn trace_number(folder: &Path, name: &str) -> Option<u8> {
 }
 
 fn traces(calls: &dyn Calls) -> usize {
-    let folder = common::vectors("traces");
+    let folder = common::vectors("test_traces");
     let names = cases(&folder, |first| first == 't');
     for name in &names {
         let image = bytes(&folder, name, "profile");
@@ -71,16 +71,16 @@ fn unhex(digits: &str) -> Vec<u8> {
 }
 
 fn readings(calls: &dyn Calls) -> usize {
-    let lines = fs::read_to_string(common::vectors("readings").join("readings.txt")).expect("readings.txt");
+    let lines = fs::read_to_string(common::vectors("test_readings").join("readings.txt")).expect("readings.txt");
     for (at, line) in lines.lines().enumerate() {
         let fields: Vec<&str> = line.split_whitespace().collect();
-        let number = |field: usize| fields[field].parse::<u32>().expect("a number");
+        let number = |field: usize| fields[field].parse::<usize>().expect("a number");
         let wanted = match fields[5] {
             "spent" => Reading::Spent,
             "refused" => Reading::Refused(number(6) as u8),
             digits => Reading::Ratio(f64::from_bits(u64::from_str_radix(digits, 16).expect("64 bits"))),
         };
-        let got = calls.reading(&unhex(fields[0]), number(1), number(2), number(3), number(4));
+        let got = calls.speed_reading(&unhex(fields[0]), number(1), number(2), number(3), number(4) as u32);
         assert_eq!(got, wanted, "line {} of readings.txt", at + 1);
     }
     lines.lines().count()

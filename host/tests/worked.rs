@@ -1,10 +1,13 @@
-//! The document's worked values.
+//! The rules' worked values.
 
 mod common;
 
+use nyokazerubi_host::boundary::{Refusal, Run, BOUNDARY};
 use nyokazerubi_host::calls::{Calls, Counts, Reading};
 use nyokazerubi_host::product::Product;
 use nyokazerubi_host::text;
+use std::fs;
+use std::path::Path;
 
 /// The planned tables of an accepted image.
 struct Plan {
@@ -12,15 +15,15 @@ struct Plan {
     order: Vec<u8>,
     limits: Vec<i32>,
     worst: Vec<u32>,
-    coasts: Vec<i32>,
+    bounds: Vec<i32>,
 }
 
 fn plan(calls: &dyn Calls, image: &[u8]) -> Plan {
     let counts = calls.check(image).expect("accepted");
-    let (n, cells) = (counts.n as usize, (counts.n * counts.levels) as usize);
+    let (n, cells) = (counts.n, (counts.n * counts.levels));
     let mut plan =
-        Plan { counts, order: vec![0; n], limits: vec![0; cells], worst: vec![0; cells], coasts: vec![0; cells * 16] };
-    let answer = calls.plan(image, &mut plan.order, &mut plan.limits, &mut plan.worst, &mut plan.coasts);
+        Plan { counts, order: vec![0; n], limits: vec![0; cells], worst: vec![0; cells], bounds: vec![0; cells * 16] };
+    let answer = calls.plan(image, &mut plan.order, &mut plan.limits, &mut plan.worst, &mut plan.bounds);
     assert_eq!(answer, Ok(counts));
     plan
 }
@@ -49,17 +52,17 @@ fn three(calls: &dyn Calls) {
     let plan = plan(calls, &image);
     for (time, level, late) in [(6, 1, false), (7, 0, false), (12, 0, false), (13, 0, true)] {
         let (start, _) = calls.start(3, 2);
-        let (first, _) = calls.ask(start, &plan.order, &plan.limits, &plan.coasts);
+        let (first, _) = calls.ask(start, &plan.order, &plan.limits, &plan.bounds);
         let (ended, number) = calls.report(first, time, &plan.worst);
         assert_eq!(number, 0);
-        let (_, answer) = calls.ask(ended, &plan.order, &plan.limits, &plan.coasts);
+        let (_, answer) = calls.ask(ended, &plan.order, &plan.limits, &plan.bounds);
         let answer = answer.expect("a turn");
         assert_eq!((answer.level, answer.late), (level, late), "time {time}");
     }
 
     // Case 6.
-    assert_eq!(calls.reading(&image, 0, 2, 1, 0), Reading::Ratio(1.0));
-    assert_eq!(calls.reading(&image, 0, 2, 1, 18), Reading::Spent);
+    assert_eq!(calls.speed_reading(&image, 0, 2, 1, 0), Reading::Ratio(1.0));
+    assert_eq!(calls.speed_reading(&image, 0, 2, 1, 18), Reading::Spent);
 
     // Case 7.
     assert_eq!(calls.check(&common::three(12)), Ok(Counts { n: 3, levels: 2, cycle: 12 }));
@@ -81,7 +84,7 @@ fn encoder(calls: &dyn Calls) {
 /// Coast bounds of Three by hand, and those that reach past the end.
 fn bounds(calls: &dyn Calls) {
     let plan = plan(calls, &common::three(20));
-    let bound = |i: usize, q: usize, r: usize| plan.coasts[(i * 2 + q) * 16 + r - 1];
+    let bound = |i: usize, q: usize, r: usize| plan.bounds[(i * 2 + q) * 16 + r - 1];
     assert_eq!([bound(0, 0, 1), bound(0, 0, 2), bound(0, 0, 3)], [8, 8, 8]);
     assert_eq!([bound(0, 1, 1), bound(0, 1, 2), bound(0, 1, 3)], [0, -2, -4]);
     assert_eq!([bound(1, 1, 1), bound(1, 1, 2), bound(2, 1, 1)], [6, 4, 12]);
@@ -92,12 +95,38 @@ fn bounds(calls: &dyn Calls) {
 
 /// A refused start, and calls on its record.
 fn refused_start(calls: &dyn Calls) {
-    for (n, levels) in [(0, 1), (65, 1), (1, 0), (1, 9), (u32::MAX, u32::MAX)] {
+    for (n, levels) in
+        [(0, 1), (65, 1), (1, 0), (1, 9), (usize::MAX, usize::MAX), (1, (1 << 32) + 1), ((1 << 32) + 1, 1)]
+    {
         let (run, number) = calls.start(n, levels);
         assert_eq!((run.n, number), (0, 3));
         assert_eq!(calls.ask(run, &[0; 64], &[0; 512], &[0; 8192]), (run, Err(11)));
         assert_eq!(calls.report(run, 0, &[0; 512]), (run, 11));
     }
+}
+
+/// The archive is of the boundary that the header declares.
+#[test]
+fn boundary_of_the_product() {
+    assert_eq!(Product.boundary(), BOUNDARY);
+    assert_eq!((std::mem::size_of::<Run>(), std::mem::size_of::<Refusal>()), (32, 4));
+}
+
+/// The files to try the programs on: the product's encoder with its averages as durations, and Three with the durations of case 1.
+#[test]
+fn examples() {
+    let file = |name: &str| {
+        let path = Path::new(env!("CARGO_MANIFEST_DIR")).join("../examples").join(name);
+        fs::read(&path).unwrap_or_else(|error| panic!("{}: {error}", path.display()))
+    };
+    let mut image = vec![0; 546];
+    assert_eq!(Product.write_encoder(&mut image), Ok(546));
+    assert_eq!(file("encoder.image"), image);
+    let (mut masks, mut deadlines, mut averages, mut worst) = ([0; 9], [0; 9], [0; 72], [0; 72]);
+    Product.read(&image, &mut masks, &mut deadlines, &mut averages, &mut worst).expect("accepted");
+    assert_eq!(file("encoder.durations"), averages.map(u32::to_be_bytes).concat());
+    assert_eq!(file("three.image"), common::three(20));
+    assert_eq!(file("three.durations"), twice([6, 8, 4]));
 }
 
 /// The product's own profile of the encoder, and a lent image that is too short or longer.

@@ -6,12 +6,11 @@ use mathlib.Core.List.{List, [], _∷_}
 use mathlib.Core.Logic.{_⊎_, inl, inr, ⊎-elim, _≢_}
 use native.Mathlib.Nat.{mul-le-mul}
 use native.Mathlib.Omega.{arith}
-use lib.IntN.{ℤ}
 use lib.ListN.{length, getD}
 use Rattle.rules.specs.Numbers.{refused-duration, refused-room}
 use Rattle.rules.specs.Words.{tab}
 use Rattle.rules.specs.Image.{profile}
-use Rattle.rules.specs.Limits.{tables as by-position}
+use Rattle.rules.specs.Limits.{tables, LentTables, planner-tables}
 use Rattle.rules.specs.Refusals.{Ground, _when_, First, CountsOut, Tight, image-checks}
 use Rattle.rules.specs.Run.{Run}
 use Rattle.rules.specs.Dry.{LongEntry, dry-call, frame-call}
@@ -23,10 +22,10 @@ use Rattle.fields.proofs.Tabs.{tab-ext}
 use Rattle.fields.proofs.Written.{tab-written}
 use Rattle.rules.specs.declared.Refusal.{Refusal}
 use Rattle.planner.specs.declared.Planned.{Planned}
-use Rattle.planner.specs.Planning.{rooms as plan-rooms, Plans}
+use Rattle.planner.specs.Planning.{plan-rooms, with-fronts, Plans}
 use Rattle.planner.proofs.Answers.{kept-old, kept-new, by-number}
-use Rattle.dry_cycle.specs.declared.Dried.{Dried}
-use Rattle.dry_cycle.specs.Dry.{tables, needed, Dries}
+use Rattle.run.specs.declared.dry.Dried.{Dried}
+use Rattle.run.specs.Dry.{DryLists, dry-rooms, Dries}
 use Rattle.dry_frame.specs.declared.Framed.{Framed}
 use Rattle.dry_frame.specs.Frame.{rooms, run-at, Frames}
 use Rattle.dry_frame.proofs.Cycle.{Held, After, same-levels, same-marks, same-end, count-is, promise}
@@ -39,27 +38,32 @@ own n cells durations order given marks =
     refused-room when Tight (rooms n cells (length durations) order given marks) ∷ refused-duration when LongEntry cells durations ∷ []
 
 -- Where the planner's tables and the order have room, the frame's own refusal is the dry run's.
-own-of-dry : (n L : ℕ) (durations : List ℕ) (limits worst bounds order given marks k : ℕ) → (CountsOut n L → ⊥)
-    → n * L ≤ limits → n * L ≤ worst → n * L * 16 ≤ bounds → n ≤ order
-    → First (dry-call n L durations (needed n (n * L) limits worst bounds (length durations) given marks)) k
-    → First (own n (n * L) durations order given marks) k
-own-of-dry n L durations limits worst bounds order given marks k counts a b c d (inl p) = absurd (counts (p .0))
-own-of-dry n L durations limits worst bounds order given marks k counts a b c d (inr (_, inl (tight, is))) = inl (by tight, is)
-  where
-    by : Tight (needed n (n * L) limits worst bounds (length durations) given marks) → Tight (rooms n (n * L) (length durations) order given marks)
-    by (inl h) = absurd (omega arith)
-    by (inr (inl h)) = absurd (omega arith)
-    by (inr (inr (inl h))) = absurd (omega arith)
-    by (inr (inr (inr (inl h)))) = inl h
-    by (inr (inr (inr (inr (inl h))))) = inr (inr (inl h))
-    by (inr (inr (inr (inr (inr (inl h)))))) = inr (inr (inr (inl h)))
-own-of-dry n L durations limits worst bounds order given marks k counts a b c d (inr (_, inr (roomy, rest))) = inr ((λ t. roomy (by t)), rest)
-  where
-    by : Tight (rooms n (n * L) (length durations) order given marks) → Tight (needed n (n * L) limits worst bounds (length durations) given marks)
-    by (inl h) = inr (inr (inr (inl h)))
-    by (inr (inl h)) = absurd (omega arith)
-    by (inr (inr (inl h))) = inr (inr (inr (inr (inl h))))
-    by (inr (inr (inr (inl h)))) = inr (inr (inr (inr (inr (inl h)))))
+module _ (n L : ℕ) (T : LentTables) (durations : List ℕ) (lists : DryLists) (order : ℕ) where
+  abbrev dry : List (ℕ × ℕ)
+  dry = dry-rooms n L T durations lists
+
+  abbrev frame : List (ℕ × ℕ)
+  frame = rooms n (n * L) (length durations) order (length (lists .levels)) (length (lists .decided))
+
+  own-of-dry : (k : ℕ) → (CountsOut n L → ⊥) → n * L ≤ length (T .limits) → n * L ≤ length (T .worst) → n * L * 16 ≤ length (T .bounds) → n ≤ order
+      → First (dry-call n L durations dry) k → First (own n (n * L) durations order (length (lists .levels)) (length (lists .decided))) k
+  own-of-dry k counts a b c d (inl p) = absurd (counts (p .0))
+  own-of-dry k counts a b c d (inr (_, inl (tight, is))) = inl (by tight, is)
+    where
+      by : Tight dry → Tight frame
+      by (inl h) = absurd (omega arith)
+      by (inr (inl h)) = absurd (omega arith)
+      by (inr (inr (inl h))) = absurd (omega arith)
+      by (inr (inr (inr (inl h)))) = inl h
+      by (inr (inr (inr (inr (inl h))))) = inr (inr (inl h))
+      by (inr (inr (inr (inr (inr (inl h)))))) = inr (inr (inr (inl h)))
+  own-of-dry k counts a b c d (inr (_, inr (roomy, rest))) = inr ((λ t. roomy (by t)), rest)
+    where
+      by : Tight frame → Tight dry
+      by (inl h) = inr (inr (inr (inl h)))
+      by (inr (inl h)) = absurd (omega arith)
+      by (inr (inr (inl h))) = inr (inr (inr (inr (inl h))))
+      by (inr (inr (inr (inl h)))) = inr (inr (inr (inr (inr (inl h)))))
 
 -- ---- what is refused
 
@@ -92,20 +96,17 @@ module _ (s durations order given marks : List ℕ) where
   })
 
 -- Planning into tables that have room for the greatest profile, before and after.
-pub record Sized (actions worst : List ℕ) (limits bounds : List ℤ) : Type 0 where
-  pub actions-room : 64 ≤ length actions
-  pub limits-room : 512 ≤ length limits
-  pub worst-room : 512 ≤ length worst
-  pub bounds-room : 8192 ≤ length bounds
+pub record Sized (lent : LentTables) : Type 0 where
+  pub order-room : 64 ≤ length (lent .order)
+  pub limits-room : 512 ≤ length (lent .limits)
+  pub worst-room : 512 ≤ length (lent .worst)
+  pub bounds-room : 8192 ≤ length (lent .bounds)
 
-pub record Planning (s actions worst : List ℕ) (limits bounds : List ℤ) (p : Planned) : Type 0 where
-  pub actions₀ : List ℕ
-  pub limits₀ : List ℤ
-  pub worst₀ : List ℕ
-  pub bounds₀ : List ℤ
-  pub plans : Plans s actions₀ limits₀ worst₀ bounds₀ actions limits worst bounds p
-  pub sized₀ : Sized actions₀ worst₀ limits₀ bounds₀
-  pub sized : Sized actions worst limits bounds
+pub record Planning (s : List ℕ) (after : LentTables) (p : Planned) : Type 0 where
+  pub before : LentTables
+  pub plans : Plans s before after p
+  pub sized₀ : Sized before
+  pub sized : Sized after
 
 -- what a sound image has at most
 pub few : {s : List ℕ} → Sound s → (profile s .n ≤ 64) × (profile s .n * profile s .levels ≤ 512)
@@ -114,12 +115,12 @@ few {s} h =
     let levels : profile s .levels ≤ 8 = not-above (λ l. h .not-count (inl (inr (inr (inr l))))) in
     (n, mul-le-mul n levels)
 
-module _ {s actions worst : List ℕ} {limits bounds : List ℤ} {p : Planned} (P : Planning s actions worst limits bounds p) where
+module _ {s : List ℕ} {lent : LentTables} {p : Planned} (P : Planning s lent p) where
   abbrev plan-room : List Ground
-  plan-room = refused-room when Tight (plan-rooms (profile s .n) (profile s .levels) (P .actions₀) (P .limits₀) (P .worst₀) (P .bounds₀)) ∷ []
+  plan-room = refused-room when Tight (plan-rooms (profile s .n) (profile s .levels) (P .before)) ∷ []
 
-  never-tight : Sound s → Tight (plan-rooms (profile s .n) (profile s .levels) (P .actions₀) (P .limits₀) (P .worst₀) (P .bounds₀)) → ⊥
-  never-tight h (inl l) = omega (arith, few h .0, P .sized₀ .actions-room)
+  never-tight : Sound s → Tight (plan-rooms (profile s .n) (profile s .levels) (P .before)) → ⊥
+  never-tight h (inl l) = omega (arith, few h .0, P .sized₀ .order-room)
   never-tight h (inr (inl l)) = omega (arith, few h .1, P .sized₀ .limits-room)
   never-tight h (inr (inr (inl l))) = omega (arith, few h .1, P .sized₀ .worst-room)
   never-tight h (inr (inr (inr (inl l)))) = omega (arith, few h .1, P .sized₀ .bounds-room)
@@ -160,40 +161,49 @@ module _ {s actions worst : List ℕ} {limits bounds : List ℤ} {p : Planned} (
         frames-not s durations order given marks (record { number = 17 }) (then-own none (inl (inr (inl (omega (arith, n-is none))), refl)))
         (λ z. omega arith) refl refl e
 
+    -- what the dry run is lent: the planner's tables without the order, and the two lists
+    abbrev T : LentTables
+    T = record { order = []; limits = lent .limits; worst = lent .worst; bounds = lent .bounds }
+
+    abbrev lists : DryLists
+    lists = record { levels = given; decided = marks }
+
     module _ {given′ marks′ : List ℕ} {q : Dried} (none : p .refusal .number ≡ 0) (room : p .n ≤ length order)
-        (dries : Dries (p .n) (p .levels) (tables limits worst bounds durations) given given′ marks marks′ q) where
-      dries′ : Dries (profile s .n) (profile s .levels) (tables limits worst bounds durations) given given′ marks marks′ q
+        (dries : Dries (p .n) (p .levels) T durations lists (record { levels = given′; decided = marks′ }) q) where
+      dries′ : Dries (profile s .n) (profile s .levels) T durations lists (record { levels = given′; decided = marks′ }) q
       dries′ = rw (n-is none, levels-are none) at dries
 
-      own-is : First (rest s durations order given marks) (q .refusal)
+      own-is : First (rest s durations order given marks) (q .refusal .number)
       own-is =
           let h = sound none in
-          own-of-dry (profile s .n) (profile s .levels) durations (length limits) (length worst) (length bounds) (length order) (length given)
-          (length marks) (q .refusal) (λ c. h .not-count (inl c)) (omega (arith, few h .1, P .sized .limits-room))
-          (omega (arith, few h .1, P .sized .worst-room)) (omega (arith, few h .1, P .sized .bounds-room))
-          (omega (arith, n-is none)) (dries′ .refused)
+          own-of-dry (profile s .n) (profile s .levels) T durations lists (length order) (q .refusal .number) (λ c. h .not-count (inl c))
+          (omega (arith, few h .1, P .sized .limits-room)) (omega (arith, few h .1, P .sized .worst-room))
+          (omega (arith, few h .1, P .sized .bounds-room)) (omega (arith, n-is none)) (dries′ .refused)
 
-      pub dry-refused : {r : Framed} → q .refusal ≢ 0
-          → r ≡ record { refusal = record { number = q .refusal }; n = 0; decisions = 0; end = 0; overrun = false; late = false }
+      pub dry-refused : {r : Framed} → q .refusal .number ≢ 0
+          → r ≡ record { refusal = q .refusal; n = 0; decisions = 0; end = 0; overrun = false; late = false }
           → Frames s durations order given marks order given′ marks′ r
       dry-refused some e =
-          frames-not s durations order given marks (record { number = q .refusal }) (then-own none own-is) some
-          (dries′ .levels ∙ sym (kept-old (q .refusal) _ given some)) (dries′ .decided ∙ sym (kept-old (q .refusal) _ marks some)) e
+          frames-not s durations order given marks (q .refusal) (then-own none own-is) some
+          (dries′ .levels ∙ sym (kept-old (q .refusal .number) _ given some)) (dries′ .decided ∙ sym (kept-old (q .refusal .number) _ marks some)) e
 
-      held : Held (by-position (profile s) (P .plans .o)) limits worst bounds
+      written : lent ≡ with-fronts (P .before) (planner-tables (profile s) (P .plans .o))
+      written = rw none at (P .plans .tables-are)
+
+      held : Held (tables (profile s) (P .plans .o)) T
       held = record {
-        limits₀ = (P .limits₀);
-        worst₀ = (P .worst₀);
-        bounds₀ = (P .bounds₀);
-        limits-are = rw none at (P .plans .limits-are);
-        worst-is = rw none at (P .plans .worst-is);
-        bounds-are = rw none at (P .plans .bounds-are);
+        limits₀ = P .before .limits;
+        worst₀ = P .before .worst;
+        bounds₀ = P .before .bounds;
+        limits-are = ap (λ (t : LentTables). t .limits) written;
+        worst-is = ap (λ (t : LentTables). t .worst) written;
+        bounds-are = ap (λ (t : LentTables). t .bounds) written;
       }
 
       level : 0 < profile s .levels
       level = some-level (profile s) (P .plans .o) (sound none .not-count)
 
-      module _ (dry-none : q .refusal ≡ 0) where
+      module _ (dry-none : q .refusal .number ≡ 0) where
         after : After s durations (P .plans .o) given given′ marks marks′
         after = record {
           levels = rw dry-none at (dries′ .levels) ∙ ap (splice given 0) (same-levels held level durations);
@@ -212,10 +222,10 @@ module _ {s actions worst : List ℕ} {limits bounds : List ℤ} {p : Planned} (
         late-is : q .late ≡ run-at s durations (P .plans .o) (profile s .n) .late
         late-is = rw dry-none at (dries′ .late) ∙ ap (λ (r : Run). r .late) (same-end held level durations)
 
-        listed : (k : ℕ) → k < profile s .n → getD actions k 0 ≡ P .plans .o .at k
-        listed k l = tab-written (P .plans .o .at) (P .actions₀) (profile s .n) 0 (rw none at (P .plans .order-is)) k l
+        listed : (k : ℕ) → k < profile s .n → getD (lent .order) k 0 ≡ P .plans .o .at k
+        listed k l = tab-written (P .plans .o .at) (P .before .order) (profile s .n) 0 (ap (λ (t : LentTables). t .order) written) k l
 
-        pub framed : {order′ : List ℕ} → order′ ≡ splice order 0 (tab (λ k. getD actions k 0) (p .n))
+        pub framed : {order′ : List ℕ} → order′ ≡ splice order 0 (tab (λ k. getD (lent .order) k 0) (p .n))
             → Frames s durations order given marks order′ given′ marks′
             (record { refusal = p .refusal; n = p .n; decisions = q .decisions; end = q .end; overrun = q .overrun; late = q .late })
         framed e = record {

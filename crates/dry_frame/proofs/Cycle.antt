@@ -9,7 +9,7 @@ use lib.ListN.{getD}
 use Rattle.rules.specs.Words.{sum, tab, rows, one-if}
 use Rattle.rules.specs.Image.{profile}
 use Rattle.rules.specs.Order.{Order, TheOrder}
-use Rattle.rules.specs.Limits.{Tables, tables, limit, coast-bound, planned}
+use Rattle.rules.specs.Limits.{Tables, tables, limit, coast-bound, coast-bounds, LentTables, planned}
 use Rattle.rules.specs.Refusals.{Accepted}
 use Rattle.rules.specs.Run.{Run, decides, lent}
 use Rattle.rules.specs.Dry.{before, cell, dry-levels, dry-marks, dry-end}
@@ -23,21 +23,20 @@ use Rattle.rules.proofs.Demand.Along.{kept-alike}
 use Rattle.fields.specs.Fields.{splice}
 use Rattle.fields.proofs.Tabs.{tab-ext}
 use Rattle.fields.proofs.Written.{tab-written, rows-written, blocks-written}
-use Rattle.planner.specs.Planning.{coast-bounds}
 use Rattle.dry_frame.specs.declared.Framed.{Framed}
 use Rattle.dry_frame.specs.Frame.{run-at, got, took, Promised}
 
 -- The planner's tables of S, written to the fronts of some lists.
-pub record Held (S : Tables) (limits : List ℤ) (worst : List ℕ) (bounds : List ℤ) : Type 0 where
+pub record Held (S : Tables) (T : LentTables) : Type 0 where
   pub limits₀ : List ℤ
   pub worst₀ : List ℕ
   pub bounds₀ : List ℤ
-  pub limits-are : limits ≡ splice limits₀ 0 (rows (limit S) (S .n) (S .levels))
-  pub worst-is : worst ≡ splice worst₀ 0 (rows (S .worst) (S .n) (S .levels))
-  pub bounds-are : bounds ≡ splice bounds₀ 0 (coast-bounds S (S .n) (S .levels))
+  pub limits-are : T .limits ≡ splice limits₀ 0 (rows (limit S) (S .n) (S .levels))
+  pub worst-is : T .worst ≡ splice worst₀ 0 (rows (S .worst) (S .n) (S .levels))
+  pub bounds-are : T .bounds ≡ splice bounds₀ 0 (coast-bounds S (S .n) (S .levels))
 
-module _ {S : Tables} {limits : List ℤ} {worst : List ℕ} {bounds : List ℤ} (h : Held S limits worst bounds) (some : 0 < S .levels) where
-  read-alike : Alike 16 (lent (S .n) (S .levels) limits bounds) (planned S)
+module _ {S : Tables} {T : LentTables} (h : Held S T) (some : 0 < S .levels) where
+  read-alike : Alike 16 (lent (S .n) (S .levels) T) (planned S)
   unfolding lent
   read-alike = record {
     n = refl;
@@ -52,28 +51,28 @@ module _ {S : Tables} {limits : List ℤ} {worst : List ℕ} {bounds : List ℤ}
 
   -- the records of the two cycles
   pub same-run : (durations : List ℕ) (i : ℕ) → i ≤ S .n
-      → before 16 (lent (S .n) (S .levels) limits bounds) (cell worst (S .levels)) (cell durations (S .levels)) 0 i
+      → before 16 (lent (S .n) (S .levels) T) (cell (T .worst) (S .levels)) (cell durations (S .levels)) 0 i
       ≡ before 16 (planned S) (S .worst) (cell durations (S .levels)) 0 i
   unfolding lent
   same-run durations =
-      before-alike read-alike some (cell worst (S .levels)) (S .worst) (cell durations (S .levels))
+      before-alike read-alike some (cell (T .worst) (S .levels)) (S .worst) (cell durations (S .levels))
       (λ i q l m. rows-written (S .worst) (h .worst₀) (S .n) (S .levels) 0 (h .worst-is) i q l m) 0
 
   -- what the dry run writes and answers
   pub same-levels : (durations : List ℕ)
-      → dry-levels (S .n) (S .levels) limits worst bounds durations
+      → dry-levels (S .n) (S .levels) T durations
       ≡ tab (λ j. before 16 (planned S) (S .worst) (cell durations (S .levels)) 0 (suc j) .level) (S .n)
   unfolding dry-levels
   same-levels durations = tab-ext _ _ (S .n) (λ j l. ap (λ (r : Run). r .level) (same-run durations (suc j) l))
 
   pub same-marks : (durations : List ℕ)
-      → dry-marks (S .n) (S .levels) limits worst bounds durations
+      → dry-marks (S .n) (S .levels) T durations
       ≡ tab (λ j. one-if (decides (before 16 (planned S) (S .worst) (cell durations (S .levels)) 0 j))) (S .n)
   unfolding dry-marks
   same-marks durations = tab-ext _ _ (S .n) (λ j l. ap (λ (r : Run). one-if (decides r)) (same-run durations j (omega arith)))
 
   pub same-end : (durations : List ℕ)
-      → dry-end (S .n) (S .levels) limits worst bounds durations
+      → dry-end (S .n) (S .levels) T durations
       ≡ before 16 (planned S) (S .worst) (cell durations (S .levels)) 0 (S .n)
   unfolding dry-end
   same-end durations = same-run durations (S .n) (le-refl _)

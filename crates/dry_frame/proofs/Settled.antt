@@ -10,7 +10,7 @@ use lib.ListN.{length}
 use Rattle.rules.specs.Numbers.{refused-duration, refused-room}
 use Rattle.rules.specs.Words.{rows, one-if}
 use Rattle.rules.specs.Image.{profile}
-use Rattle.rules.specs.Limits.{Tables, tables, limit}
+use Rattle.rules.specs.Limits.{Tables, tables, limit, coast-bounds, LentTables}
 use Rattle.rules.specs.Refusals.{_when_, Tight}
 use Rattle.rules.specs.Run.{Run, decides}
 use Rattle.rules.specs.Dry.{LongEntry, frame-call}
@@ -19,7 +19,6 @@ use Rattle.rules.proofs.Accepted.{some-level}
 use Rattle.rules.proofs.Order.OfProfile.{order-settled}
 use Rattle.fields.specs.Fields.{splice}
 use Rattle.fields.proofs.Tabs.{tab-ext}
-use Rattle.planner.specs.Planning.{coast-bounds}
 use Rattle.planner.proofs.Alike.{Alike, limits-alike, worst-alike, bounds-alike}
 use Rattle.planner.proofs.Settled.{settled-alike, kept-one}
 use Rattle.dry_frame.specs.declared.Framed.{Framed}
@@ -53,12 +52,19 @@ module _ {s durations order given marks order₁ order₂ given₁ given₂ mark
       level : 0 < profile s .levels
       level = some-level (profile s) (x .o) (sound none .not-count)
 
-      left : Held (tables (profile s) (x .o)) (splice [] 0 (rows (limit S) (profile s .n) (profile s .levels)))
-          (splice [] 0 (rows (S .worst) (profile s .n) (profile s .levels))) (splice [] 0 (coast-bounds S (profile s .n) (profile s .levels)))
+      -- as they would lie in memory
+      T : LentTables
+      T = record {
+        order = [];
+        limits = splice [] 0 (rows (limit S) (profile s .n) (profile s .levels));
+        worst = splice [] 0 (rows (S .worst) (profile s .n) (profile s .levels));
+        bounds = splice [] 0 (coast-bounds S (profile s .n) (profile s .levels));
+      }
+
+      left : Held (tables (profile s) (x .o)) T
       left = record { limits₀ = []; worst₀ = []; bounds₀ = []; limits-are = refl; worst-is = refl; bounds-are = refl }
 
-      right : Held (tables (profile s) (y .o)) (splice [] 0 (rows (limit S) (profile s .n) (profile s .levels)))
-          (splice [] 0 (rows (S .worst) (profile s .n) (profile s .levels))) (splice [] 0 (coast-bounds S (profile s .n) (profile s .levels)))
+      right : Held (tables (profile s) (y .o)) T
       right = record {
         limits₀ = [];
         worst₀ = [];

@@ -56,7 +56,7 @@ pub fn dry_frame(
             number: rules::REFUSED_ROOM,
         });
     }
-    let dried = dry_cycle::dry_run(
+    let dried = run::dry::dry_run(
         n,
         planned.levels,
         &limits,
@@ -66,10 +66,8 @@ pub fn dry_frame(
         given,
         marks,
     );
-    if dried.refusal != 0 {
-        return refused(Refusal {
-            number: dried.refusal,
-        });
+    if dried.refusal.number != 0 {
+        return refused(dried.refusal);
     }
     fields::copy_front(&actions, n, order);
     Framed {

@@ -2,7 +2,7 @@
 -- and then level: Grab, Motion, Transform, Quantize, Intra, Compress, Inverse quantize, Inverse transform, Reconstruct.
 use Prim.Native.Nat.{ℕ}
 use mathlib.Core.List.{List, [], _∷_}
-use Rattle.rules.specs.Image.{Profile, of-tables}
+use Rattle.rules.specs.Image.{Profile, ProfileTables, of-tables}
 
 unfoldable pub masks : List ℕ
 masks = 0 ∷ 1 ∷ 2 ∷ 4 ∷ 8 ∷ 16 ∷ 32 ∷ 64 ∷ 128 ∷ []
@@ -36,5 +36,8 @@ worsts =
     13000 ∷ 13000 ∷ 13000 ∷ 13000 ∷ 13000 ∷ 13000 ∷ 13000 ∷ 13000 ∷
     []
 
+abbrev pub encoder-tables : ProfileTables
+encoder-tables = record { masks = masks; deadlines = deadlines; averages = averages; worst = worsts }
+
 unfoldable pub encoder : Profile
-encoder = of-tables 9 8 320000 masks deadlines averages worsts
+encoder = of-tables 9 8 320000 encoder-tables

@@ -1,8 +1,8 @@
 // The encoder's times (source 001, figure 5) as a fixed table, nine actions by eight levels, and its profile: the chain in the listed order,
 // deadlines 0, cycle 320,000. Grab, Motion, Transform, Quantize, Intra, Compress, Inverse quantize, Inverse transform, Reconstruct.
-use profile::Written;
+use image_write::Written;
 ghost use Rattle.image_write.specs.Writing.{Writes};
-ghost use Rattle.encoder.specs.Times.{masks, deadlines, averages, worsts};
+ghost use Rattle.encoder.specs.Times.{encoder-tables};
 
 pub const CYCLE: u32 = 320_000;
 
@@ -162,7 +162,7 @@ pub const WORST: [u32; 72] = [
 
 // Writes the encoder's profile: refused only where the image is shorter than its 546 bytes (`Written`, `only-room`).
 pub fn write_image(image: &mut [u8]) -> Written
-    ensures { λ r. ⌜ Writes 9 8 320000 masks deadlines averages worsts (now (image .entry)) (now (image .exit)) (r .refusal .number) (r .bytes) ⌝ }
+    ensures { λ r. ⌜ Writes 9 8 320000 encoder-tables (now (image .entry)) (now (image .exit)) (r .refusal .number) (r .bytes) ⌝ }
 {
     let masks = MASKS;
     let deadlines = DEADLINES;

@@ -9,11 +9,11 @@ use Rattle.image_fields.specs.Reading.{HasRecords}
 use Rattle.image_fields.proofs.Reading.{has-accepted}
 use Rattle.image_check.specs.declared.Checked.{Checked}
 use Rattle.rules.specs.declared.Refusal.{Refusal}
-use Rattle.image_check.specs.Checks.{Blank, Found, Answers, Judged}
+use Rattle.image_check.specs.Checks.{Blank, Found, CheckAnswers, Judged}
 
 -- a refused image
 pub refused-answers : {row : List Ground} {s : List ℕ} {r : Checked} (f : Refusal) → First row (f .number) → f .number ≢ 0
-    → (r .refusal ≡ f) × Blank r → Answers row s r
+    → (r .refusal ≡ f) × Blank r → CheckAnswers row s r
 refused-answers {row} f p some (e, blank) = record {
   number = rw e p;
   refused = λ _. blank;
@@ -21,7 +21,7 @@ refused-answers {row} f p some (e, blank) = record {
 }
 
 -- an accepted one
-pub accepted-answers : {row : List Ground} {s : List ℕ} {r : Checked} → First row 0 → r .refusal .number ≡ 0 → Found s r → Answers row s r
+pub accepted-answers : {row : List Ground} {s : List ℕ} {r : Checked} → First row 0 → r .refusal .number ≡ 0 → Found s r → CheckAnswers row s r
 accepted-answers p none found = record {
   number = rw none p;
   refused = λ some. absurd (some none);
@@ -29,7 +29,8 @@ accepted-answers p none found = record {
 }
 
 -- what the rest answers after a row that gives none
-pub answers-on : (row rest : List Ground) {s : List ℕ} {r : Checked} → Numbered row → First row 0 → Answers rest s r → Answers (row ++ rest) s r
+pub answers-on : (row rest : List Ground) {s : List ℕ} {r : Checked} → Numbered row → First row 0 → CheckAnswers rest s r
+    → CheckAnswers (row ++ rest) s r
 answers-on row rest m none a = record {
   number = first-goes-on row rest _ m none (a .number);
   refused = a .refused;

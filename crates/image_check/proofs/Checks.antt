@@ -5,14 +5,14 @@ use mathlib.Core.Logic.{inl, inr, _↔_}
 use Prim.Native.Nat.{ℕ, _<_}
 use lib.Dec.{lit<}
 use lib.ListN.{getD}
-use Rattle.rules.specs.Image.{actions, levels, cycle, record-at, image-bytes, mask-of, deadline-of, average-of, worst-of, profile}
-use Rattle.rules.specs.Refusals.{First, Count, Spare, Range, Table}
+use Rattle.rules.specs.Image.{record-at, image-bytes, mask-of, deadline-of, average-of, worst-of, profile}
+use Rattle.rules.specs.Words.{Some}
+use Rattle.rules.specs.Refusals.{First, LowestFault, CountOut, Count, OutOfRange, RangeFault, Range, RowBreaks, TableFault, Table, SpareFault, Spare}
 use Rattle.rules.proofs.Refusals.{Numbered, first-none}
+use Rattle.rules.proofs.Faults.{some-fault}
 use Rattle.image_fields.specs.declared.Header.{Header}
 use Rattle.image_fields.specs.Reading.{HeaderOf, Opened, Column}
-use Rattle.image_fields.specs.Faults.{LowestFault, CountOut, SpareSet, OutOfRange, RowBreaks}
 use Rattle.image_fields.proofs.Reading.{has-records}
-use Rattle.image_fields.proofs.Faults.{some-fault}
 use Rattle.image_check.specs.Checks.{head-checks, record-checks}
 
 -- ---- the numbers of the parts
@@ -37,18 +37,18 @@ module _ {s : List ℕ} {h : Header} (x : HeaderOf s h) where
 
   -- some action is at fault exactly if one of the profile's is
   some-says : (Fault Fault′ : ℕ → Type 0) → ((a : ℕ) → a < h .n → Fault a ↔ Fault′ a) → (r : ℕ) → LowestFault Fault (h .n) r
-      → (r < h .n) ↔ ((a : ℕ) × (a < profile s .n) × Fault′ a)
+      → (r < h .n) ↔ Some Fault′ (profile s .n)
   unfolding profile
-  some-says Fault Fault′ same r low = subst (λ (m : ℕ). (r < h .n) ↔ ((a : ℕ) × (a < m) × Fault′ a)) (x .n) (
+  some-says Fault Fault′ same r low = subst (λ (m : ℕ). (r < h .n) ↔ Some Fault′ m) (x .n) (
     (λ l. let w = some-fault low .0 l in (w .0, w .1, same (w .0) (w .1) .0 (w .2))),
     (λ w. some-fault low .1 (w .0, w .1, same (w .0) (w .1) .1 (w .2))),
   )
 
-  pub spare-says : (r : ℕ) → LowestFault (SpareSet s) (h .n) r → h .spare ≡ 0 → (r < h .n) ↔ Spare s
+  pub spare-says : (r : ℕ) → LowestFault (SpareFault s) (h .n) r → h .spare ≡ 0 → (r < h .n) ↔ Spare s
   spare-says r low e = ((λ l. inr (says .0 l)), back)
     where
-      says : (r < h .n) ↔ ((a : ℕ) × (a < profile s .n) × SpareSet s a)
-      says = some-says (SpareSet s) (SpareSet s) (λ a l. ((λ p. p), (λ p. p))) r low
+      says : (r < h .n) ↔ Some (SpareFault s) (profile s .n)
+      says = some-says (SpareFault s) (SpareFault s) (λ a l. ((λ p. p), (λ p. p))) r low
 
       back : Spare s → r < h .n
       back (inl k) = absurd (k (sym (x .spare) ∙ e))
@@ -59,14 +59,14 @@ module _ {s : List ℕ} {h : Header} (x : HeaderOf s h) where
   unfolding profile
   range-says {m} {d} masks deadlines = some-says
       (λ a. OutOfRange (h .n) (h .cycle) (getD m a 0) (getD d a 0))
-      (λ a. OutOfRange (actions s) (cycle s) (mask-of s a) (deadline-of s a))
+      (RangeFault (profile s))
       (λ a l. rw (masks .each a l, deadlines .each a l, x .n, x .cycle) ((λ p. p), (λ p. p)))
 
   pub table-says : (r : ℕ) → LowestFault (λ a. RowBreaks (h .levels) (average-of s a) (worst-of s a)) (h .n) r → (r < h .n) ↔ Table (profile s)
   unfolding profile
   table-says = some-says
       (λ a. RowBreaks (h .levels) (average-of s a) (worst-of s a))
-      (λ a. RowBreaks (levels s) (average-of s a) (worst-of s a))
+      (TableFault (profile s))
       (λ a l. rw (x .levels) ((λ p. p), (λ p. p)))
 
   -- with none of 2 to 4 the records are there

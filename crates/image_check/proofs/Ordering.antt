@@ -12,7 +12,7 @@ use Rattle.rules.proofs.Refusals.{first-none}
 use Rattle.rules.proofs.Order.Alike.{Alike, alike-back}
 use Rattle.sets.proofs.Laws.{below-exact}
 use Rattle.fields.proofs.Bytes.{Bytes}
-use Rattle.order.specs.Lent.{lent, Masked, Timed}
+use Rattle.order.specs.Lent.{lent-profile, Masked, Timed}
 use Rattle.order.specs.Judged.{Verdict}
 use Rattle.order.proofs.Judging.{verdict-alike}
 use Rattle.image_fields.specs.declared.Header.{Header}
@@ -44,7 +44,7 @@ module _ {s : List ℕ} {h : Header} {m d w : List ℕ} (x : Opened s h) (y : Co
   }
 
   -- the columns say of the order what the profile says
-  alike : Alike (lent (h .n) (h .cycle) m d w 1) (profile s)
+  alike : Alike (lent-profile (h .n) (h .cycle) m d w 1) (profile s)
   unfolding profile due
   alike = record {
     n = x .header .n;
@@ -53,7 +53,7 @@ module _ {s : List ℕ} {h : Header} {m d w : List ℕ} (x : Opened s h) (y : Co
     times = λ a l. rw mul-one (y .worst .each a l);
   }
 
-  pub verdict : {k : ℕ} {l : List ℕ} → Verdict (lent (h .n) (h .cycle) m d w 1) k l → Verdict (profile s) k l
+  pub verdict : {k : ℕ} {l : List ℕ} → Verdict (lent-profile (h .n) (h .cycle) m d w 1) k l → Verdict (profile s) k l
   verdict v = verdict-alike (alike-back alike) v
 
 -- without a refusal the header's counts are found, and the actions in order
@@ -65,4 +65,5 @@ found x v e n levels cycle = record {
   levels = levels ∙ x .levels;
   cycle = cycle ∙ x .cycle;
   order = v .order (λ z. omega arith);
+  rest = v .rest;
 }

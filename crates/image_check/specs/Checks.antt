@@ -8,7 +8,7 @@ use Rattle.rules.specs.Numbers.{refused-version, refused-count, refused-length,
 use Rattle.rules.specs.Image.{profile}
 use Rattle.rules.specs.Order.{Order, TheOrder}
 use Rattle.rules.specs.Refusals.{Ground, _when_, First, Count, Range, Table, Looped, Unfit, Version, Length, Spare, image-checks}
-use Rattle.order.specs.Arranged.{Lists}
+use Rattle.order.specs.Arranged.{Lists, ZeroFrom}
 use Rattle.image_check.specs.declared.Checked.{Checked}
 
 -- the image checks in parts: after 1 those of the header, of the records, of the order
@@ -31,19 +31,20 @@ pub record Blank (r : Checked) : Type 0 where
   pub cycle : r .cycle ≡ 0
   pub order : r .order ≡ replicate 64 0
 
--- without one: the profile's n, levels and cycle, and its actions in order
+-- without one: the profile's n, levels and cycle, and its actions in order, then 0
 pub record Found (s : List ℕ) (r : Checked) : Type 0 where
   pub n : r .n ≡ profile s .n
   pub levels : r .levels ≡ profile s .levels
   pub cycle : r .cycle ≡ profile s .cycle
   pub order : (o : Order (profile s .n)) × TheOrder (profile s) o × Lists (r .order) o
+  pub rest : ZeroFrom (profile s .n) (r .order)
 
 -- r is what the checks in the row answer of the image s
-pub record Answers (row : List Ground) (s : List ℕ) (r : Checked) : Type 0 where
+pub record CheckAnswers (row : List Ground) (s : List ℕ) (r : Checked) : Type 0 where
   pub number : First row (r .refusal .number)
   pub refused : r .refusal .number ≢ 0 → Blank r
   pub accepted : r .refusal .number ≡ 0 → Found s r
 
 -- r is what the whole check answers
 abbrev pub Judged : List ℕ → Checked → Type 0
-Judged s r = Answers (image-checks s) s r
+Judged s r = CheckAnswers (image-checks s) s r

@@ -5,7 +5,8 @@ pub mod whole;
 
 ghost use Rattle.rules.specs.Refusals.{First, image-checks};
 
-// What the whole check finds: with a refusal all else is 0; without one what the header says, and the order of the n actions.
+// What the whole check finds: with a refusal all else is 0; without one what the header says, and the n actions in order,
+// then 0.
 pub struct Checked {
     pub refusal: Refusal,
     pub n: usize,

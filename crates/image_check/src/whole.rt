@@ -9,7 +9,7 @@ ghost use mathlib.Core.Path.{_≡_};
 ghost use Rattle.rules.specs.Image.{mask-of, deadline-of};
 ghost use Rattle.rules.specs.Refusals.{First};
 ghost use Rattle.image_fields.specs.Reading.{HeaderOf, Opened, Column, Columns};
-ghost use Rattle.image_check.specs.Checks.{head-checks, record-checks, rest-checks, Blank, Answers, Judged};
+ghost use Rattle.image_check.specs.Checks.{head-checks, record-checks, rest-checks, Blank, CheckAnswers, Judged};
 
 // What a refused image answers.
 fn refused(refusal: Refusal) -> Checked
@@ -87,7 +87,7 @@ fn checked_columns(
     worst: &[u32],
 ) -> Checked
     requires { ⌜ Opened (now image) head × Columns (now image) (head .n) (now masks) (now deadlines) (now worst) ⌝ }
-    ensures { λ r. ⌜ Answers (rest-checks (now (image .entry))) (now (image .entry)) r ⌝ }
+    ensures { λ r. ⌜ CheckAnswers (rest-checks (now (image .entry))) (now (image .entry)) r ⌝ }
 {
     let refusal = record_refusal(image, head, masks, deadlines);
     if refusal.number != 0 {
@@ -111,7 +111,7 @@ fn checked_columns(
 // 5 to 9.
 fn checked_records(image: &[u8], head: Header) -> Checked
     requires { ⌜ Opened (now image) head ⌝ }
-    ensures { λ r. ⌜ Answers (rest-checks (now (image .entry))) (now (image .entry)) r ⌝ }
+    ensures { λ r. ⌜ CheckAnswers (rest-checks (now (image .entry))) (now (image .entry)) r ⌝ }
 {
     let mut masks = [0u64; 64];
     let mut deadlines = [0u32; 64];

@@ -1,17 +1,23 @@
--- The faults of an image: what a test says of one, how a loop finds the lowest action at fault, and the rule of the times level by level.
-use mathlib.Core.Path.{_≡_, refl}
+-- The faults of an action: what a test says of one, and the rule of the times level by level.
+use mathlib.Core.Path.{_≡_, refl, sym, ap, _∙_}
 use mathlib.Core.Bool.{Bool, true, false, not, false≢true}
+use mathlib.Core.List.{List}
 use mathlib.Core.Logic.{_⊎_, inl, inr, _↔_}
 use Prim.Native.Nat.{ℕ, zero, suc, _+_, _^_, _≤_, _<_}
-use native.Mathlib.Nat.{le-refl}
-use native.Mathlib.Decide.{decLt}
+use native.Mathlib.Nat.{zero-add}
 use native.Mathlib.Numerals.{add-one}
 use native.Mathlib.Omega.{arith}
+use lib.ListN.{getD}
+use Rattle.rules.specs.Words.{tab}
 use Rattle.rules.specs.Image.{has}
+use Rattle.rules.specs.Refusals.{OutOfRange, RowBreaks}
 use Rattle.rules.proofs.Tests.{not-both}
+use Rattle.rules.proofs.Faults.{Faultless, breaks-same}
 use Rattle.sets.specs.Sets.{Below}
 use Rattle.sets.proofs.Laws.{below-or-not, below-exact}
-use Rattle.image_fields.specs.Faults.{LowestFault, OutOfRange, RowBreaks, LevelBreaks}
+use Rattle.fields.specs.Fields.{splice}
+use Rattle.fields.proofs.Written.{tab-written}
+use Rattle.image_fields.specs.Faults.{row, LevelBreaks}
 
 -- ---- a test
 
@@ -24,32 +30,6 @@ said-no n = ((λ e. absurd (false≢true e)), (λ p. absurd (n p)))
 -- what a test that fails says
 pub denied : {P : Type 0} {b : Bool} → (b ≡ true) ↔ P → b ≡ false → P → ⊥
 denied t e p = not-both (t .1 p) e
-
--- ---- the lowest action at fault
-
--- no action below a is at fault
-abbrev pub Faultless : (ℕ → Type 0) → ℕ → Type 0
-Faultless Fault a = (k : ℕ) → k < a → Fault k → ⊥
-
--- how a loop ends: at an action at fault, or past the last one
-module _ {Fault : ℕ → Type 0} where
-  pub lowest-here : {n a : ℕ} → a < n → Faultless Fault a → Fault a → LowestFault Fault n a
-  lowest-here l sound h = record { most = omega arith; fault = λ m. h; before = sound }
-
-  pub lowest-none : {n a : ℕ} → n ≤ a → Faultless Fault a → LowestFault Fault n n
-  lowest-none l sound = record { most = le-refl _; fault = λ m. absurd (omega arith); before = λ k m. sound k (omega arith) }
-
--- an action is at fault exactly if the lowest one is below n
-pub some-fault : {Fault : ℕ → Type 0} {n r : ℕ} → LowestFault Fault n r → (r < n) ↔ ((a : ℕ) × (a < n) × Fault a)
-some-fault {Fault} {n} {r} x = ((λ l. (r, l, x .fault l)), (λ w. below (w .0) (w .2) (decLt r n) (w .1)))
-  where
-    below : (a : ℕ) → Fault a → Dec (r < n) → a < n → r < n
-    below a h (yes l) m = l
-    below a h (no l) m = absurd (x .before a (omega arith) h)
-
--- what it says where the lowest one is not below n
-pub no-fault : {P : Type 0} {n r : ℕ} → (r < n) ↔ P → n ≤ r → P → ⊥
-no-fault t l p = let m = t .1 p in omega arith
 
 -- ---- 6
 
@@ -99,3 +79,15 @@ module _ (average worst : ℕ → ℕ) where
   pub level-says : {a w a₀ w₀ : ℕ} {b : Bool} (q : ℕ) → a ≡ average q → w ≡ worst q → a₀ ≡ before average q → w₀ ≡ before worst q
       → (b ≡ true) ↔ LevelBreaks a w a₀ w₀ → (b ≡ true) ↔ Breaks q
   level-says q e f g h t = rw (← e, ← f, ← g, ← h) t
+
+-- of the times of an action that were copied to the front of two tables
+pub copied-says : {L : ℕ} (average worst : ℕ → ℕ) (x y : List ℕ) {x′ y′ : List ℕ} {b : Bool}
+    → x′ ≡ splice x 0 (tab average L) → y′ ≡ splice y 0 (tab worst L)
+    → (b ≡ true) ↔ RowBreaks L (row x′ 0) (row y′ 0) → (b ≡ true) ↔ RowBreaks L average worst
+copied-says {L} average worst x y e f t = (
+  (λ p. breaks-same (read average x e) (read worst y f) (t .0 p)),
+  (λ h. t .1 (breaks-same (λ q l. sym (read average x e q l)) (λ q l. sym (read worst y f q l)) h)),
+)
+  where
+    read : (time : ℕ → ℕ) (l₀ : List ℕ) {l : List ℕ} → l ≡ splice l₀ 0 (tab time L) → (q : ℕ) → q < L → row l 0 q ≡ time q
+    read time l₀ {l} g q m = ap (λ (i : ℕ). getD l i 0) (zero-add q) ∙ tab-written time l₀ L 0 g q m

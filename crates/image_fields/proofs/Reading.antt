@@ -11,13 +11,12 @@ use lib.Seq.{getD-set-same, getD-set-other}
 use borrow.Author.Count.{below-none, below-more}
 use Rattle.rules.specs.Numbers.{longest-time}
 use Rattle.rules.specs.Image.{levels, record-bytes, record-at, image-bytes, worst-of, profile}
-use Rattle.rules.specs.Refusals.{Count, Length, Accepted}
+use Rattle.rules.specs.Refusals.{CountOut, Count, Length, Accepted}
 use Rattle.rules.proofs.Differences.{not-above}
 use Rattle.rules.proofs.Refusals.{accepted-sound}
 use Rattle.fields.proofs.Bytes.{Bytes, be-lt}
 use Rattle.fields.proofs.Strides.{stride-fits}
 use Rattle.image_fields.specs.Reading.{HasRecord, HasRecords, Column}
-use Rattle.image_fields.specs.Faults.{CountOut}
 
 -- ---- 3
 

@@ -1,8 +1,12 @@
-// The columns of an image by which its actions are ordered.
+// What is copied of an image: the columns by which its actions are ordered, and the times of an action.
 use crate::read;
-ghost use Prim.Native.Nat.{_≤_};
+ghost use mathlib.Core.Path.{_≡_};
+ghost use Prim.Native.Nat.{_+_, _≤_};
 ghost use lib.ListN.{length};
-ghost use Rattle.image_fields.specs.Reading.{HasRecords, Columns};
+ghost use Rattle.rules.specs.Words.{tab};
+ghost use Rattle.rules.specs.Image.{average-of, worst-of};
+ghost use Rattle.fields.specs.Fields.{splice};
+ghost use Rattle.image_fields.specs.Reading.{HasRecord, HasRecords, Columns};
 
 // Copies the masks, the deadlines and the level 0 worst times of n actions.
 pub fn take_columns(
@@ -22,5 +26,27 @@ pub fn take_columns(
         deadlines[a] = read::deadline_at(image, levels, a);
         worst[a] = read::worst_at(image, levels, a, 0);
         a += 1;
+    }
+}
+
+// Copies the times of action a, level by level, into both tables from index `from` on.
+pub fn take_row(
+    image: &[u8],
+    levels: usize,
+    a: usize,
+    averages: &mut [u32],
+    worst: &mut [u32],
+    from: usize,
+)
+    requires { ⌜ HasRecord (now image) levels a ⌝ }
+    requires { ⌜ (from + levels ≤ length (now averages)) × (from + levels ≤ length (now worst)) ⌝ }
+    ensures { λ r. ⌜ now (averages .exit) ≡ splice (now (averages .entry)) from (tab (average-of (now (image .entry)) a) levels) ⌝ }
+    ensures { λ r. ⌜ now (worst .exit) ≡ splice (now (worst .entry)) from (tab (worst-of (now (image .entry)) a) levels) ⌝ }
+{
+    let mut q = 0;
+    while q < levels {
+        averages[from + q] = read::average_at(image, levels, a, q);
+        worst[from + q] = read::worst_at(image, levels, a, q);
+        q += 1;
     }
 }

@@ -7,9 +7,10 @@ use native.Mathlib.Omega.{arith}
 use native.Mathlib.Decide.{ℕ-discrete}
 use lib.Dec.{lit<}
 use lib.ListN.{length, take}
-use Rattle.rules.specs.Image.{Profile, actions, levels, cycle, image-bytes, profile, of-tables, image}
-use Rattle.rules.specs.Refusals.{First, Count, Range, TimeOut, Table, Looped, Unfit, Accepted, Tight, write-call}
+use Rattle.rules.specs.Image.{Profile, ProfileTables, actions, levels, cycle, image-bytes, profile, of-tables, image}
+use Rattle.rules.specs.Refusals.{First, Count, Range, Table, Looped, Unfit, Accepted, Tight, write-call}
 use Rattle.rules.proofs.Refusals.{None, first-none, accepted-sound}
+use Rattle.rules.proofs.Faults.{TimeOut, write-range}
 use Rattle.rules.proofs.Speed.Reading.{times-small}
 use Rattle.fields.proofs.Bytes.{Bytes}
 use Rattle.image_laws.proofs.Sizes.{length-image}
@@ -39,8 +40,8 @@ write-sound F rooms = ((λ p. sound (none .0 p)), (λ p. none .1 (all (p .0) (p 
       room,
       record {
         not-count = count;
-        not-range = λ h. range (inl h);
-        not-time-out = λ h. range (inr h);
+        not-range = λ h. range (write-range F .1 (inl h));
+        not-time-out = λ h. range (write-range F .1 (inr h));
         not-table = table;
         not-looped = looped;
         not-unfit = unfit;
@@ -49,7 +50,7 @@ write-sound F rooms = ((λ p. sound (none .0 p)), (λ p. none .1 (all (p .0) (p 
 
     all : (Tight rooms → ⊥) → Writable F → None (write-call F rooms)
     all room w =
-        (w .not-count, (room, (⊎-elim (w .not-range) (w .not-time-out), (w .not-table, (w .not-looped, (w .not-unfit, tt))))))
+        (w .not-count, (room, ((λ h. ⊎-elim (w .not-range) (w .not-time-out) (write-range F .0 h)), (w .not-table, (w .not-looped, (w .not-unfit, tt))))))
 
 -- Of two profiles that say the same it accepts both or none.
 same-writable : {F G : Profile} → Same F G → Writable F → Writable G
@@ -126,21 +127,25 @@ accepted-writable s b a =
       not-unfit = h .not-unfit;
     }
 
-pub tables-accepted : {s masks deadlines averages worst : List ℕ} → ReadFrom s masks deadlines averages worst → Bytes s → Accepted s
+pub tables-accepted : {s : List ℕ} {T : ProfileTables} → ReadFrom s T → Bytes s → Accepted s
     → (rooms : List (ℕ × ℕ)) → (Tight rooms → ⊥)
-    → First (write-call (of-tables (actions s) (levels s) (cycle s) masks deadlines averages worst) rooms) 0
+    → First (write-call (of-tables (actions s) (levels s) (cycle s) T) rooms) 0
 tables-accepted {s} x b a rooms room = write-sound _ rooms .1 (room, same-writable (same-back (tables-same x)) (accepted-writable s b a))
 
 -- ---- each undoes the other on what it accepts
 
-pub accepted-again : {s masks deadlines averages worst : List ℕ} → ReadFrom s masks deadlines averages worst → Bytes s → Accepted s
-    → image (of-tables (actions s) (levels s) (cycle s) masks deadlines averages worst) ≡ s
+pub accepted-again : {s : List ℕ} {T : ProfileTables} → ReadFrom s T → Bytes s → Accepted s
+    → image (of-tables (actions s) (levels s) (cycle s) T) ≡ s
 accepted-again {s} x b a = tables-again x b (accepted-formed s a)
 
-pub written-back : (n L c : ℕ) (masks deadlines averages worst : List ℕ) (rooms : List (ℕ × ℕ))
-    → First (write-call (of-tables n L c masks deadlines averages worst) rooms) 0
-    → n ≤ length masks → n ≤ length deadlines → n * L ≤ length averages → n * L ≤ length worst
-    → Gives (image (of-tables n L c masks deadlines averages worst)) n L c (take n masks) (take n deadlines) (take (n * L) averages)
-    (take (n * L) worst)
-written-back n L c masks deadlines averages worst rooms p =
-    tables-back n L c masks deadlines averages worst (writable-range (write-sound (of-tables n L c masks deadlines averages worst) rooms .0 p .1))
+pub written-back : (n L c : ℕ) (T : ProfileTables) (rooms : List (ℕ × ℕ))
+    → First (write-call (of-tables n L c T) rooms) 0
+    → n ≤ length (T .masks) → n ≤ length (T .deadlines) → n * L ≤ length (T .averages) → n * L ≤ length (T .worst)
+    → Gives (image (of-tables n L c T)) n L c (record {
+      masks = take n (T .masks);
+      deadlines = take n (T .deadlines);
+      averages = take (n * L) (T .averages);
+      worst = take (n * L) (T .worst);
+    })
+written-back n L c T rooms p =
+    tables-back n L c T (writable-range (write-sound (of-tables n L c T) rooms .0 p .1))

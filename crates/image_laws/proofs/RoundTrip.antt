@@ -6,7 +6,7 @@ use native.Mathlib.Omega.{arith}
 use lib.ListN.{length, getD, take}
 use lib.Seq.{length-take-le, getD-take}
 use Rattle.rules.specs.Words.{tab, rows}
-use Rattle.rules.specs.Image.{actions, levels, cycle, mask-of, deadline-of, average-of, worst-of, profile, of-tables, image}
+use Rattle.rules.specs.Image.{ProfileTables, actions, levels, cycle, mask-of, deadline-of, average-of, worst-of, profile, of-tables, image}
 use Rattle.fields.specs.Fields.{splice}
 use Rattle.fields.proofs.Bytes.{Bytes}
 use Rattle.fields.proofs.Strides.{cell-fits}
@@ -21,17 +21,21 @@ use Rattle.image_laws.proofs.Again.{Formed, read-written}
 -- ---- tables read of an image
 
 -- the lists begin with the tables of s
-pub record ReadFrom (s masks deadlines averages worst : List ℕ) : Type 0 where
-  pub masks-are : Holds masks 0 (tab (mask-of s) (actions s))
-  pub deadlines-are : Holds deadlines 0 (tab (deadline-of s) (actions s))
-  pub averages-are : Holds averages 0 (rows (average-of s) (actions s) (levels s))
-  pub worst-are : Holds worst 0 (rows (worst-of s) (actions s) (levels s))
+pub record ReadFrom (s : List ℕ) (T : ProfileTables) : Type 0 where
+  pub masks-are : Holds (T .masks) 0 (tab (mask-of s) (actions s))
+  pub deadlines-are : Holds (T .deadlines) 0 (tab (deadline-of s) (actions s))
+  pub averages-are : Holds (T .averages) 0 (rows (average-of s) (actions s) (levels s))
+  pub worst-are : Holds (T .worst) 0 (rows (worst-of s) (actions s) (levels s))
 
 module _ (s : List ℕ) where
   -- what `unpack` leaves in lent slices
   pub read-lent : (m d a w : List ℕ)
-      → ReadFrom s (splice m 0 (tab (mask-of s) (actions s))) (splice d 0 (tab (deadline-of s) (actions s)))
-      (splice a 0 (rows (average-of s) (actions s) (levels s))) (splice w 0 (rows (worst-of s) (actions s) (levels s)))
+      → ReadFrom s (record {
+        masks = splice m 0 (tab (mask-of s) (actions s));
+        deadlines = splice d 0 (tab (deadline-of s) (actions s));
+        averages = splice a 0 (rows (average-of s) (actions s) (levels s));
+        worst = splice w 0 (rows (worst-of s) (actions s) (levels s));
+      })
   read-lent m d a w = record {
     masks-are = of-splice m 0 _ zero-le;
     deadlines-are = of-splice d 0 _ zero-le;
@@ -39,8 +43,8 @@ module _ (s : List ℕ) where
     worst-are = of-splice w 0 _ zero-le;
   }
 
-module _ {s masks deadlines averages worst : List ℕ} (x : ReadFrom s masks deadlines averages worst) where
-  pub tables-same : Same (of-tables (actions s) (levels s) (cycle s) masks deadlines averages worst) (profile s)
+module _ {s : List ℕ} {T : ProfileTables} (x : ReadFrom s T) where
+  pub tables-same : Same (of-tables (actions s) (levels s) (cycle s) T) (profile s)
   unfolding of-tables profile
   tables-same = record {
     n = refl;
@@ -63,37 +67,41 @@ module _ {s masks deadlines averages worst : List ℕ} (x : ReadFrom s masks dea
           getD-holds h i i 0 (omega arith) (omega (arith, cell-fits a (actions s) q (levels s) l m)) ∙ getD-rows f (levels s) (actions s) a q 0 l m
 
   -- Writing them gives the image again.
-  pub tables-again : Bytes s → Formed s → image (of-tables (actions s) (levels s) (cycle s) masks deadlines averages worst) ≡ s
+  pub tables-again : Bytes s → Formed s → image (of-tables (actions s) (levels s) (cycle s) T) ≡ s
   tables-again b f = image-same tables-same ∙ read-written b f
 
 -- ---- tables of an image that was written
 
 -- reading s gives these counts, this cycle and these tables
-pub record Gives (s : List ℕ) (n L c : ℕ) (masks deadlines averages worst : List ℕ) : Type 0 where
+pub record Gives (s : List ℕ) (n L c : ℕ) (T : ProfileTables) : Type 0 where
   pub actions-are : actions s ≡ n
   pub levels-are : levels s ≡ L
   pub cycle-is : cycle s ≡ c
-  pub masks-are : tab (mask-of s) n ≡ masks
-  pub deadlines-are : tab (deadline-of s) n ≡ deadlines
-  pub averages-are : rows (average-of s) n L ≡ averages
-  pub worst-are : rows (worst-of s) n L ≡ worst
+  pub masks-are : tab (mask-of s) n ≡ T .masks
+  pub deadlines-are : tab (deadline-of s) n ≡ T .deadlines
+  pub averages-are : rows (average-of s) n L ≡ T .averages
+  pub worst-are : rows (worst-of s) n L ≡ T .worst
 
 -- Reading the image of tables gives them again, as far as it is of them.
-module _ (n L c : ℕ) (masks deadlines averages worst : List ℕ) (r : InRange (of-tables n L c masks deadlines averages worst)) where
-  pub tables-back : n ≤ length masks → n ≤ length deadlines → n * L ≤ length averages → n * L ≤ length worst
-      → Gives (image (of-tables n L c masks deadlines averages worst)) n L c (take n masks) (take n deadlines) (take (n * L) averages)
-      (take (n * L) worst)
+module _ (n L c : ℕ) (T : ProfileTables) (r : InRange (of-tables n L c T)) where
+  pub tables-back : n ≤ length (T .masks) → n ≤ length (T .deadlines) → n * L ≤ length (T .averages) → n * L ≤ length (T .worst)
+      → Gives (image (of-tables n L c T)) n L c (record {
+        masks = take n (T .masks);
+        deadlines = take n (T .deadlines);
+        averages = take (n * L) (T .averages);
+        worst = take (n * L) (T .worst);
+      })
   unfolding of-tables profile
   tables-back hm hd ha hw =
-      let s : List ℕ = image (of-tables n L c masks deadlines averages worst) in
+      let s : List ℕ = image (of-tables n L c T) in
       let x = written-read r in record {
         actions-are = sym (x .n);
         levels-are = sym (x .levels);
         cycle-is = sym (x .cycle);
-        masks-are = column masks (mask-of s) hm (x .mask);
-        deadlines-are = column deadlines (deadline-of s) hd (x .deadline);
-        averages-are = table averages (average-of s) ha (x .average);
-        worst-are = table worst (worst-of s) hw (x .worst);
+        masks-are = column (T .masks) (mask-of s) hm (x .mask);
+        deadlines-are = column (T .deadlines) (deadline-of s) hd (x .deadline);
+        averages-are = table (T .averages) (average-of s) ha (x .average);
+        worst-are = table (T .worst) (worst-of s) hw (x .worst);
       }
     where
       column : (xs : List ℕ) (f : ℕ → ℕ) → n ≤ length xs → ((a : ℕ) → a < n → getD xs a 0 ≡ f a) → tab f n ≡ take n xs

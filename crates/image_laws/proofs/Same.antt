@@ -1,10 +1,10 @@
 -- Profiles that say the same: they have the same image, and the same grounds of refusal hold of them.
-use Prim.Native.Nat.{ℕ, suc, _<_}
-use mathlib.Core.Path.{_≡_, sym, ap}
-use mathlib.Core.Logic.{⊎-map}
+use Prim.Native.Nat.{ℕ, _<_}
+use mathlib.Core.Path.{_≡_, sym, ap, subst}
 use native.Mathlib.Omega.{arith}
 use Rattle.rules.specs.Image.{Profile, has, due, header-of, level-image, record-image, image}
-use Rattle.rules.specs.Refusals.{Count, Range, TimeOut, Falls, Table, Looped, Unfit}
+use Rattle.rules.specs.Refusals.{Count, Range, RowBreaks, Table, Looped, Unfit}
+use Rattle.rules.proofs.Faults.{TimeOut, breaks-same}
 use Rattle.rules.proofs.Order.Alike.{Alike, looped-alike, fit-alike}
 use Rattle.fields.proofs.Cats.{cat-ext}
 
@@ -57,13 +57,11 @@ module _ {F G : Profile} (x : Same F G) where
   time-out-to (a, l, (q, m, h)) = (a, omega (arith, x .n), (q, omega (arith, x .levels), rw (x .average a q l m, x .worst a q l m) at h))
 
   pub table-to : Table F → Table G
-  table-to (a, l, h) = (a, omega (arith, x .n), ⊎-map above (⊎-map (falls (x .average a)) (falls (x .worst a))) h)
-    where
-      above : (q : ℕ) × (q < F .levels) × (F .worst a q < F .average a q) → (q : ℕ) × (q < G .levels) × (G .worst a q < G .average a q)
-      above (q, m, e) = (q, omega (arith, x .levels), omega (arith, x .average a q l m, x .worst a q l m))
-
-      falls : {f g : ℕ → ℕ} → ((q : ℕ) → a < F .n → q < F .levels → f q ≡ g q) → Falls f (F .levels) → Falls g (G .levels)
-      falls same (q, m, e) = (q, omega (arith, x .levels), omega (arith, same q l (omega arith), same (suc q) l m))
+  table-to (a, l, h) = (
+    a,
+    omega (arith, x .n),
+    subst (λ (L : ℕ). RowBreaks L (G .average a) (G .worst a)) (x .levels) (breaks-same (λ q m. x .average a q l m) (λ q m. x .worst a q l m) h),
+  )
 
   -- the fit is of level 0, so there has to be one
   alike : 0 < F .levels → Alike F G

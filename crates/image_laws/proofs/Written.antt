@@ -12,8 +12,9 @@ use borrow.Author.Tests.{eq-eqb}
 use Rattle.rules.specs.Words.{cat}
 use Rattle.rules.specs.Image.{Profile, has, bytes, be, header, version, actions, levels, cycle, header-spare, record-bytes, record-at}
 use Rattle.rules.specs.Image.{mask-of, deadline-of, spare-of, average-of, worst-of, profile, header-of, level-image, record-image, image}
-use Rattle.rules.specs.Refusals.{Count, Range, TimeOut}
+use Rattle.rules.specs.Refusals.{Count, Range}
 use Rattle.rules.proofs.Differences.{not-above}
+use Rattle.rules.proofs.Faults.{TimeOut}
 use Rattle.fields.proofs.Holds.{Holds, whole, left, right, reads-lt}
 use Rattle.fields.proofs.Cats.{nth}
 use Rattle.image_laws.proofs.Sizes.{length-level, length-record}

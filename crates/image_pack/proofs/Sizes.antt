@@ -1,15 +1,15 @@
 -- The first of n actions, and where the record of an action ends. Assumes nothing.
 use Prim.Native.Nat.{ℕ, _+_, _*_, _≤_}
 use mathlib.Core.Path.{_≡_}
-use mathlib.Core.List.{List}
 use native.Mathlib.Nat.{mul-le-mul-right}
 use native.Mathlib.Omega.{arith}
 use Rattle.rules.specs.Image.{record-bytes, record-at, image-bytes}
 use Rattle.fields.proofs.Strides.{stride-more}
+use Rattle.rules.specs.Image.{ProfileTables}
 use Rattle.image_pack.specs.Packing.{Roomy}
 
-pub roomy-first : {n L : ℕ} {masks deadlines averages worst : List ℕ} (m : ℕ) → m ≤ n → Roomy n L masks deadlines averages worst
-    → Roomy m L masks deadlines averages worst
+pub roomy-first : {n L : ℕ} {T : ProfileTables} (m : ℕ) → m ≤ n → Roomy n L T
+    → Roomy m L T
 roomy-first {n} {L} m h x = record {
   few-actions = omega (arith, x .few-actions);
   few-levels = x .few-levels;

@@ -32,7 +32,8 @@ fn put_levels(image: &mut [u8], at: usize, levels: usize, averages: &[u32], wors
     requires { ⌜ at + levels * 6 ≤ length (now image) ⌝ }
     requires { ⌜ (a * levels + levels ≤ length (now averages)) × (a * levels + levels ≤ length (now worst)) ⌝ }
     ensures { λ r. ⌜ now (image .exit)
-        ≡ splice (now (image .entry)) at (cat (level-image (of-records levels [] [] (now (averages .entry)) (now (worst .entry))) a) levels) ⌝ }
+        ≡ splice (now (image .entry)) at (cat (level-image (of-records levels
+        (record { masks = []; deadlines = []; averages = now (averages .entry); worst = now (worst .entry) })) a) levels) ⌝ }
 {
     let row = a * levels;
     let mut q = 0;
@@ -57,10 +58,12 @@ fn put_record(
     worst: &[u32],
     a: usize,
 )
-    requires { ⌜ Roomy (a + 1) levels (now masks) (now deadlines) (now averages) (now worst) ⌝ }
+    requires { ⌜ Roomy (a + 1) levels (record { masks = now masks; deadlines = now deadlines; averages = now averages; worst = now worst }) ⌝ }
     requires { ⌜ (image-bytes (a + 1) levels ≤ length (now image)) × (getD (now deadlines) a 0 < 2 ^ 30) ⌝ }
     ensures { λ r. ⌜ now (image .exit) ≡ splice (now (image .entry)) (record-at levels a)
-        (record-image (of-records levels (now (masks .entry)) (now (deadlines .entry)) (now (averages .entry)) (now (worst .entry))) a) ⌝ }
+        (record-image (of-records levels
+        (record { masks = now (masks .entry); deadlines = now (deadlines .entry); averages = now (averages .entry); worst = now (worst .entry) }))
+        a) ⌝ }
 {
     let at = record_at(levels, a);
     fields::put64(image, at, masks[a]);
@@ -83,10 +86,12 @@ fn put_records(
     averages: &[u32],
     worst: &[u32],
 )
-    requires { ⌜ Roomy n levels (now masks) (now deadlines) (now averages) (now worst) ⌝ }
+    requires { ⌜ Roomy n levels (record { masks = now masks; deadlines = now deadlines; averages = now averages; worst = now worst }) ⌝ }
     requires { ⌜ (image-bytes n levels ≤ length (now image)) × ((k : ℕ) → k < n → getD (now deadlines) k 0 < 2 ^ 30) ⌝ }
     ensures { λ r. ⌜ now (image .exit) ≡ splice (now (image .entry)) header-bytes
-        (cat (record-image (of-records levels (now (masks .entry)) (now (deadlines .entry)) (now (averages .entry)) (now (worst .entry)))) n) ⌝ }
+        (cat (record-image (of-records levels
+        (record { masks = now (masks .entry); deadlines = now (deadlines .entry); averages = now (averages .entry); worst = now (worst .entry) })))
+        n) ⌝ }
 {
     let mut a = 0;
     while a < n {
@@ -98,7 +103,8 @@ fn put_records(
 // The header: version 4 (value 1), actions 7, levels 4, cycle 30, spare 3.
 fn put_header(image: &mut [u8], n: usize, levels: usize, cycle: u32)
     requires { ⌜ (n ≤ 64) × (levels ≤ 8) × (cycle < 2 ^ 30) × (header-bytes ≤ length (now image)) ⌝ }
-    ensures { λ r. ⌜ now (image .exit) ≡ splice (now (image .entry)) 0 (bytes 6 (header-of (of-tables n levels cycle [] [] [] []))) ⌝ }
+    ensures { λ r. ⌜ now (image .exit) ≡ splice (now (image .entry)) 0 (bytes 6 (header-of (of-tables n levels cycle
+        (record { masks = []; deadlines = []; averages = []; worst = [] })))) ⌝ }
 {
     let counts = (rules::VERSION_BEFORE + n as u64) * rules::LEVELS_SAID + levels as u64;
     fields::put48(
@@ -119,10 +125,11 @@ pub fn put_image(
     averages: &[u32],
     worst: &[u32],
 )
-    requires { ⌜ Roomy n levels (now masks) (now deadlines) (now averages) (now worst) ⌝ }
+    requires { ⌜ Roomy n levels (record { masks = now masks; deadlines = now deadlines; averages = now averages; worst = now worst }) ⌝ }
     requires { ⌜ (image-bytes n levels ≤ length (now image)) × (cycle < 2 ^ 30) × ((k : ℕ) → k < n → getD (now deadlines) k 0 < 2 ^ 30) ⌝ }
     ensures { λ r. ⌜ now (image .exit) ≡ splice (now (image .entry)) 0
-        (image-of (of-tables n levels cycle (now (masks .entry)) (now (deadlines .entry)) (now (averages .entry)) (now (worst .entry)))) ⌝ }
+        (image-of (of-tables n levels cycle
+        (record { masks = now (masks .entry); deadlines = now (deadlines .entry); averages = now (averages .entry); worst = now (worst .entry) }))) ⌝ }
 {
     put_header(image, n, levels, cycle);
     put_records(image, n, levels, masks, deadlines, averages, worst);

@@ -1,4 +1,5 @@
 // Reading: the tables of an image, unpacked into lent slices.
+use image_fields::column;
 use image_fields::read;
 ghost use mathlib.Core.Path.{_≡_};
 ghost use mathlib.Core.List.{[], _∷_};
@@ -8,22 +9,6 @@ ghost use Rattle.rules.specs.Words.{tab, rows};
 ghost use Rattle.rules.specs.Image.{mask-of, deadline-of, average-of, worst-of};
 ghost use Rattle.fields.specs.Fields.{splice};
 ghost use Rattle.image_fields.specs.Reading.{HasRecord, HasRecords};
-
-// The times of action a, into row a of both tables.
-pub fn unpack_row(image: &[u8], levels: usize, a: usize, averages: &mut [u32], worst: &mut [u32])
-    requires { ⌜ HasRecord (now image) levels a ⌝ }
-    requires { ⌜ (a * levels + levels ≤ length (now averages)) × (a * levels + levels ≤ length (now worst)) ⌝ }
-    ensures { λ r. ⌜ now (averages .exit) ≡ splice (now (averages .entry)) (a * levels) (tab (average-of (now (image .entry)) a) levels) ⌝ }
-    ensures { λ r. ⌜ now (worst .exit) ≡ splice (now (worst .entry)) (a * levels) (tab (worst-of (now (image .entry)) a) levels) ⌝ }
-{
-    let row = a * levels;
-    let mut q = 0;
-    while q < levels {
-        averages[row + q] = read::average_at(image, levels, a, q);
-        worst[row + q] = read::worst_at(image, levels, a, q);
-        q += 1;
-    }
-}
 
 // The record of action a, into the four tables.
 pub fn unpack_record(
@@ -43,9 +28,10 @@ pub fn unpack_record(
     ensures { λ r. ⌜ now (averages .exit) ≡ splice (now (averages .entry)) (a * levels) (tab (average-of (now (image .entry)) a) levels) ⌝ }
     ensures { λ r. ⌜ now (worst .exit) ≡ splice (now (worst .entry)) (a * levels) (tab (worst-of (now (image .entry)) a) levels) ⌝ }
 {
+    let row = a * levels;
     masks[a] = read::mask_at(image, levels, a);
     deadlines[a] = read::deadline_at(image, levels, a);
-    unpack_row(image, levels, a, averages, worst);
+    column::take_row(image, levels, a, averages, worst, row);
 }
 
 // All n records of an image. What the slices have beyond the tables stays.

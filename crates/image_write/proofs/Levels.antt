@@ -3,9 +3,8 @@ use Prim.Native.Nat.{ℕ, _-_, _≤_, _<_}
 use mathlib.Core.Logic.{_⊎_, inl, inr, ⊎-elim, _↔_}
 use native.Mathlib.Omega.{arith}
 use Rattle.rules.specs.Numbers.{longest-time}
+use Rattle.rules.specs.Refusals.{LongTime, RowBreaks}
 use Rattle.rules.proofs.Accepted.{rises}
-use Rattle.image_fields.specs.Faults.{RowBreaks}
-use Rattle.image_write.specs.Faults.{LongTime}
 
 module _ (average worst : ℕ → ℕ) where
   -- a time of level q is above 16,777,215
@@ -13,7 +12,7 @@ module _ (average worst : ℕ → ℕ) where
   LongAt q = (longest-time < average q) ⊎ (longest-time < worst q)
 
   -- In order the longest time is the worst one at the top level.
-  pub longest-top : (L : ℕ) → 1 ≤ L → (RowBreaks L average worst → ⊥) → (longest-time < worst (L - 1)) ↔ LongTime average worst L
+  pub longest-top : (L : ℕ) → 1 ≤ L → (RowBreaks L average worst → ⊥) → (longest-time < worst (L - 1)) ↔ LongTime L average worst
   longest-top L some none = ((λ h. (L - 1, omega arith, inr h)), (λ f. above (f .0) (f .1) (f .2)))
     where
       above : (q : ℕ) → q < L → LongAt q → longest-time < worst (L - 1)

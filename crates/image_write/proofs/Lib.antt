@@ -1,6 +1,5 @@
 pub mod Answers
 pub mod Levels
-pub mod Faults
 pub mod Accepting
 pub mod Judging
 pub mod Settled

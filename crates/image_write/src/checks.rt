@@ -5,10 +5,8 @@ ghost use mathlib.Core.Bool.{true};
 ghost use mathlib.Core.Logic.{_↔_};
 ghost use Prim.Native.Nat.{ℕ, _+_, _*_, _≤_, _<_};
 ghost use lib.ListN.{length};
-ghost use Rattle.rules.specs.Image.{of-tables};
-ghost use Rattle.rules.specs.Refusals.{Tight};
-ghost use Rattle.image_write.specs.Faults.{times, LongTime, RangeFault};
-ghost use Rattle.image_fields.specs.Faults.{LowestFault, RowBreaks};
+ghost use Rattle.rules.specs.Image.{time-at, of-tables};
+ghost use Rattle.rules.specs.Refusals.{LowestFault, LongTime, WriteFault, RowBreaks, Tight};
 ghost use Rattle.image_pack.specs.Packing.{Roomy};
 ghost use Rattle.image_write.specs.Writing.{table-rooms};
 use image_fields::scan;
@@ -24,7 +22,8 @@ pub fn tight(
 ) -> bool
     requires { ⌜ (n ≤ 64) × (levels ≤ 8) ⌝ }
     ensures { λ r. ⌜ (r ≡ true)
-        ↔ Tight (table-rooms n levels (now (masks .entry)) (now (deadlines .entry)) (now (averages .entry)) (now (worst .entry))) ⌝ }
+        ↔ Tight (table-rooms n levels
+        (record { masks = now (masks .entry); deadlines = now (deadlines .entry); averages = now (averages .entry); worst = now (worst .entry) })) ⌝ }
 {
     let entries = n * levels;
     if masks.len() < n {
@@ -43,8 +42,8 @@ pub fn tight(
 // top level.
 fn long_time(averages: &[u32], worst: &[u32], levels: usize, a: usize, ordered: bool) -> bool
     requires { ⌜ (a * levels + levels ≤ length (now averages)) × (a * levels + levels ≤ length (now worst)) ⌝ }
-    requires { ⌜ (1 ≤ levels) × (ordered ≡ true → RowBreaks levels (times levels (now averages) a) (times levels (now worst) a) → ⊥) ⌝ }
-    ensures { λ r. ⌜ (r ≡ true) ↔ LongTime (times levels (now (averages .entry)) a) (times levels (now (worst .entry)) a) levels ⌝ }
+    requires { ⌜ (1 ≤ levels) × (ordered ≡ true → RowBreaks levels (time-at levels (now averages) a) (time-at levels (now worst) a) → ⊥) ⌝ }
+    ensures { λ r. ⌜ (r ≡ true) ↔ LongTime levels (time-at levels (now (averages .entry)) a) (time-at levels (now (worst .entry)) a) ⌝ }
 {
     let row = a * levels;
     if ordered {
@@ -63,29 +62,6 @@ fn long_time(averages: &[u32], worst: &[u32], levels: usize, a: usize, ordered: 
     false
 }
 
-// Whether an average of action a is above its worst time, or a time of it falls with the level.
-fn disordered(averages: &[u32], worst: &[u32], levels: usize, a: usize) -> bool
-    requires { ⌜ (a * levels + levels ≤ length (now averages)) × (a * levels + levels ≤ length (now worst)) ⌝ }
-    ensures { λ r. ⌜ (r ≡ true) ↔ RowBreaks levels (times levels (now (averages .entry)) a) (times levels (now (worst .entry)) a) ⌝ }
-{
-    let row = a * levels;
-    // The times at the level before. Level 0 has none, and no time is below 0.
-    let mut average_before = 0;
-    let mut worst_before = 0;
-    let mut q = 0;
-    while q < levels {
-        let average = averages[row + q];
-        let longest = worst[row + q];
-        if scan::level_breaks(average, longest, average_before, worst_before) {
-            return true;
-        }
-        average_before = average;
-        worst_before = longest;
-        q += 1;
-    }
-    false
-}
-
 // Refusal 6: a deadline above the cycle, a mask that names action n or more, a time above the longest. `ordered` says that 7 is given for none.
 pub fn range(
     n: usize,
@@ -97,17 +73,17 @@ pub fn range(
     worst: &[u32],
     ordered: bool,
 ) -> usize
-    requires { ⌜ Roomy n levels (now masks) (now deadlines) (now averages) (now worst) × (1 ≤ levels) ⌝ }
-    requires { ⌜ (ordered ≡ true → (a : ℕ) → a < n → RowBreaks levels (times levels (now averages) a) (times levels (now worst) a) → ⊥) ⌝ }
+    requires { ⌜ Roomy n levels (record { masks = now masks; deadlines = now deadlines; averages = now averages; worst = now worst })
+        × (1 ≤ levels) ⌝ }
+    requires { ⌜ (ordered ≡ true → (a : ℕ) → a < n → RowBreaks levels (time-at levels (now averages) a) (time-at levels (now worst) a) → ⊥) ⌝ }
     ensures { λ r. ⌜ LowestFault
-        (RangeFault (of-tables n levels cycle (now (masks .entry)) (now (deadlines .entry)) (now (averages .entry)) (now (worst .entry)))) n r ⌝ }
+        (WriteFault (of-tables n levels cycle
+        (record { masks = now (masks .entry); deadlines = now (deadlines .entry); averages = now (averages .entry); worst = now (worst .entry) })))
+        n r ⌝ }
 {
     let mut a = 0;
     while a < n {
-        if cycle < deadlines[a] {
-            return a;
-        }
-        if !sets::below(masks[a], n) {
+        if scan::out_of_range(masks[a], deadlines[a], cycle, n) {
             return a;
         }
         if long_time(averages, worst, levels, a, ordered) {
@@ -122,11 +98,11 @@ pub fn range(
 pub fn table(n: usize, levels: usize, averages: &[u32], worst: &[u32]) -> usize
     requires { ⌜ (n * levels ≤ length (now averages)) × (n * levels ≤ length (now worst)) ⌝ }
     ensures { λ r. ⌜ LowestFault
-        (λ a. RowBreaks levels (times levels (now (averages .entry)) a) (times levels (now (worst .entry)) a)) n r ⌝ }
+        (λ a. RowBreaks levels (time-at levels (now (averages .entry)) a) (time-at levels (now (worst .entry)) a)) n r ⌝ }
 {
     let mut a = 0;
     while a < n {
-        if disordered(averages, worst, levels, a) {
+        if scan::row_breaks(averages, worst, a * levels, levels) {
             return a;
         }
         a += 1;

@@ -2,10 +2,18 @@
 
 ghost use Rattle.rules.specs.Refusals.{First};
 ghost use Rattle.image_write.specs.Writing.{writing, Writes};
+use rules::Refusal;
 
 pub mod checks;
 
-// The refusal of writing, 0 for none; `room` is the length of the image.
+// The answer of writing: the refusal, and the number of bytes written.
+#[repr(C)]
+pub struct Written {
+    pub refusal: Refusal,
+    pub bytes: usize,
+}
+
+// The refusal of writing; `room` is the length of the image.
 pub fn refusal(
     n: usize,
     levels: usize,
@@ -15,18 +23,26 @@ pub fn refusal(
     averages: &[u32],
     worst: &[u32],
     room: usize,
-) -> u32
+) -> Refusal
     ensures { λ r. ⌜ First
-        (writing n levels cycle (now (masks .entry)) (now (deadlines .entry)) (now (averages .entry)) (now (worst .entry)) room) r ⌝ }
+        (writing n levels cycle
+        (record { masks = now (masks .entry); deadlines = now (deadlines .entry); averages = now (averages .entry); worst = now (worst .entry) })
+        room) (r .number) ⌝ }
 {
     if image_fields::scan::count_out(n, levels, cycle) {
-        return rules::REFUSED_COUNT;
+        return Refusal {
+            number: rules::REFUSED_COUNT,
+        };
     }
     if checks::tight(n, levels, masks, deadlines, averages, worst) {
-        return rules::REFUSED_ROOM;
+        return Refusal {
+            number: rules::REFUSED_ROOM,
+        };
     }
     if room < image_pack::image_bytes(n, levels) {
-        return rules::REFUSED_ROOM;
+        return Refusal {
+            number: rules::REFUSED_ROOM,
+        };
     }
     // The lowest action at fault for 7 and for 6, n for none. 6 is given before 7 and looked for after it: where no row breaks the rule of 7,
     // one test a row tells whether a time is too long.
@@ -34,18 +50,18 @@ pub fn refusal(
     let ordered = n <= fallen;
     let out = checks::range(n, levels, cycle, masks, deadlines, averages, worst, ordered);
     if out < n {
-        return rules::REFUSED_RANGE;
+        return Refusal {
+            number: rules::REFUSED_RANGE,
+        };
     }
     if fallen < n {
-        return rules::REFUSED_TABLE;
+        return Refusal {
+            number: rules::REFUSED_TABLE,
+        };
     }
-    order::judge(masks, deadlines, cycle, worst, levels, n).refusal
-}
-
-// The answer of writing: the refusal, 0 for none, and the number of bytes written.
-pub struct Written {
-    pub refusal: u32,
-    pub bytes: usize,
+    Refusal {
+        number: order::judge(masks, deadlines, cycle, worst, levels, n).refusal,
+    }
 }
 
 // Packs the tables into the image. A refusal leaves it untouched, and what it has beyond the bytes written stays.
@@ -59,12 +75,13 @@ pub fn write(
     worst: &[u32],
     image: &mut [u8],
 ) -> Written
-    ensures { λ r. ⌜ Writes n levels cycle (now (masks .entry)) (now (deadlines .entry)) (now (averages .entry)) (now (worst .entry))
-        (now (image .entry)) (now (image .exit)) (r .refusal) (r .bytes) ⌝ }
+    ensures { λ r. ⌜ Writes n levels cycle
+        (record { masks = now (masks .entry); deadlines = now (deadlines .entry); averages = now (averages .entry); worst = now (worst .entry) })
+        (now (image .entry)) (now (image .exit)) (r .refusal .number) (r .bytes) ⌝ }
 {
     let room = image.len();
     let refused = refusal(n, levels, cycle, masks, deadlines, averages, worst, room);
-    if refused != 0 {
+    if refused.number != 0 {
         return Written {
             refusal: refused,
             bytes: 0,
@@ -72,7 +89,7 @@ pub fn write(
     }
     image_pack::put_image(image, n, levels, cycle, masks, deadlines, averages, worst);
     Written {
-        refusal: 0,
+        refusal: refused,
         bytes: image_pack::image_bytes(n, levels),
     }
 }

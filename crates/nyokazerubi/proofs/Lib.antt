@@ -1,2 +1,5 @@
+pub mod Beside
 pub mod Host
 pub mod Lent
+pub mod Plain
+pub mod Records

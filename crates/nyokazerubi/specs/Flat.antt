@@ -6,22 +6,33 @@ use mathlib.Core.List.{List}
 use lib.IntN.{pos}
 use lib.Ieee.{Float, fin}
 use Rattle.rules.specs.Run as rules
+use Rattle.rules.specs.declared.Refusal.{Refusal}
 use Rattle.rules.specs.Speed.{ratio, spent}
-use Rattle.speed_stretch.specs.Ratio.{Answer, gives, refuses, reading-of}
+use Rattle.speed_stretch.specs.Answer.{SpeedAnswer, gives, refuses, reading-of}
 use Rattle.speed_stretch.specs.declared.Reading.{Reading}
 use Rattle.run.specs.declared.Run.{Run}
 use Rattle.run.specs.Calls.{run-of}
-use Rattle.speed.specs.Speed.{Reads}
+use Rattle.speed.specs.Speed.{ReadsSpeed}
 use Rattle.nyokazerubi.specs.declared.runs.Given.{Given}
 use Rattle.nyokazerubi.specs.declared.readings.Read.{Read}
+
+-- The version of the boundary.
+abbrev pub boundary : ℕ
+boundary = 1
+
+-- ---- starting and reporting
+
+-- The next record and the refusal, in the rules' words.
+abbrev pub next-of : Run → Refusal → rules.Next
+next-of run refusal = record { number = refusal .number; run = run-of run }
 
 -- ---- asking
 
 -- With a refusal its number, and all else is 0 or no.
 abbrev pub given-of : rules.Answer → Given
-given-of (rules.refused number r) = record { refusal = number; action = 0; level = 0; decided = false; late = false }
+given-of (rules.refused number r) = record { refusal = record { number = number }; action = 0; level = 0; decided = false; late = false }
 given-of (rules.gives action level decided late r) =
-    record { refusal = 0; action = action; level = level; decided = decided; late = late }
+    record { refusal = record { number = 0 }; action = action; level = level; decided = decided; late = late }
 
 -- The next record; with a refusal the one that was handed.
 abbrev pub next-run : rules.Answer → rules.Run
@@ -39,13 +50,13 @@ pub record Asks (x : rules.Answer) (r : Run) (g : Given) : Type 0 where
 abbrev pub none : Float
 none = fin false 0 (pos 0)
 
-abbrev pub read-of : Answer → Read
-read-of (gives (ratio x)) = record { refusal = 0; spent = false; ratio = x }
-read-of (gives spent) = record { refusal = 0; spent = true; ratio = none }
-read-of (refuses number) = record { refusal = number; spent = false; ratio = none }
+abbrev pub read-of : SpeedAnswer → Read
+read-of (gives (ratio x)) = record { refusal = record { number = 0 }; spent = false; ratio = x }
+read-of (gives spent) = record { refusal = record { number = 0 }; spent = true; ratio = none }
+read-of (refuses number) = record { refusal = record { number = number }; spent = false; ratio = none }
 
 -- r is the speed reading of positions first to last at the level and time t.
 pub record ReadsFlat (s : List ℕ) (first last level t : ℕ) (r : Read) : Type 0 where
   pub reading : Reading
-  pub reads : Reads s first last level t reading
+  pub reads : ReadsSpeed s first last level t reading
   pub flat : r ≡ read-of (reading-of reading)

@@ -1,24 +1,37 @@
 // The boundary for hosts in C and Rust: every public call under a name of its own, on numbers, slices and `#[repr(C)]` records. Each contract is
 // that of the call behind it. include/nyokazerubi.h declares the functions for C.
-use dry_cycle::Dried;
 use dry_frame::Framed;
+use image_write::Written;
 use planner::Planned;
 use profile::Place;
 use profile::Unpacked;
-use profile::Written;
 use refresh::Refreshed;
 use rules::Refusal;
+use run::dry::Dried;
+ghost use mathlib.Core.Path.{_≡_};
+ghost use mathlib.Core.List.{[]};
 ghost use Rattle.rules.specs.Refusals.{First, image-checks, lookup-call};
 ghost use Rattle.image_write.specs.Writing.{Writes};
-ghost use Rattle.profile.specs.Calls.{Reads, Places};
+ghost use Rattle.profile.specs.Calls.{ReadsImage, Places};
 ghost use Rattle.planner.specs.Planning.{Plans};
-ghost use Rattle.encoder.specs.Times.{masks, deadlines, averages, worsts};
-ghost use Rattle.dry_cycle.specs.Dry.{tables, Dries};
+ghost use Rattle.encoder.specs.Times.{encoder-tables};
+ghost use Rattle.run.specs.Dry.{Dries};
 ghost use Rattle.dry_frame.specs.Frame.{Frames};
 ghost use Rattle.refresh.specs.Refresh.{Refreshes};
+ghost use Rattle.nyokazerubi.specs.Flat.{boundary};
 
 pub mod readings;
 pub mod runs;
+
+// The version of this boundary: of its calls, their parameters and the layout of its records. It goes up by 1 when one of them changes.
+pub const BOUNDARY: u32 = 1;
+
+#[no_mangle]
+pub extern "C" fn nyokazerubi_boundary() -> u32
+    ensures { λ r. ⌜ r ≡ boundary ⌝ }
+{
+    BOUNDARY
+}
 
 // ---- the profile
 
@@ -35,13 +48,13 @@ pub extern "C" fn nyokazerubi_read(
     masks: &mut [u64],
     deadlines: &mut [u32],
     averages: &mut [u32],
-    worst: &mut [u32],
+    worst_by_action: &mut [u32],
 ) -> Unpacked
-    ensures { λ r. ⌜ Reads (now (image .entry))
-        (now (masks .entry)) (now (deadlines .entry)) (now (averages .entry)) (now (worst .entry))
-        (now (masks .exit)) (now (deadlines .exit)) (now (averages .exit)) (now (worst .exit)) r ⌝ }
+    ensures { λ r. ⌜ ReadsImage (now (image .entry))
+        (record { masks = now (masks .entry); deadlines = now (deadlines .entry); averages = now (averages .entry); worst = now («worst_by_action» .entry) })
+        (record { masks = now (masks .exit); deadlines = now (deadlines .exit); averages = now (averages .exit); worst = now («worst_by_action» .exit) }) r ⌝ }
 {
-    profile::read(image, masks, deadlines, averages, worst)
+    profile::read(image, masks, deadlines, averages, worst_by_action)
 }
 
 #[no_mangle]
@@ -52,18 +65,28 @@ pub extern "C" fn nyokazerubi_write(
     masks: &[u64],
     deadlines: &[u32],
     averages: &[u32],
-    worst: &[u32],
+    worst_by_action: &[u32],
     image: &mut [u8],
 ) -> Written
-    ensures { λ r. ⌜ Writes n levels cycle (now (masks .entry)) (now (deadlines .entry)) (now (averages .entry)) (now (worst .entry))
+    ensures { λ r. ⌜ Writes n levels cycle
+        (record { masks = now (masks .entry); deadlines = now (deadlines .entry); averages = now (averages .entry); worst = now («worst_by_action» .entry) })
         (now (image .entry)) (now (image .exit)) (r .refusal .number) (r .bytes) ⌝ }
 {
-    profile::write(n, levels, cycle, masks, deadlines, averages, worst, image)
+    profile::write(
+        n,
+        levels,
+        cycle,
+        masks,
+        deadlines,
+        averages,
+        worst_by_action,
+        image,
+    )
 }
 
 #[no_mangle]
 pub extern "C" fn nyokazerubi_write_encoder(image: &mut [u8]) -> Written
-    ensures { λ r. ⌜ Writes 9 8 320000 masks deadlines averages worsts (now (image .entry)) (now (image .exit)) (r .refusal .number) (r .bytes) ⌝ }
+    ensures { λ r. ⌜ Writes 9 8 320000 encoder-tables (now (image .entry)) (now (image .exit)) (r .refusal .number) (r .bytes) ⌝ }
 {
     encoder::write_image(image)
 }
@@ -90,13 +113,14 @@ pub extern "C" fn nyokazerubi_plan(
     image: &[u8],
     order: &mut [u8],
     limits: &mut [i32],
-    worst: &mut [u32],
+    worst_by_position: &mut [u32],
     bounds: &mut [i32],
 ) -> Planned
-    ensures { λ r. ⌜ Plans (now (image .entry)) (now (order .entry)) (now (limits .entry)) (now (worst .entry)) (now (bounds .entry))
-        (now (order .exit)) (now (limits .exit)) (now (worst .exit)) (now (bounds .exit)) r ⌝ }
+    ensures { λ r. ⌜ Plans (now (image .entry))
+        (record { order = now (order .entry); limits = now (limits .entry); worst = now («worst_by_position» .entry); bounds = now (bounds .entry) })
+        (record { order = now (order .exit); limits = now (limits .exit); worst = now («worst_by_position» .exit); bounds = now (bounds .exit) }) r ⌝ }
 {
-    planner::plan(image, order, limits, worst, bounds)
+    planner::plan(image, order, limits, worst_by_position, bounds)
 }
 
 #[no_mangle]
@@ -104,16 +128,27 @@ pub extern "C" fn nyokazerubi_dry_run(
     n: usize,
     levels: usize,
     limits: &[i32],
-    worst: &[u32],
+    worst_by_position: &[u32],
     bounds: &[i32],
     durations: &[u32],
     given: &mut [u8],
     marks: &mut [u8],
 ) -> Dried
-    ensures { λ r. ⌜ Dries n levels (tables (now (limits .entry)) (now (worst .entry)) (now (bounds .entry)) (now (durations .entry)))
-        (now (given .entry)) (now (given .exit)) (now (marks .entry)) (now (marks .exit)) r ⌝ }
+    ensures { λ r. ⌜ Dries n levels
+        (record { order = []; limits = now (limits .entry); worst = now («worst_by_position» .entry); bounds = now (bounds .entry) })
+        (now (durations .entry)) (record { levels = now (given .entry); decided = now (marks .entry) })
+        (record { levels = now (given .exit); decided = now (marks .exit) }) r ⌝ }
 {
-    dry_cycle::dry_run(n, levels, limits, worst, bounds, durations, given, marks)
+    run::dry::dry_run(
+        n,
+        levels,
+        limits,
+        worst_by_position,
+        bounds,
+        durations,
+        given,
+        marks,
+    )
 }
 
 // A frame run dry, from an image.

@@ -1,14 +1,15 @@
 // The speed reading for a host. An enum does not cross to C, so its cases are laid flat.
+use rules::Refusal;
 use speed_stretch::Reading;
 ghost use mathlib.Core.Path.{_≡_};
-ghost use Rattle.speed_stretch.specs.Ratio.{reading-of};
+ghost use Rattle.speed_stretch.specs.Answer.{reading-of};
 ghost use Rattle.speed.specs.Speed.{Tells};
 ghost use Rattle.nyokazerubi.specs.Flat.{read-of, ReadsFlat};
 
-// The number of the refusal, 0 for none; whether it is spent; else the ratio. What does not count is 0.
+// The refusal, and without one whether it is spent, and else the ratio. What does not count is 0 or no.
 #[repr(C)]
 pub struct Read {
-    pub refusal: u32,
+    pub refusal: Refusal,
     pub spent: bool,
     pub ratio: f64,
 }
@@ -18,17 +19,17 @@ fn flat(reading: Reading) -> Read
 {
     match reading {
         Reading::Ratio(ratio) => Read {
-            refusal: 0,
+            refusal: Refusal { number: 0 },
             spent: false,
             ratio,
         },
         Reading::Spent => Read {
-            refusal: 0,
+            refusal: Refusal { number: 0 },
             spent: true,
             ratio: 0.0,
         },
-        Reading::Refused(number) => Read {
-            refusal: number,
+        Reading::Refused(refusal) => Read {
+            refusal,
             spent: false,
             ratio: 0.0,
         },

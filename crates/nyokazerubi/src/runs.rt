@@ -1,22 +1,26 @@
-// The run for a host: each call over the record where the host keeps it.
+// The run for a host: each call by value on flat records, and over the record where the host keeps it.
+use rules::Refusal;
 use run::Answer;
 use run::Run;
 ghost use mathlib.Core.Path.{_≡_};
+ghost use mathlib.Core.List.{[]};
 ghost use Rattle.rules.specs.Run.{start, ask, report};
 ghost use Rattle.rules.specs.Run as rules;
-ghost use Rattle.run.specs.Calls.{run-of, with-run, start-of, next-of};
-ghost use Rattle.nyokazerubi.specs.Flat.{given-of, Asks};
+ghost use Rattle.run.specs.Calls.{run-of, with-run};
+ghost use Rattle.nyokazerubi.specs.Flat.{next-of, given-of, Asks};
 
-// The answer of asking, laid flat, since an enum does not cross to C: the number of the refusal, 0 for none, and else the action, its level,
-// whether decided, and late. With a refusal these are 0 or no.
+// The answer of asking, laid flat, since an enum does not cross to C: the refusal, and without one the action, its level, whether decided,
+// and late. With a refusal these are 0 or no.
 #[repr(C)]
 pub struct Given {
-    pub refusal: u32,
+    pub refusal: Refusal,
     pub action: u32,
     pub level: u32,
     pub decided: bool,
     pub late: bool,
 }
+
+// ---- asking by value, its answer laid flat. It is not exported: a call within the archive would then stay a call
 
 pub struct Asked {
     pub run: Run,
@@ -27,8 +31,8 @@ fn flat(answer: Answer) -> Given
     ensures { λ r. ⌜ ((next : rules.Run) → r ≡ given-of (with-run answer next)) ⌝ }
 {
     match answer {
-        Answer::Refused(number) => Given {
-            refusal: number,
+        Answer::Refused(refusal) => Given {
+            refusal,
             action: 0,
             level: 0,
             decided: false,
@@ -40,7 +44,7 @@ fn flat(answer: Answer) -> Given
             decided,
             late,
         } => Given {
-            refusal: 0,
+            refusal: Refusal { number: 0 },
             action,
             level,
             decided,
@@ -49,9 +53,9 @@ fn flat(answer: Answer) -> Given
     }
 }
 
-// Asking by value with its answer laid flat. It is not exported: a call within the archive would then stay a call.
 pub fn ask_flat(run: Run, order: &[u8], limits: &[i32], bounds: &[i32]) -> Asked
-    ensures { λ r. ⌜ Asks (ask (now (order .entry)) (now (limits .entry)) (now (bounds .entry)) (run-of run)) (r .run) (r .given) ⌝ }
+    ensures { λ r. ⌜ Asks (ask
+        (record { order = now (order .entry); limits = now (limits .entry); worst = []; bounds = now (bounds .entry) }) (run-of run)) (r .run) (r .given) ⌝ }
 {
     let asked = run.ask(order, limits, bounds);
     let next = asked.run;
@@ -65,8 +69,8 @@ pub fn ask_flat(run: Run, order: &[u8], limits: &[i32], bounds: &[i32]) -> Asked
 // ---- over the lent record, which takes the next one whole
 
 #[no_mangle]
-pub extern "C" fn nyokazerubi_start(run: &mut Run, n: u32, levels: u32) -> u32
-    ensures { λ r. ⌜ start-of (record { run = now (run .exit); refusal = r }) ≡ start n levels ⌝ }
+pub extern "C" fn nyokazerubi_start(run: &mut Run, n: usize, levels: usize) -> Refusal
+    ensures { λ r. ⌜ next-of (now (run .exit)) r ≡ start n levels ⌝ }
 {
     let out = Run::start(n, levels);
     *run = out.run;
@@ -80,7 +84,8 @@ pub extern "C" fn nyokazerubi_ask(
     limits: &[i32],
     bounds: &[i32],
 ) -> Given
-    ensures { λ r. ⌜ Asks (ask (now (order .entry)) (now (limits .entry)) (now (bounds .entry)) (run-of (now (run .entry)))) (now (run .exit)) r ⌝ }
+    ensures { λ r. ⌜ Asks (ask
+        (record { order = now (order .entry); limits = now (limits .entry); worst = []; bounds = now (bounds .entry) }) (run-of (now (run .entry)))) (now (run .exit)) r ⌝ }
 {
     let out = ask_flat(*run, order, limits, bounds);
     *run = out.run;
@@ -88,10 +93,14 @@ pub extern "C" fn nyokazerubi_ask(
 }
 
 #[no_mangle]
-pub extern "C" fn nyokazerubi_report(run: &mut Run, clock: u32, worst: &[u32]) -> u32
-    ensures { λ r. ⌜ next-of (record { run = now (run .exit); refusal = r }) ≡ report (now (worst .entry)) clock (run-of (now (run .entry))) ⌝ }
+pub extern "C" fn nyokazerubi_report(
+    run: &mut Run,
+    clock: u32,
+    worst_by_position: &[u32],
+) -> Refusal
+    ensures { λ r. ⌜ next-of (now (run .exit)) r ≡ report (now («worst_by_position» .entry)) clock (run-of (now (run .entry))) ⌝ }
 {
-    let out = Run::report(*run, clock, worst);
+    let out = Run::report(*run, clock, worst_by_position);
     *run = out.run;
     out.refusal
 }

@@ -18,6 +18,7 @@ use Rattle.rules.proofs.Order.Best.{by-urgency-permitted, follower-present}
 use Rattle.rules.proofs.Order.Loops.{no-loop}
 use Rattle.sets.specs.Sets.{Below}
 use Rattle.sets.proofs.Laws.{lt-below, below-lt}
+use Rattle.order.specs.Arranged.{ZeroFrom}
 use Rattle.order.specs.Judged.{ByNumber, Ordered}
 
 -- ---- the test
@@ -116,9 +117,10 @@ module _ {F : Profile} (x : ByNumber F) where
     by-urgency = by;
   }
 
-  pub ordered-numbers : {l : List ℕ} → ((k : ℕ) → k < F .n → getD l k 0 ≡ k) → Ordered F (F .n) l
+  pub ordered-numbers : {l : List ℕ} → ((k : ℕ) → k < F .n → getD l k 0 ≡ k) → ZeroFrom (F .n) l → Ordered F (F .n) l
   unfolding identity
-  ordered-numbers listed = record {
+  ordered-numbers listed rest = record {
     looped = (λ h. absurd (omega arith), λ h. absurd (no-loop (identity (F .n)) (by-urgency-permitted (identity (F .n)) by) h));
     whole = λ all. (identity (F .n), the-order, listed);
+    rest = rest;
   }

@@ -13,7 +13,7 @@ use Rattle.rules.proofs.Order.Stepwise.{First}
 use Rattle.sets.specs.Sets.{Lowest, Without}
 use Rattle.sets.proofs.Bits.{has-empty}
 use Rattle.sets.proofs.Laws.{was, or-gone, rest-above}
-use Rattle.order.specs.Arranged.{Next}
+use Rattle.order.specs.Arranged.{NextIn}
 
 -- a is the best member of s so far, and t has the members still to be looked at
 pub record Best (u : List ℕ) (s t a : ℕ) : Type 0 where
@@ -59,7 +59,7 @@ module _ (u : List ℕ) {s : ℕ} where
       past = past-more (m, λ q. omega (arith, h .ahead b (low .member))) (h .past);
     }
 
-  pub best-end : {a : ℕ} → Best u s 0 a → Next u s a
+  pub best-end : {a : ℕ} → Best u s 0 a → NextIn u s a
   best-end h = record {
     member = h .member;
     least = λ b p. h .past b p (has-empty b) .0;

@@ -16,22 +16,22 @@ use Rattle.rules.proofs.Order.Best.{by-urgency-permitted}
 use Rattle.rules.proofs.Order.Loops.{no-loop}
 use Rattle.rules.proofs.Order.Stepwise
 use Rattle.rules.proofs.Order.Stepwise.{Earlier, Free, free-same, next-same, stuck-in-loop}
-use Rattle.sets.specs.Sets.{members, With, before}
+use Rattle.sets.specs.Sets.{members, With, comes-before}
 use Rattle.sets.proofs.Bits.{has-empty}
 use Rattle.sets.proofs.Laws.{added, stays, either}
 use Rattle.sets.proofs.Members.{members-none, members-with}
 use Rattle.sets.proofs.Cases.{eq-or-ne}
 use Rattle.order.specs.Lent.{Masked}
-use Rattle.order.specs.Arranged.{Ready, Parted, Next, Placed}
+use Rattle.order.specs.Arranged.{ReadyIn, Parted, NextIn, Placed, ZeroFrom}
 use Rattle.order.proofs.Waiting.{parted-each}
 
 -- ---- what is ready, and what is free
 
 module _ {n : ℕ} {masks : List ℕ} (x : Masked n masks) {done a : ℕ} where
-  ready-free : Ready n masks done a → Free n (before masks) (λ b. has done b ≡ true) a
+  ready-free : ReadyIn n masks done a → Free n (comes-before masks) (λ b. has done b ≡ true) a
   ready-free r = ((λ d. not-both d (r .waits)), λ b l h. r .free b h)
 
-  free-ready : a < n → Free n (before masks) (λ b. has done b ≡ true) a → Ready n masks done a
+  free-ready : a < n → Free n (comes-before masks) (λ b. has done b ≡ true) a → ReadyIn n masks done a
   free-ready l f = record { present = l; waits = failed (has done a) (f .0); free = λ b h. f .1 b (x .below a l b h) h }
 
 -- ---- lists
@@ -48,7 +48,7 @@ earlier-set l k v j m a = (λ e. (e .0, e .1, same (e .0) (e .1) ∙ e .2), λ e
 module _ (n : ℕ) (masks u : List ℕ) where
   -- the action that goes next after the first j of the list
   abbrev NextAfter : List ℕ → ℕ → ℕ → Type 0
-  NextAfter l j a = Stepwise.Next n (before masks) (λ b. getD u b 0) (Earlier (λ i. getD l i 0) j) n a
+  NextAfter l j a = Stepwise.Next n (comes-before masks) (λ b. getD u b 0) (Earlier (λ i. getD l i 0) j) n a
 
   -- The first k of the list are placed, and done has them; the others are parted into free and waiting.
   pub record Placing (l w : List ℕ) (done free k : ℕ) : Type 0 where
@@ -58,26 +58,28 @@ module _ (n : ℕ) (masks u : List ℕ) where
     pub exact : (a : ℕ) → (has done a ≡ true) ↔ Earlier (λ i. getD l i 0) k a
     pub parted : Parted n masks done free 0 w
     pub nexts : (j : ℕ) → j < k → NextAfter l j (getD l j 0)
+    pub rest : ZeroFrom k l
 
-  pub placing-start : {l w : List ℕ} {free : ℕ} → length l ≡ 64 → Parted n masks 0 free 0 w → Placing l w 0 free 0
-  placing-start long parted = record {
+  pub placing-start : {l w : List ℕ} {free : ℕ} → length l ≡ 64 → ZeroFrom 0 l → Parted n masks 0 free 0 w → Placing l w 0 free 0
+  placing-start long rest parted = record {
     most = omega arith;
     long = long;
     counts = members-none 64;
     exact = λ a. (λ h. absurd (not-both h (has-empty a)), λ e. absurd (omega (arith, e .1)));
     parted = parted;
     nexts = λ j m. absurd (omega arith);
+    rest = rest;
   }
 
   module _ (x : Masked n masks) {l w : List ℕ} {done free k : ℕ} (g : Placing l w done free k) where
     -- ---- the next one is placed
 
-    module _ {a done′ : ℕ} (nx : Next u free a) (in′ : With done a done′) where
-      now-ready : Ready n masks done a
+    module _ {a done′ : ℕ} (nx : NextIn u free a) (in′ : With done a done′) where
+      now-ready : ReadyIn n masks done a
       now-ready = g .parted .ready a (nx .member)
 
       goes : NextAfter l k a
-      goes = next-same n (before masks) (λ b. getD u b 0) (g .exact) (record {
+      goes = next-same n (comes-before masks) (λ b. getD u b 0) (g .exact) (record {
         present = now-ready .present;
         free = ready-free x now-ready;
         first = λ b m f. let h = parted-each (g .parted) b (free-ready x m f) in (nx .least b h, nx .lowest b h);
@@ -97,7 +99,7 @@ module _ (n : ℕ) (masks u : List ℕ) where
           past j ne = getD-set-other l k j a 0 ne
 
           moved : (j b : ℕ) → j ≤ k → NextAfter l j b → NextAfter (set l k a) j b
-          moved j b h = next-same n (before masks) (λ c. getD u c 0) (earlier-set l k a j h)
+          moved j b h = next-same n (comes-before masks) (λ c. getD u c 0) (earlier-set l k a j h)
 
           to : (b : ℕ) → (has done b ≡ true) ⊎ (a ≡ b) → Earlier (λ i. getD (set l k a) i 0) (suc k) b
           to b (inl h) = let s = earlier-set l k a k (le-refl k) b .0 (g .exact b .0 h) in (s .0, omega (arith, s .1), s .2)
@@ -117,6 +119,7 @@ module _ (n : ℕ) (masks u : List ℕ) where
             nexts = below-suc k (λ (j : ℕ). NextAfter (set l k a) j (getD (set l k a) j 0))
                 (λ j h. rw (past j (omega arith)) (moved j _ (omega arith) (g .nexts j h)))
                 (rw here (moved k a (le-refl k) goes));
+            rest = λ j h. past j (omega arith) ∙ g .rest j (omega arith);
           }
 
     -- ---- nothing is ready
@@ -126,15 +129,16 @@ module _ (n : ℕ) (masks u : List ℕ) where
       most = omega arith;
       looped = (λ h. loop, λ h. m);
       whole = λ q. absurd (omega arith);
+      rest = λ j h. g .rest j (omega arith);
     }
       where
-        none : (a : ℕ) → a < n → Free n (before masks) (Earlier (λ i. getD l i 0) k) a → ⊥
+        none : (a : ℕ) → a < n → Free n (comes-before masks) (Earlier (λ i. getD l i 0) k) a → ⊥
         none a h f = not-both
-            (parted-each (g .parted) a (free-ready x h (free-same n (before masks) (λ b. (g .exact b .1, g .exact b .0)) a f)))
+            (parted-each (g .parted) a (free-ready x h (free-same n (comes-before masks) (λ b. (g .exact b .1, g .exact b .0)) a f)))
             (ap (λ (s : ℕ). has s a) e ∙ has-empty a)
 
-        loop : Loop n (before masks)
-        loop = stuck-in-loop n (before masks) (λ b a. is-true? (has (getD masks a 0) b)) (λ i. getD l i 0) k m none
+        loop : Loop n (comes-before masks)
+        loop = stuck-in-loop n (comes-before masks) (λ b a. is-true? (has (getD masks a 0) b)) (λ i. getD l i 0) k m none
 
   -- ---- all are placed
 
@@ -142,17 +146,18 @@ module _ (n : ℕ) (masks u : List ℕ) where
   placing-whole {l} {k = k} g m = record {
     most = g .most;
     looped = (λ h. absurd (omega arith), λ h. absurd (no-loop o (by-urgency-permitted o by) h));
-    whole = λ q. (o, by, λ j h. sym (Stepwise.order-at n (before masks) (λ b. getD u b 0) at nexts j));
+    whole = λ q. (o, by, λ j h. sym (Stepwise.order-at n (comes-before masks) (λ b. getD u b 0) at nexts j));
+    rest = λ j h. g .rest j (omega (arith, g .most));
   }
     where
       at : ℕ → ℕ
       at i = getD l i 0
 
-      nexts : (j : ℕ) → j < n → Stepwise.Next n (before masks) (λ b. getD u b 0) (Earlier at j) n (at j)
+      nexts : (j : ℕ) → j < n → Stepwise.Next n (comes-before masks) (λ b. getD u b 0) (Earlier at j) n (at j)
       nexts j h = g .nexts j (omega arith)
 
       o : Order n
-      o = Stepwise.order n (before masks) (λ b. getD u b 0) at nexts
+      o = Stepwise.order n (comes-before masks) (λ b. getD u b 0) at nexts
 
-      by : ByUrgency n (before masks) (λ b. getD u b 0) o
-      by = Stepwise.order-by-urgency n (before masks) (λ b. getD u b 0) at nexts
+      by : ByUrgency n (comes-before masks) (λ b. getD u b 0) o
+      by = Stepwise.order-by-urgency n (comes-before masks) (λ b. getD u b 0) at nexts

@@ -15,7 +15,7 @@ use Rattle.sets.specs.Sets.{Subset, AllBelow, Lowest, Highest, With, Without}
 use Rattle.sets.proofs.Bits.{has-empty}
 use Rattle.sets.proofs.Laws.{has-minus, added, stays, others, either, was, kept, apart, or-gone}
 use Rattle.sets.proofs.Cases.{lt-or-le, eq-or-ne}
-use Rattle.order.specs.Arranged.{Ready, WaitsWith, Parted}
+use Rattle.order.specs.Arranged.{ReadyIn, WaitsWith, Parted}
 
 -- ---- the predecessors that are not done, `mask & !done`
 
@@ -35,7 +35,7 @@ module _ {mask done : ℕ} (m : mask < 2 ^ 64) (d : done < 2 ^ 64) where
 
 -- ---- at first all are to be looked at
 
-none-yet : (k b : ℕ) → getD {A = ℕ} (replicate k 0) b 0 ≡ 0
+pub none-yet : (k b : ℕ) → getD {A = ℕ} (replicate k 0) b 0 ≡ 0
 none-yet zero b = refl
 none-yet (suc k) zero = refl
 none-yet (suc k) (suc b) = none-yet k b
@@ -64,7 +64,7 @@ module _ {n : ℕ} {masks : List ℕ} {done free t a t′ : ℕ} {w : List ℕ} 
   parted-free {free′} e in′ = record {
     long = g .long;
     left = λ c p. g .left c (was out c p);
-    ready = λ c p. elim (either in′ c p) [ inl q ↦ g .ready c q | inr q ↦ subst (Ready n masks done) q here ];
+    ready = λ c p. elim (either in′ c p) [ inl q ↦ g .ready c q | inr q ↦ subst (ReadyIn n masks done) q here ];
     waiting = g .waiting;
     each = λ c l u q. elim (looked c q) [
       | inl i ↦ inl (subst (λ (j : ℕ). has free′ j ≡ true) i (added in′))
@@ -72,7 +72,7 @@ module _ {n : ℕ} {masks : List ℕ} {done free t a t′ : ℕ} {w : List ℕ} 
     ];
   }
     where
-      here : Ready n masks done a
+      here : ReadyIn n masks done a
       here = let l = g .left a (low .member) in record { present = l .0; waits = l .1; free = e }
 
   pub parted-held : {b v : ℕ} → b < 64 → (has (getD masks a 0) b ≡ true) × (has done b ≡ false) → With (getD w b 0) a v
@@ -113,7 +113,7 @@ module _ {n : ℕ} {masks : List ℕ} {done free t a t′ : ℕ} {w : List ℕ} 
 
 module _ {n : ℕ} {masks : List ℕ} {done free : ℕ} {w : List ℕ} (g : Parted n masks done free 0 w) where
   -- an action that waits is not ready
-  pub parted-each : (a : ℕ) → Ready n masks done a → has free a ≡ true
+  pub parted-each : (a : ℕ) → ReadyIn n masks done a → has free a ≡ true
   parted-each a y = elim (g .each a (y .present) (y .waits) (has-empty a)) [
     | inl p ↦ p
     | inr p ↦ absurd (not-both (y .free (p .0) (g .waiting (p .0) a (p .1) (p .2) .before)) (p .1))
@@ -122,7 +122,7 @@ module _ {n : ℕ} {masks : List ℕ} {done free : ℕ} {w : List ℕ} (g : Part
   -- ---- one is done: those that wait with it are to be looked at
 
   module _ {a free′ done′ : ℕ} (member : has free a ≡ true) (out : Without free a free′) (in′ : With done a done′) where
-    now : Ready n masks done a
+    now : ReadyIn n masks done a
     now = g .ready a member
 
     -- what is not done now was not done before, and is not a

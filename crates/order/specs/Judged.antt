@@ -2,30 +2,34 @@
 use Prim.Native.Nat.{ℕ, _≤_, _<_}
 use mathlib.Core.Path.{_≡_}
 use mathlib.Core.Bool.{Bool, true}
-use mathlib.Core.Logic.{_↔_}
+use mathlib.Core.Logic.{_↔_, _≢_}
 use mathlib.Core.List.{List, [], _∷_}
+use lib.ListN.{replicate}
 use Rattle.rules.specs.Numbers.{refused-loop, refused-unfit}
 use Rattle.rules.specs.Image.{Profile, due}
 use Rattle.rules.specs.Order.{Order, TheOrder, Fit}
 use Rattle.rules.specs.Refusals.{_when_, First, Looped, Unfit}
 use Rattle.sets.specs.Sets.{Below}
-use Rattle.order.specs.Arranged.{Lists}
+use Rattle.order.specs.Arranged.{Lists, ZeroFrom}
 
 -- All deadlines are one, and each mask names lower numbers alone.
 pub record ByNumber (F : Profile) : Type 0 where
   pub one : (a b : ℕ) → a < F .n → b < F .n → due F a ≡ due F b
   pub lower : (a : ℕ) → a < F .n → Below (F .mask a) a
 
--- The list has the actions in the order of F, unless the masks contain a loop and k falls short of n.
+-- The list has the actions in the order of F and then 0, unless the masks contain a loop and k falls short of n.
 pub record Ordered (F : Profile) (k : ℕ) (l : List ℕ) : Type 0 where
   pub looped : (k < F .n) ↔ Looped F
   pub whole : F .n ≤ k → (o : Order (F .n)) × TheOrder F o × Lists l o
+  pub rest : ZeroFrom (F .n) l
 
 -- r tells whether F is fit, where the list has the actions in the order of F.
 abbrev pub TellsFit : Profile → List ℕ → Bool → Type 0
 TellsFit F l r = (o : Order (F .n)) → TheOrder F o → Lists l o → (r ≡ true) ↔ Fit F
 
--- k is the refusal of F by 8 and 9, or 0; but for 8 the list has the actions in the order of F.
+-- k is the refusal of F by 8 and 9, or 0; but for 8 the list has the actions in the order of F and then 0, for 8 it has 0 alone.
 pub record Verdict (F : Profile) (k : ℕ) (l : List ℕ) : Type 0 where
   pub number : First (refused-loop when Looped F ∷ refused-unfit when Unfit F ∷ []) k
-  pub order : (k ≡ 8 → ⊥) → (o : Order (F .n)) × TheOrder F o × Lists l o
+  pub order : k ≢ refused-loop → (o : Order (F .n)) × TheOrder F o × Lists l o
+  pub rest : ZeroFrom (F .n) l
+  pub looped : k ≡ refused-loop → l ≡ replicate 64 0

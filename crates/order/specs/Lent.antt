@@ -4,7 +4,7 @@ use mathlib.Core.List.{List}
 use lib.ListN.{length, getD}
 use Rattle.rules.specs.Numbers.{longest-time}
 use Rattle.sets.specs.Sets.{Below}
-pub use Rattle.order_urgency.specs.Lent.{lent}
+pub use Rattle.order_urgency.specs.Lent.{lent-profile}
 
 -- A mask of each action is lent, and names actions below n.
 pub record Masked (n : ℕ) (masks : List ℕ) : Type 0 where

@@ -18,8 +18,8 @@ ghost use mathlib.Core.List.{List, []};
 ghost use Prim.Native.Nat.{ℕ, _≤_, _<_};
 ghost use lib.ListN.{length, getD};
 ghost use Rattle.sets.specs.Sets.{Below};
-ghost use Rattle.order.specs.Lent.{lent, Masked, Timed};
-ghost use Rattle.order.specs.Arranged.{Parted, Next, Placed};
+ghost use Rattle.order.specs.Lent.{lent-profile, Masked, Timed};
+ghost use Rattle.order.specs.Arranged.{Parted, NextIn, Placed, ZeroFrom};
 ghost use Rattle.order.specs.Judged.{ByNumber, Ordered, TellsFit, Verdict};
 
 // ---- order
@@ -28,7 +28,8 @@ ghost use Rattle.order.specs.Judged.{ByNumber, Ordered, TellsFit, Verdic
 // not done, the highest, as the higher numbers tend to be done later. It is looked at again when that one is done.
 fn release(masks: &[u64], from: u64, done: u64, free: u64, waiting: &mut [u64; 64]) -> u64
     requires { ⌜ Below from (length (now masks)) ⌝ }
-    ensures { λ r. ⌜ ((n : ℕ) → Masked n (now (masks .entry)) → Parted n (now (masks .entry)) done free from (now (waiting .entry)) → Parted n (now (masks .entry)) done r 0 (now (waiting .exit))) ⌝ }
+    ensures { λ r. ⌜ ((n : ℕ) → Masked n (now (masks .entry)) → Parted n (now (masks .entry)) done free from (now (waiting .entry))
+        → Parted n (now (masks .entry)) done r 0 (now (waiting .exit))) ⌝ }
 {
     let mut r = free;
     let mut t = from;
@@ -49,7 +50,7 @@ fn release(masks: &[u64], from: u64, done: u64, free: u64, waiting: &mut [u64; 6
 // The ready action of least urgency, the lowest of several.
 fn next(urgency: &[u32; 64], ready: u64) -> usize
     requires { ⌜ 0 < ready ⌝ }
-    ensures { λ r. ⌜ Next (now (urgency .entry)) ready r ⌝ }
+    ensures { λ r. ⌜ NextIn (now (urgency .entry)) ready r ⌝ }
 {
     let mut best = lowest(ready);
     let mut t = above_lowest(ready);
@@ -63,7 +64,7 @@ fn next(urgency: &[u32; 64], ready: u64) -> usize
     best
 }
 
-// How many actions were placed, and their order where all were.
+// How many actions were placed, and their order where all were, then 0.
 pub struct Arranged {
     pub placed: usize,
     pub order: [u8; 64],
@@ -97,7 +98,7 @@ pub fn arrange(masks: &[u64], urgency: &[u32; 64], n: usize) -> Arranged
 // Whether all deadlines are one and each mask names lower numbers alone. Then the order is that of the numbers.
 fn by_number(masks: &[u64], deadlines: &[u32], cycle: u32, n: usize) -> bool
     requires { ⌜ (n ≤ 64) × (n ≤ length (now masks)) × (n ≤ length (now deadlines)) ⌝ }
-    ensures { λ r. ⌜ (r ≡ true) ↔ ByNumber (lent n cycle (now (masks .entry)) (now (deadlines .entry)) [] 0) ⌝ }
+    ensures { λ r. ⌜ (r ≡ true) ↔ ByNumber (lent-profile n cycle (now (masks .entry)) (now (deadlines .entry)) [] 0) ⌝ }
 {
     if n == 0 {
         return true;
@@ -113,13 +114,15 @@ fn by_number(masks: &[u64], deadlines: &[u32], cycle: u32, n: usize) -> bool
     odd == 0
 }
 
-// The numbers in order.
-fn numbers() -> [u8; 64]
-    ensures { λ r. ⌜ ((k : ℕ) → k < 64 → getD r k 0 ≡ k) ⌝ }
+// The numbers below n in order, and then 0.
+fn numbers(n: usize) -> [u8; 64]
+    requires { ⌜ n ≤ 64 ⌝ }
+    ensures { λ r. ⌜ ((k : ℕ) → k < n → getD r k 0 ≡ k) ⌝ }
+    ensures { λ r. ⌜ ZeroFrom n r ⌝ }
 {
     let mut order = [0u8; 64];
     let mut k: usize = 0;
-    while k < 64 {
+    while k < n {
         order[k] = k as u8;
         k += 1;
     }
@@ -129,10 +132,10 @@ fn numbers() -> [u8; 64]
 // The actions in order, as far as the masks allow.
 fn ordered(masks: &[u64], deadlines: &[u32], cycle: u32, n: usize) -> Arranged
     requires { ⌜ Masked n (now masks) × (n ≤ length (now deadlines)) ⌝ }
-    ensures { λ r. ⌜ Ordered (lent n cycle (now (masks .entry)) (now (deadlines .entry)) [] 0) (r .placed) (r .order) ⌝ }
+    ensures { λ r. ⌜ Ordered (lent-profile n cycle (now (masks .entry)) (now (deadlines .entry)) [] 0) (r .placed) (r .order) ⌝ }
 {
     if by_number(masks, deadlines, cycle, n) {
-        let order = numbers();
+        let order = numbers(n);
         return Arranged { placed: n, order };
     }
     let urgency = urgencies(masks, deadlines, cycle, n);
@@ -151,7 +154,8 @@ pub fn fit(
     n: usize,
 ) -> bool
     requires { ⌜ (n ≤ 64) × Timed n (now deadlines) (now worst) stride × ((k : ℕ) → k < n → getD (now order) k 0 < n) ⌝ }
-    ensures { λ r. ⌜ ((masks : List ℕ) → TellsFit (lent n cycle masks (now (deadlines .entry)) (now (worst .entry)) stride) (now (order .entry)) r) ⌝ }
+    ensures { λ r. ⌜ ((masks : List ℕ) → TellsFit
+        (lent-profile n cycle masks (now (deadlines .entry)) (now (worst .entry)) stride) (now (order .entry)) r) ⌝ }
 {
     let mut end: u32 = 0;
     let mut k: usize = 0;
@@ -166,8 +170,8 @@ pub fn fit(
     true
 }
 
-// Refusal 8 or 9, 0 for neither, and but for 8 the actions in order.
-pub struct Judged {
+// Refusal 8 or 9, 0 for neither, and but for 8 the actions in order; all else of the order is 0.
+pub struct Judgement {
     pub refusal: u32,
     pub order: [u8; 64],
 }
@@ -180,22 +184,23 @@ pub fn judge(
     worst: &[u32],
     stride: usize,
     n: usize,
-) -> Judged
+) -> Judgement
     requires { ⌜ Masked n (now masks) × Timed n (now deadlines) (now worst) stride ⌝ }
-    ensures { λ r. ⌜ Verdict (lent n cycle (now (masks .entry)) (now (deadlines .entry)) (now (worst .entry)) stride) (r .refusal) (r .order) ⌝ }
+    ensures { λ r. ⌜ Verdict
+        (lent-profile n cycle (now (masks .entry)) (now (deadlines .entry)) (now (worst .entry)) stride) (r .refusal) (r .order) ⌝ }
 {
     let arranged = ordered(masks, deadlines, cycle, n);
     let order = arranged.order;
     if arranged.placed < n {
-        return Judged {
+        return Judgement {
             refusal: rules::REFUSED_LOOP,
-            order,
+            order: [0u8; 64],
         };
     }
     if fit(&order, deadlines, cycle, worst, stride, n) {
-        Judged { refusal: 0, order }
+        Judgement { refusal: 0, order }
     } else {
-        Judged {
+        Judgement {
             refusal: rules::REFUSED_UNFIT,
             order,
         }

@@ -14,7 +14,7 @@ use lib.Seq.{getD-set-same, getD-set-other}
 use Rattle.rules.specs.Image.{has}
 use Rattle.rules.specs.Order.{MustFollow}
 use Rattle.rules.proofs.Tests.{not-both, or-true}
-use Rattle.sets.specs.Sets.{before}
+use Rattle.sets.specs.Sets.{comes-before}
 use Rattle.sets.proofs.Bits.{has-or}
 use Rattle.sets.proofs.Cases.{eq-or-ne}
 use Rattle.order_loops.specs.Looped.{Leads, next, via, Row, Rows}
@@ -106,26 +106,26 @@ module _ (masks : List ℕ) where
   pub rows-start : {n : ℕ} {all : List ℕ} → length all ≡ 64 → ((a : ℕ) → a < n → getD all a 0 ≡ getD masks a 0) → Rows masks n 0 all
   rows-start long same = record { long = long; row = λ b l. rw (same b l) (record { only = λ a h. next h; each = λ a p. none p }) }
     where
-      none : {a c : ℕ} → Leads masks 0 a c → before masks a c
+      none : {a c : ℕ} → Leads masks 0 a c → comes-before masks a c
       none (next h) = h
       none (via c m p q) = absurd (omega arith)
 
   -- through all actions: what must follow
-  follow-on : {n a b c : ℕ} → MustFollow n (before masks) a b → MustFollow n (before masks) b c → MustFollow n (before masks) a c
+  follow-on : {n a b c : ℕ} → MustFollow n (comes-before masks) a b → MustFollow n (comes-before masks) b c → MustFollow n (comes-before masks) a c
   follow-on (MustFollow.next l h) g = MustFollow.through l h g
   follow-on (MustFollow.through l h f) g = MustFollow.through l h (follow-on f g)
 
-  leads-follow : {n a b : ℕ} → b < n → Leads masks n a b → MustFollow n (before masks) a b
+  leads-follow : {n a b : ℕ} → b < n → Leads masks n a b → MustFollow n (comes-before masks) a b
   leads-follow l (next h) = MustFollow.next l h
   leads-follow l (via c m p q) = follow-on (leads-follow m p) (leads-follow l q)
 
-  follow-leads : {n a b : ℕ} → MustFollow n (before masks) a b → Leads masks n a b
+  follow-leads : {n a b : ℕ} → MustFollow n (comes-before masks) a b → Leads masks n a b
   follow-leads (MustFollow.next l h) = next h
   follow-leads (MustFollow.through {b = b} l h f) = via b l (next h) (follow-leads f)
 
   module _ {n : ℕ} {all : List ℕ} (rows : Rows masks n n all) {a : ℕ} (l : a < n) where
-    pub looped-yes : has (getD all a 0) a ≡ true → MustFollow n (before masks) a a
+    pub looped-yes : has (getD all a 0) a ≡ true → MustFollow n (comes-before masks) a a
     looped-yes h = leads-follow l (rows .row a l .only a h)
 
-    pub looped-no : has (getD all a 0) a ≡ false → MustFollow n (before masks) a a → ⊥
+    pub looped-no : has (getD all a 0) a ≡ false → MustFollow n (comes-before masks) a a → ⊥
     looped-no h f = not-both (rows .row a l .each a (follow-leads f)) h

@@ -1,16 +1,15 @@
--- The lowest action on a loop, from the sets of all that comes before each action.
-use Prim.Native.Nat.{ℕ, _≤_, _<_}
+-- For each action the set of all that it must follow.
+use Prim.Native.Nat.{ℕ, _<_}
 use mathlib.Core.Path.{_≡_}
 use mathlib.Core.Bool.{true}
 use mathlib.Core.List.{List}
 use lib.ListN.{length, getD}
 use Rattle.rules.specs.Image.{has}
-use Rattle.rules.specs.Order.{MustFollow}
-use Rattle.sets.specs.Sets.{before}
+use Rattle.sets.specs.Sets.{comes-before}
 
 -- b must follow a, directly or through actions below k.
 pub data Leads (masks : List ℕ) (k : ℕ) : ℕ → ℕ → Type 0 where
-  next : {a b : ℕ} → before masks a b → Leads masks k a b
+  next : {a b : ℕ} → comes-before masks a b → Leads masks k a b
   via : {a b : ℕ} (c : ℕ) → c < k → Leads masks k a c → Leads masks k c b → Leads masks k a b
 
 -- The members of the set are the actions that b must follow, directly or through actions below k.
@@ -22,9 +21,3 @@ pub record Row (masks : List ℕ) (k b set : ℕ) : Type 0 where
 pub record Rows (masks : List ℕ) (n k : ℕ) (all : List ℕ) : Type 0 where
   pub long : length all ≡ 64
   pub row : (b : ℕ) → b < n → Row masks k b (getD all b 0)
-
--- r is the lowest action on a loop, n where there is none.
-pub record FirstLooped (n : ℕ) (masks : List ℕ) (r : ℕ) : Type 0 where
-  pub most : r ≤ n
-  pub loops : r < n → MustFollow n (before masks) r r
-  pub lowest : (a : ℕ) → a < r → MustFollow n (before masks) a a → ⊥

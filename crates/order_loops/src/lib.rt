@@ -5,7 +5,10 @@ ghost use mathlib.Core.Path.{_≡_};
 ghost use mathlib.Core.List.{List};
 ghost use Prim.Native.Nat.{ℕ, _+_, _≤_, _<_};
 ghost use lib.ListN.{length, getD};
-ghost use Rattle.order_loops.specs.Looped.{Rows, FirstLooped};
+ghost use Rattle.rules.specs.Order.{OnLoop};
+ghost use Rattle.rules.specs.Refusals.{LowestFault};
+ghost use Rattle.sets.specs.Sets.{comes-before};
+ghost use Rattle.order_loops.specs.Looped.{Rows};
 
 // The masks of the n actions.
 fn copied(masks: &[u64], n: usize) -> [u64; 64]
@@ -55,7 +58,7 @@ fn closed(masks: &[u64], n: usize) -> [u64; 64]
 // The lowest action on a loop, n where there is none.
 pub fn first_looped(masks: &[u64], n: usize) -> usize
     requires { ⌜ (n ≤ 64) × (n ≤ length (now masks)) ⌝ }
-    ensures { λ r. ⌜ FirstLooped n (now (masks .entry)) r ⌝ }
+    ensures { λ r. ⌜ LowestFault (OnLoop n (comes-before (now (masks .entry)))) n r ⌝ }
 {
     let all = closed(masks, n);
     let mut a: usize = 0;

@@ -14,11 +14,11 @@ use Rattle.rules.specs.Order.{MustFollow, Urgency}
 use Rattle.rules.proofs.Tests.{true-or-false, not-both}
 use Rattle.rules.proofs.Sums.{sum-mono}
 use Rattle.rules.proofs.Order.Loops.{settled}
-use Rattle.sets.specs.Sets.{Lowest, Without, before}
+use Rattle.sets.specs.Sets.{Lowest, Without, comes-before}
 use Rattle.sets.proofs.Bits.{has-empty}
 use Rattle.sets.proofs.Laws.{gone, kept, was}
 use Rattle.sets.proofs.Cases.{lt-or-le, eq-or-ne}
-use Rattle.order_urgency.specs.Spread.{lowered, HandedOn, From, total, Passed}
+use Rattle.order_urgency.specs.Spread.{lowered, HandedOn, From, total, PassedDown}
 
 -- ---- one more action got what a hands on
 
@@ -144,7 +144,7 @@ sum-less (suc k) b f g h l m = go (eq-or-ne b k) (λ q. sum-less k b f g (λ a n
 less-total : (u v : List ℕ) → ((a : ℕ) → a < 64 → getD v a 0 ≤ getD u a 0) → total v ≤ total u
 less-total u v h = sum-mono 64 (λ a. getD v a 0) (λ a. getD u a 0) h
 
-pub passed-none : (n : ℕ) (masks : List ℕ) {u : List ℕ} → length u ≡ 64 → Passed n n masks u u false
+pub passed-none : (n : ℕ) (masks : List ℕ) {u : List ℕ} → length u ≡ 64 → PassedDown n n masks u u false
 passed-none n masks long = record {
   long = long;
   less = λ a l. le-refl _;
@@ -154,9 +154,9 @@ passed-none n masks long = record {
 }
 
 -- action a, the last one that has not yet, hands its urgency on
-module _ {n p a : ℕ} {masks u v w : List ℕ} {r s : Bool} (few : n ≤ 64) (last : p ≡ a + 1) (present : a < n) (h : Passed n p masks u v r)
+module _ {n p a : ℕ} {masks u v w : List ℕ} {r s : Bool} (few : n ≤ 64) (last : p ≡ a + 1) (present : a < n) (h : PassedDown n p masks u v r)
     (x : HandedOn (has (getD masks a 0)) a v w s) where
-  got : (b : ℕ) → b < 64 → before masks b a → getD w b 0 ≡ min (getD v a 0) (getD v b 0)
+  got : (b : ℕ) → b < 64 → comes-before masks b a → getD w b 0 ≡ min (getD v a 0) (getD v b 0)
   got b l e = x .each b l ∙ ap (λ (y : Bool). lowered y (getD v a 0) (getD v b 0)) e
 
   stayed : (b : ℕ) → b < 64 → has (getD masks a 0) b ≡ false → getD w b 0 ≡ getD v b 0
@@ -165,23 +165,23 @@ module _ {n p a : ℕ} {masks u v w : List ℕ} {r s : Bool} (few : n ≤ 64) (l
   less-now : (b : ℕ) → b < 64 → getD w b 0 ≤ getD v b 0
   less-now b l = elim (true-or-false (has (getD masks a 0) b)) [ inl e ↦ omega (arith, got b l e) | inr e ↦ omega (arith, stayed b l e) ]
 
-  from-now : (D : ℕ → ℕ) → ((b : ℕ) → b < n → From n (before masks) D b (getD v b 0)) → (b : ℕ) → b < n → From n (before masks) D b (getD w b 0)
+  from-now : (D : ℕ → ℕ) → ((b : ℕ) → b < n → From n (comes-before masks) D b (getD v b 0)) → (b : ℕ) → b < n → From n (comes-before masks) D b (getD w b 0)
   from-now D f b l = go (true-or-false (has (getD masks a 0) b))
     where
-      behind : before masks b a → From n (before masks) D a (getD v a 0) → From n (before masks) D b (getD v a 0)
+      behind : comes-before masks b a → From n (comes-before masks) D a (getD v a 0) → From n (comes-before masks) D b (getD v a 0)
       behind e (inl q) = inr (a, MustFollow.next present e, q)
       behind e (inr q) = inr (q .0, MustFollow.through present e (q .1), q .2)
 
-      lesser : before masks b a → (getD v a 0 < getD v b 0) ⊎ (getD v b 0 ≤ getD v a 0) → From n (before masks) D b (getD w b 0)
-      lesser e (inl m) = subst (From n (before masks) D b) (omega (arith, got b (omega arith) e)) (behind e (f a present))
-      lesser e (inr m) = subst (From n (before masks) D b) (omega (arith, got b (omega arith) e)) (f b l)
+      lesser : comes-before masks b a → (getD v a 0 < getD v b 0) ⊎ (getD v b 0 ≤ getD v a 0) → From n (comes-before masks) D b (getD w b 0)
+      lesser e (inl m) = subst (From n (comes-before masks) D b) (omega (arith, got b (omega arith) e)) (behind e (f a present))
+      lesser e (inr m) = subst (From n (comes-before masks) D b) (omega (arith, got b (omega arith) e)) (f b l)
 
-      go : (has (getD masks a 0) b ≡ true) ⊎ (has (getD masks a 0) b ≡ false) → From n (before masks) D b (getD w b 0)
+      go : (has (getD masks a 0) b ≡ true) ⊎ (has (getD masks a 0) b ≡ false) → From n (comes-before masks) D b (getD w b 0)
       go (inl e) = lesser e (lt-or-le (getD v a 0) (getD v b 0))
-      go (inr e) = subst (From n (before masks) D b) (sym (stayed b (omega arith) e)) (f b l)
+      go (inr e) = subst (From n (comes-before masks) D b) (sym (stayed b (omega arith) e)) (f b l)
 
   -- An action that had its turn became more urgent.
-  pub passed-late : s ≡ true → Passed n a masks u w true
+  pub passed-late : s ≡ true → PassedDown n a masks u w true
   passed-late e = record {
     long = x .long;
     less = λ b l. le-trans (less-now b l) (h .less b l);
@@ -195,7 +195,7 @@ module _ {n p a : ℕ} {masks u v w : List ℕ} {r s : Bool} (few : n ≤ 64) (l
   }
 
   -- None did.
-  pub passed-early : s ≡ false → Passed n a masks u w r
+  pub passed-early : s ≡ false → PassedDown n a masks u w r
   passed-early e = record {
     long = x .long;
     less = λ b l. le-trans (less-now b l) (h .less b l);
@@ -210,13 +210,13 @@ module _ {n p a : ℕ} {masks u v w : List ℕ} {r s : Bool} (few : n ≤ 64) (l
         | inr f ↦ stayed c (omega arith) f
       ]
         where
-          told : before masks c a → (getD v a 0 < getD v c 0) ⊎ (getD v c 0 ≤ getD v a 0) → (a ≡ c) ⊎ (a ≡ c → ⊥) → getD w c 0 ≡ getD v c 0
+          told : comes-before masks c a → (getD v a 0 < getD v c 0) ⊎ (getD v c 0 ≤ getD v a 0) → (a ≡ c) ⊎ (a ≡ c → ⊥) → getD w c 0 ≡ getD v c 0
           told f (inr q) i = omega (arith, got c (omega arith) f)
           told f (inl q) (inl i) = absurd (omega (arith, ap (λ (j : ℕ). getD v j 0) i))
           told f (inl q) (inr i) = absurd (not-both (x .late .1 (c, omega arith, omega arith, f, q)) e)
 
-      go : r ≡ false → (b c : ℕ) → b < n → a ≤ c → c < n → before masks b c → (a ≡ c) ⊎ (a ≡ c → ⊥) → getD w b 0 ≤ getD w c 0
-      go y b c l m k f (inl q) = omega (arith, got b (omega arith) (subst (before masks b) (sym q) f), above c m k, ap (λ (j : ℕ). getD v j 0) q)
+      go : r ≡ false → (b c : ℕ) → b < n → a ≤ c → c < n → comes-before masks b c → (a ≡ c) ⊎ (a ≡ c → ⊥) → getD w b 0 ≤ getD w c 0
+      go y b c l m k f (inl q) = omega (arith, got b (omega arith) (subst (comes-before masks b) (sym q) f), above c m k, ap (λ (j : ℕ). getD v j 0) q)
       go y b c l m k f (inr q) = omega (arith, less-now b (omega arith), h .done y b c l (omega arith) k f, above c m k)
 
 -- ---- passes until nothing is left to hand on
@@ -225,8 +225,8 @@ module _ {n p a : ℕ} {masks u v w : List ℕ} {r s : Bool} (few : n ≤ 64) (l
 pub record Spreading (n : ℕ) (masks : List ℕ) (D : ℕ → ℕ) (u : List ℕ) (r : Bool) : Type 0 where
   pub long : length u ≡ 64
   pub own : (a : ℕ) → a < n → getD u a 0 ≤ D a
-  pub from : (a : ℕ) → a < n → From n (before masks) D a (getD u a 0)
-  pub done : r ≡ false → (b a : ℕ) → b < n → a < n → before masks b a → getD u b 0 ≤ getD u a 0
+  pub from : (a : ℕ) → a < n → From n (comes-before masks) D a (getD u a 0)
+  pub done : r ≡ false → (b a : ℕ) → b < n → a < n → comes-before masks b a → getD u b 0 ≤ getD u a 0
 
 pub spreading-start : (n : ℕ) (masks : List ℕ) (D : ℕ → ℕ) {u : List ℕ} → length u ≡ 64 → ((a : ℕ) → a < n → getD u a 0 ≡ D a)
     → Spreading n masks D u true
@@ -238,7 +238,7 @@ spreading-start n masks D long h = record {
 }
 
 module _ {n : ℕ} {masks : List ℕ} {D : ℕ → ℕ} {u : List ℕ} where
-  pub spreading-more : {v : List ℕ} {r s : Bool} → n ≤ 64 → Spreading n masks D u r → Passed n 0 masks u v s → Spreading n masks D v s
+  pub spreading-more : {v : List ℕ} {r s : Bool} → n ≤ 64 → Spreading n masks D u r → PassedDown n 0 masks u v s → Spreading n masks D v s
   spreading-more few h x = record {
     long = x .long;
     own = λ a l. le-trans (x .less a (omega arith)) (h .own a l);
@@ -246,11 +246,11 @@ module _ {n : ℕ} {masks : List ℕ} {D : ℕ → ℕ} {u : List ℕ} where
     done = λ e b a l m f. x .done e b a l zero-le m f;
   }
 
-  pub spreading-end : Spreading n masks D u false → (a : ℕ) → a < n → Urgency n (before masks) D a (getD u a 0)
-  spreading-end h a l = settled n (before masks) D (λ b. getD u b 0) (h .own) (h .done refl) a l (h .from a l)
+  pub spreading-end : Spreading n masks D u false → (a : ℕ) → a < n → Urgency n (comes-before masks) D a (getD u a 0)
+  spreading-end h a l = settled n (comes-before masks) D (λ b. getD u b 0) (h .own) (h .done refl) a l (h .from a l)
 
 -- a pass that leaves something to hand on lowers the total
-pub passed-falls : {n p : ℕ} {masks u v : List ℕ} {r : Bool} → Passed n p masks u v r → total v + one-if r < total u + 1
+pub passed-falls : {n p : ℕ} {masks u v : List ℕ} {r : Bool} → PassedDown n p masks u v r → total v + one-if r < total u + 1
 passed-falls {u = u} {v = v} {r = r} x = go (true-or-false r)
   where
     go : (r ≡ true) ⊎ (r ≡ false) → total v + one-if r < total u + 1

@@ -5,8 +5,8 @@ use lib.ListN.{getD}
 use Rattle.rules.specs.Image.{Profile}
 
 -- The profile that the slices say: n actions and one level, averages 0. The worst time of action a stands at a * stride.
-abbrev pub lent : ℕ → ℕ → List ℕ → List ℕ → List ℕ → ℕ → Profile
-lent n cycle masks deadlines worst stride = record {
+abbrev pub lent-profile : ℕ → ℕ → List ℕ → List ℕ → List ℕ → ℕ → Profile
+lent-profile n cycle masks deadlines worst stride = record {
   n = n;
   levels = 1;
   cycle = cycle;

@@ -8,7 +8,7 @@ use lib.ListN.{length, getD}
 use Rattle.rules.specs.Words.{sum}
 use Rattle.rules.specs.Image.{Profile, due}
 use Rattle.rules.specs.Order.{MustFollow, Urgency, Before}
-use Rattle.sets.specs.Sets.{before}
+use Rattle.sets.specs.Sets.{comes-before}
 
 -- q, or p where that is less and the test passes
 abbrev pub lowered : Bool → ℕ → ℕ → ℕ
@@ -28,13 +28,13 @@ abbrev pub total : List ℕ → ℕ
 total u = sum 64 (λ a. getD u a 0)
 
 -- The actions from p to n - 1 have handed their urgencies on; r says whether there is more to hand on among them.
-pub record Passed (n p : ℕ) (masks u v : List ℕ) (r : Bool) : Type 0 where
+pub record PassedDown (n p : ℕ) (masks u v : List ℕ) (r : Bool) : Type 0 where
   pub long : length v ≡ 64
   pub less : (a : ℕ) → a < 64 → getD v a 0 ≤ getD u a 0
-  pub from : (D : ℕ → ℕ) → ((a : ℕ) → a < n → From n (before masks) D a (getD u a 0))
-      → (a : ℕ) → a < n → From n (before masks) D a (getD v a 0)
+  pub from : (D : ℕ → ℕ) → ((a : ℕ) → a < n → From n (comes-before masks) D a (getD u a 0))
+      → (a : ℕ) → a < n → From n (comes-before masks) D a (getD v a 0)
   pub more : r ≡ true → total v < total u
-  pub done : r ≡ false → (b a : ℕ) → b < n → p ≤ a → a < n → before masks b a → getD v b 0 ≤ getD v a 0
+  pub done : r ≡ false → (b a : ℕ) → b < n → p ≤ a → a < n → comes-before masks b a → getD v b 0 ≤ getD v a 0
 
 -- Each action has its urgency.
 abbrev pub Urgent : Profile → List ℕ → Type 0

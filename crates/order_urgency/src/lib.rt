@@ -10,8 +10,8 @@ ghost use Prim.Native.Nat.{ℕ, _≤_, _<_};
 ghost use lib.Dec.{eqb};
 ghost use lib.ListN.{length, getD};
 ghost use Rattle.rules.specs.Image.{has, due};
-ghost use Rattle.order_urgency.specs.Lent.{lent};
-ghost use Rattle.order_urgency.specs.Spread.{HandedOn, Passed, Urgent};
+ghost use Rattle.order_urgency.specs.Lent.{lent-profile};
+ghost use Rattle.order_urgency.specs.Spread.{HandedOn, PassedDown, Urgent};
 
 // A deadline as it counts.
 pub fn due(deadline: u32, cycle: u32) -> u32
@@ -24,7 +24,7 @@ pub fn due(deadline: u32, cycle: u32) -> u32
 fn dues(deadlines: &[u32], cycle: u32, n: usize) -> [u32; 64]
     requires { ⌜ (n ≤ 64) × (n ≤ length (now deadlines)) ⌝ }
     ensures long { λ r. ⌜ length r ≡ 64 ⌝ }
-    ensures each { λ r. ⌜ ((a : ℕ) → a < n → getD r a 0 ≡ due (lent n cycle [] (now (deadlines .entry)) [] 0) a) ⌝ }
+    ensures each { λ r. ⌜ ((a : ℕ) → a < n → getD r a 0 ≡ due (lent-profile n cycle [] (now (deadlines .entry)) [] 0) a) ⌝ }
 {
     let mut u = [0u32; 64];
     let mut a: usize = 0;
@@ -60,7 +60,7 @@ fn hand_on(mask: u64, a: usize, u: &mut [u32; 64]) -> bool
 // only where an action became more urgent after its turn.
 fn pass(masks: &[u64], n: usize, u: &mut [u32; 64]) -> bool
     requires { ⌜ (n ≤ 64) × (n ≤ length (now masks)) × (length (now u) ≡ 64) ⌝ }
-    ensures { λ r. ⌜ Passed n 0 (now (masks .entry)) (now (u .entry)) (now (u .exit)) r ⌝ }
+    ensures { λ r. ⌜ PassedDown n 0 (now (masks .entry)) (now (u .entry)) (now (u .exit)) r ⌝ }
 {
     let mut again = false;
     let mut a = n;
@@ -76,7 +76,7 @@ fn pass(masks: &[u64], n: usize, u: &mut [u32; 64]) -> bool
 // The urgency of each action.
 pub fn urgencies(masks: &[u64], deadlines: &[u32], cycle: u32, n: usize) -> [u32; 64]
     requires { ⌜ (n ≤ 64) × (n ≤ length (now masks)) × (n ≤ length (now deadlines)) ⌝ }
-    ensures { λ r. ⌜ Urgent (lent n cycle (now (masks .entry)) (now (deadlines .entry)) [] 0) r ⌝ }
+    ensures { λ r. ⌜ Urgent (lent-profile n cycle (now (masks .entry)) (now (deadlines .entry)) [] 0) r ⌝ }
 {
     let mut u = dues(deadlines, cycle, n);
     let mut again = true;

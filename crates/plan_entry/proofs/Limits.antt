@@ -21,7 +21,7 @@ use Rattle.fields.proofs.Strides.{stride-more}
 use Rattle.fields.proofs.Splice.{getD-splice}
 use Rattle.fields.proofs.Cats.{cat-from, from-none, from-more, from-done}
 use Rattle.fields.proofs.Tabs.{tab-ext, length-tab, getD-tab}
-use Rattle.plan_entry.specs.Rows.{limit-of, limits-of, eight, row-of, after-last, SmallRow}
+use Rattle.plan_entry.specs.Rows.{limit-of, limits-of, row-of-eight, row-of, after-last, SmallRow}
 use Rattle.plan_entry.proofs.Signed.{lesser-left}
 
 -- n positions and so many levels, with the rule and the ranges of an accepted profile
@@ -48,8 +48,8 @@ pub record Worked (S : Tables) (n levels : ℕ) (out₀ : List ℤ) (i : ℕ) (n
   pub row : RowAt S n levels i next
   pub table : out ≡ splice out₀ (i * levels) (cat-from (λ k. tab (limit S k) levels) i n)
 
-eight-at : (f : ℕ → ℤ) (levels q : ℕ) → q < levels → getD (eight f levels) q (pos 0) ≡ f q
-unfolding eight
+eight-at : (f : ℕ → ℤ) (levels q : ℕ) → q < levels → getD (row-of-eight f levels) q (pos 0) ≡ f q
+unfolding row-of-eight
 eight-at f levels q h =
     getD-splice _ 0 (tab f levels) zero-le q q (pos 0) (omega arith) (omega (arith, length-tab f levels)) ∙ getD-tab f levels q (pos 0) h
 

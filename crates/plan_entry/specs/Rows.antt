@@ -4,7 +4,7 @@ use mathlib.Core.List.{List}
 use lib.IntN.{ℤ, pos, _-ℤ_}
 use lib.ListN.{getD, replicate}
 use lib.Signed.{mag}
-use Rattle.rules.specs.Numbers.{last-clock, clock-end, longest-time}
+use Rattle.rules.specs.Numbers.{most-levels, last-clock, clock-end, longest-time}
 use Rattle.rules.specs.Words.{minZ, tab}
 use Rattle.fields.specs.Fields.{splice}
 
@@ -18,15 +18,15 @@ abbrev pub limits-of : List ℤ → (ℕ → ℕ) → (ℕ → ℕ) → ℕ → 
 limits-of next average worst deadline q = limit-of deadline (getD next 0 (pos 0)) (getD next q (pos 0)) (worst q) (average q)
 
 -- a row of eight: f at each level, then 0
-unfoldable pub eight : (ℕ → ℤ) → ℕ → List ℤ
-eight f levels = splice (replicate 8 (pos 0)) 0 (tab f levels)
+unfoldable pub row-of-eight : (ℕ → ℤ) → ℕ → List ℤ
+row-of-eight f levels = splice (replicate most-levels (pos 0)) 0 (tab f levels)
 
 abbrev pub row-of : List ℤ → (ℕ → ℕ) → (ℕ → ℕ) → ℕ → ℕ → List ℤ
-row-of next average worst deadline levels = eight (limits-of next average worst deadline) levels
+row-of next average worst deadline levels = row-of-eight (limits-of next average worst deadline) levels
 
 -- the row after the last position: the latest deadline, which no limit is above
 abbrev pub after-last : List ℤ
-after-last = replicate 8 (pos last-clock)
+after-last = replicate most-levels (pos last-clock)
 
 -- ---- numbers so small that every difference fits in 32 bits with a sign
 

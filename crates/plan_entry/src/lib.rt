@@ -1,13 +1,14 @@
 // A limit from the limits after it, and coast bounds from those after them.
 ghost use mathlib.Core.Path.{_≡_};
-ghost use Prim.Native.Nat.{ℕ, _+_, _*_, _≤_, _<_};
+ghost use Prim.Native.Nat.{ℕ, _+_, _-_, _*_, _≤_, _<_};
 ghost use lib.IntN.{pos, _-ℤ_};
 ghost use lib.ListN.{length, getD};
 ghost use lib.Signed.{mag};
+ghost use Rattle.rules.specs.Numbers.{most-levels, longest-coast};
 ghost use Rattle.rules.specs.Words.{minZ};
 ghost use Rattle.fields.specs.Fields.{splice};
 ghost use Rattle.plan_entry.specs.Rows.{limit-of, after-last, SmallLimit};
-ghost use Rattle.plan_entry.specs.Bounds.{bound-by, bounds-by, bound-in, Spares};
+ghost use Rattle.plan_entry.specs.Bounds.{bound-by, bounds-by, bound-in, signed-end, Spares};
 
 fn lesser(a: i32, b: i32) -> i32
     ensures { λ r. ⌜ r ≡ minZ a b ⌝ }
@@ -16,7 +17,7 @@ fn lesser(a: i32, b: i32) -> i32
 }
 
 fn minus(limit: i32, time: u32) -> i32
-    requires { ⌜ mag limit + time < 2147483648 ⌝ }
+    requires { ⌜ mag limit + time < signed-end ⌝ }
     ensures { λ r. ⌜ r ≡ limit -ℤ pos time ⌝ }
 {
     limit - (time as i32)
@@ -36,10 +37,10 @@ pub fn limit_of(deadline: u32, first: i32, after: i32, worst: u32, average: u32)
 }
 
 // The row after the last position. It is never the lesser, so that the last row is worked as any other.
-pub fn after_last() -> [i32; 8]
+pub fn after_last() -> [i32; rules::MOST_LEVELS]
     ensures { λ r. ⌜ r ≡ after-last ⌝ }
 {
-    [rules::LAST_CLOCK as i32; 8]
+    [rules::LAST_CLOCK as i32; rules::MOST_LEVELS]
 }
 
 // ---- coast bounds
@@ -57,8 +58,8 @@ fn bound_of(limit: i32, worst: u32, after: i32) -> i32
 }
 
 // The sixteen of an entry from those of the position after it, which are one action less.
-fn bounds_by(limit: i32, worst: u32, after: [i32; 16], out: &mut [i32], at: usize)
-    requires { ⌜ ((k : ℕ) → k < 15 → Spares worst (getD after k (pos 0))) × (at + 16 ≤ length (now out)) ⌝ }
+fn bounds_by(limit: i32, worst: u32, after: [i32; rules::LONGEST_COAST], out: &mut [i32], at: usize)
+    requires { ⌜ ((k : ℕ) → k < longest-coast - 1 → Spares worst (getD after k (pos 0))) × (at + longest-coast ≤ length (now out)) ⌝ }
     ensures { λ r. ⌜ now (out .exit) ≡ splice (now (out .entry)) at (bounds-by limit worst (λ k. getD after k (pos 0))) ⌝ }
 {
     out[at] = limit;
@@ -71,11 +72,11 @@ fn bounds_by(limit: i32, worst: u32, after: [i32; 16], out: &mut [i32], at: usiz
 }
 
 // The sixteen that stand from `at` on.
-fn sixteen(bounds: &[i32], at: usize) -> [i32; 16]
-    requires { ⌜ at + 16 ≤ length (now bounds) ⌝ }
-    ensures { λ r. ⌜ ((k : ℕ) → k < 16 → getD r k (pos 0) ≡ getD (now (bounds .entry)) (at + k) (pos 0)) ⌝ }
+fn sixteen(bounds: &[i32], at: usize) -> [i32; rules::LONGEST_COAST]
+    requires { ⌜ at + longest-coast ≤ length (now bounds) ⌝ }
+    ensures { λ r. ⌜ ((k : ℕ) → k < longest-coast → getD r k (pos 0) ≡ getD (now (bounds .entry)) (at + k) (pos 0)) ⌝ }
 {
-    let mut row = [0i32; 16];
+    let mut row = [0i32; rules::LONGEST_COAST];
     let mut k = 0;
     while k < rules::LONGEST_COAST {
         let bound = bounds[at + k];
@@ -87,14 +88,15 @@ fn sixteen(bounds: &[i32], at: usize) -> [i32; 16]
 
 // The sixteen of entry x, from those of the same level at the position after it, `levels` entries on; past the last entry all are absent.
 pub fn bounds_of(limit: i32, worst: u32, x: usize, levels: usize, entries: usize, out: &mut [i32])
-    requires { ⌜ (x < entries) × (levels ≤ 8) × (entries * 16 ≤ length (now out)) ⌝ }
-    requires { ⌜ ((k : ℕ) → k < 15 → Spares worst (bound-in (now out) entries (x + levels) k)) ⌝ }
-    ensures { λ r. ⌜ now (out .exit) ≡ splice (now (out .entry)) (x * 16) (bounds-by limit worst (bound-in (now (out .entry)) entries (x + levels))) ⌝ }
+    requires { ⌜ (x < entries) × (levels ≤ most-levels) × (entries * longest-coast ≤ length (now out)) ⌝ }
+    requires { ⌜ ((k : ℕ) → k < longest-coast - 1 → Spares worst (bound-in (now out) entries (x + levels) k)) ⌝ }
+    ensures { λ r. ⌜ now (out .exit) ≡ splice (now (out .entry)) (x * longest-coast)
+        (bounds-by limit worst (bound-in (now (out .entry)) entries (x + levels))) ⌝ }
 {
     let at = x * rules::LONGEST_COAST;
     let next = x + levels;
     if entries <= next {
-        bounds_by(limit, worst, [rules::ABSENT; 16], out, at);
+        bounds_by(limit, worst, [rules::ABSENT; rules::LONGEST_COAST], out, at);
         return;
     }
     let after = sixteen(out, next * rules::LONGEST_COAST);

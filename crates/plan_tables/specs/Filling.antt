@@ -1,66 +1,70 @@
 -- The lent tables of an accepted image: what they are worked from, row by row, and what they hold when all are written.
-use Prim.Native.Nat.{ℕ, suc, _+_, _*_, _≤_, _<_}
+use Prim.Native.Nat.{ℕ, _+_, _-_, _*_, _≤_, _<_}
 use mathlib.Core.Path.{_≡_}
 use mathlib.Core.List.{List}
 use lib.IntN.{ℤ}
 use lib.ListN.{length, getD}
+use Rattle.rules.specs.Numbers.{longest-coast}
 use Rattle.rules.specs.Words.{cat, tab, rows}
 use Rattle.rules.specs.Image.{average-of, worst-of, profile}
 use Rattle.rules.specs.Order.{Order}
-use Rattle.rules.specs.Limits.{Tables, tables, limit, coast-bound}
+use Rattle.rules.specs.Limits.{tables, limit, LentTables, coast-bounds, planner-tables}
 use Rattle.rules.specs.Refusals.{Accepted}
 use Rattle.fields.specs.Fields.{splice}
 use Rattle.image_fields.specs.Reading.{HasRecord}
 use Rattle.plan_entry.specs.Rows.{limits-of, row-of, SmallRow}
 use Rattle.plan_entry.specs.Bounds.{bounds-by, bound-in, Spares}
 
--- the coast bounds by position, level and length from 1 to 16
-abbrev pub coast-bounds : Tables → ℕ → ℕ → List ℤ
-coast-bounds S n L = cat (λ i. rows (λ q x. coast-bound S (limit S) i q (suc x)) L 16) n
-
 -- what the check says of an accepted image s: n, its levels and its cycle, and its actions in the order o
-pub record Given (s : List ℕ) (n L cycle : ℕ) (actions : List ℕ) (o : Order (profile s .n)) : Type 0 where
+pub record PlanInput (s : List ℕ) (n L cycle : ℕ) (actions : List ℕ) (o : Order (profile s .n)) : Type 0 where
   pub accepted : Accepted s
   pub n-is : n ≡ profile s .n
   pub levels-are : L ≡ profile s .levels
   pub cycle-is : cycle ≡ profile s .cycle
   pub lists : (k : ℕ) → k < profile s .n → getD actions k 0 ≡ o .at k
 
--- some order is given
-abbrev pub SomeGiven : List ℕ → ℕ → ℕ → ℕ → List ℕ → Type 0
-SomeGiven s n L cycle actions = (o : Order (profile s .n)) × Given s n L cycle actions o
+-- so of some order
+abbrev pub SomePlanInput : List ℕ → ℕ → ℕ → ℕ → List ℕ → Type 0
+SomePlanInput s n L cycle actions = (o : Order (profile s .n)) × PlanInput s n L cycle actions o
+
+-- room for so many entries by position and level
+pub record EntriesFit (entries : ℕ) (lent : LentTables) : Type 0 where
+  pub limits-room : entries ≤ length (lent .limits)
+  pub worst-room : entries ≤ length (lent .worst)
+  pub bounds-room : entries * longest-coast ≤ length (lent .bounds)
 
 -- what the row of action a is worked from: its record, the row of limits after it, and the coast bounds of the position after it
-pub record CanWork (s : List ℕ) (L a due : ℕ) (next : List ℤ) (from entries : ℕ) (limits : List ℤ) (worst : List ℕ) (bounds : List ℤ) : Type 0 where
+pub record CanWork (s : List ℕ) (L a due : ℕ) (next : List ℤ) (from entries : ℕ) (lent : LentTables) : Type 0 where
   pub present : HasRecord s L a
   pub small : SmallRow next (average-of s a) (worst-of s a) due L
-  pub spares : (q k : ℕ) → q < L → k < 15 → Spares (worst-of s a q) (bound-in bounds entries (from + q + L) k)
+  pub spares : (q k : ℕ) → q < L → k < longest-coast - 1 → Spares (worst-of s a q) (bound-in (lent .bounds) entries (from + q + L) k)
   pub inside : from + L ≤ entries
-  pub limits-room : entries ≤ length limits
-  pub worst-room : entries ≤ length worst
-  pub bounds-room : entries * 16 ≤ length bounds
+  pub room : EntriesFit entries lent
 
--- the row worked, and stored in the three tables
-pub record Works (s : List ℕ) (L a due : ℕ) (next : List ℤ) (from entries : ℕ) (limits : List ℤ) (worst : List ℕ) (bounds : List ℤ)
-    (limits′ : List ℤ) (worst′ : List ℕ) (bounds′ : List ℤ) (row : List ℤ) : Type 0 where
+-- the row worked, and stored in the tables of limits, worst times and coast bounds
+pub record Works (s : List ℕ) (L a due : ℕ) (next : List ℤ) (from entries : ℕ) (before after : LentTables) (row : List ℤ) : Type 0 where
   pub row-is : row ≡ row-of next (average-of s a) (worst-of s a) due L
-  pub limits-are : limits′ ≡ splice limits from (tab (limits-of next (average-of s a) (worst-of s a) due) L)
-  pub worst-is : worst′ ≡ splice worst from (tab (worst-of s a) L)
-  pub bounds-are : bounds′ ≡ splice bounds (from * 16) (cat (λ q. bounds-by (limits-of next (average-of s a) (worst-of s a) due q) (worst-of s a q)
-      (bound-in bounds entries (from + q + L))) L)
+  pub limits-are : after .limits ≡ splice (before .limits) from (tab (limits-of next (average-of s a) (worst-of s a) due) L)
+  pub worst-is : after .worst ≡ splice (before .worst) from (tab (worst-of s a) L)
+  pub bounds-are : after .bounds
+      ≡ splice (before .bounds) (from * longest-coast)
+      (cat (λ q. bounds-by (limits-of next (average-of s a) (worst-of s a) due q) (worst-of s a q) (bound-in (before .bounds) entries (from + q + L))) L)
 
--- the lent tables of limits, worst times and coast bounds filled, of the order o
-abbrev pub Filled : (s : List ℕ) (n L : ℕ) (limits : List ℤ) (worst : List ℕ) (bounds : List ℤ)
-    (limits′ : List ℤ) (worst′ : List ℕ) (bounds′ : List ℤ) → Order (profile s .n) → Type 0
-Filled s n L limits worst bounds limits′ worst′ bounds′ o =
-    (limits′ ≡ splice limits 0 (rows (limit (tables (profile s) o)) n L))
-    × (worst′ ≡ splice worst 0 (rows (tables (profile s) o .worst) n L))
-    × (bounds′ ≡ splice bounds 0 (coast-bounds (tables (profile s) o) n L))
+-- all rows stored, of the order o: n positions at L levels
+pub record RowsFilled (s : List ℕ) (n L : ℕ) (before after : LentTables) (o : Order (profile s .n)) : Type 0 where
+  pub limits-are : after .limits ≡ splice (before .limits) 0 (rows (limit (tables (profile s) o)) n L)
+  pub worst-is : after .worst ≡ splice (before .worst) 0 (rows (tables (profile s) o .worst) n L)
+  pub bounds-are : after .bounds ≡ splice (before .bounds) 0 (coast-bounds (tables (profile s) o) n L)
 
--- all four of the order o
-pub record Written (s order : List ℕ) (limits : List ℤ) (worst : List ℕ) (bounds : List ℤ)
-    (order′ : List ℕ) (limits′ : List ℤ) (worst′ : List ℕ) (bounds′ : List ℤ) (o : Order (profile s .n)) : Type 0 where
-  pub order-is : order′ ≡ splice order 0 (tab (o .at) (profile s .n))
-  pub limits-are : limits′ ≡ splice limits 0 (rows (limit (tables (profile s) o)) (profile s .n) (profile s .levels))
-  pub worst-is : worst′ ≡ splice worst 0 (rows (tables (profile s) o .worst) (profile s .n) (profile s .levels))
-  pub bounds-are : bounds′ ≡ splice bounds 0 (coast-bounds (tables (profile s) o) (profile s .n) (profile s .levels))
+-- lent tables with others written at their fronts; their tails are kept
+abbrev pub with-fronts : LentTables → LentTables → LentTables
+with-fronts lent new = record {
+  order = splice (lent .order) 0 (new .order);
+  limits = splice (lent .limits) 0 (new .limits);
+  worst = splice (lent .worst) 0 (new .worst);
+  bounds = splice (lent .bounds) 0 (new .bounds);
+}
+
+-- all four tables written, of the order o
+abbrev pub AllFilled : (s : List ℕ) (before after : LentTables) → Order (profile s .n) → Type 0
+AllFilled s before after o = after ≡ with-fronts before (planner-tables (profile s) o)

@@ -1,10 +1,11 @@
 // The tables of an accepted image: the order, the limits, the worst times by position and the coast bounds, written to lent slices.
 use image_fields::read;
 ghost use Prim.Native.Nat.{_*_, _≤_};
+ghost use mathlib.Core.List.{[]};
 ghost use lib.ListN.{length};
 ghost use Rattle.rules.specs.Image.{profile};
 ghost use Rattle.rules.specs.Order.{Order};
-ghost use Rattle.plan_tables.specs.Filling.{Given, SomeGiven, CanWork, Works, Filled, Written};
+ghost use Rattle.plan_tables.specs.Filling.{PlanInput, SomePlanInput, EntriesFit, CanWork, Works, RowsFilled, AllFilled};
 
 // The row of limits at the position from entry `from` on, for action a, from the row after it; the finished row goes to the lent table, and
 // so do the worst times and the coast bounds.
@@ -13,18 +14,20 @@ fn work_row(
     levels: usize,
     a: usize,
     due: u32,
-    next: [i32; 8],
+    next: [i32; rules::MOST_LEVELS],
     from: usize,
     entries: usize,
     limits: &mut [i32],
     worst: &mut [u32],
     bounds: &mut [i32],
-) -> [i32; 8]
-    requires { ⌜ CanWork (now image) levels a due next from entries (now limits) (now worst) (now bounds) ⌝ }
-    ensures { λ r. ⌜ Works (now (image .entry)) levels a due next from entries (now (limits .entry)) (now (worst .entry)) (now (bounds .entry))
-        (now (limits .exit)) (now (worst .exit)) (now (bounds .exit)) r ⌝ }
+) -> [i32; rules::MOST_LEVELS]
+    requires { ⌜ CanWork (now image) levels a due next from entries
+        (record { order = []; limits = now limits; worst = now worst; bounds = now bounds }) ⌝ }
+    ensures { λ r. ⌜ Works (now (image .entry)) levels a due next from entries
+        (record { order = []; limits = now (limits .entry); worst = now (worst .entry); bounds = now (bounds .entry) })
+        (record { order = []; limits = now (limits .exit); worst = now (worst .exit); bounds = now (bounds .exit) }) r ⌝ }
 {
-    let mut here = [0i32; 8];
+    let mut here = [0i32; rules::MOST_LEVELS];
     let mut q = 0;
     while q < levels {
         let average = read::average_at(image, levels, a, q);
@@ -45,16 +48,17 @@ fn work(
     n: usize,
     levels: usize,
     cycle: u32,
-    actions: &[u8; 64],
+    actions: &[u8; rules::MOST_ACTIONS],
     limits: &mut [i32],
     worst: &mut [u32],
     bounds: &mut [i32],
 )
-    requires { ⌜ SomeGiven (now image) n levels cycle (now actions) ⌝ }
-    requires { ⌜ (n * levels ≤ length (now limits)) × (n * levels ≤ length (now worst)) × (n * levels * 16 ≤ length (now bounds)) ⌝ }
-    ensures { λ r. ⌜ ((o : Order (profile (now (image .entry)) .n)) → Given (now (image .entry)) n levels cycle (now (actions .entry)) o
-        → Filled (now (image .entry)) n levels (now (limits .entry)) (now (worst .entry)) (now (bounds .entry))
-        (now (limits .exit)) (now (worst .exit)) (now (bounds .exit)) o) ⌝ }
+    requires { ⌜ SomePlanInput (now image) n levels cycle (now actions) ⌝ }
+    requires { ⌜ EntriesFit (n * levels) (record { order = []; limits = now limits; worst = now worst; bounds = now bounds }) ⌝ }
+    ensures { λ r. ⌜ ((o : Order (profile (now (image .entry)) .n)) → PlanInput (now (image .entry)) n levels cycle (now (actions .entry)) o
+        → RowsFilled (now (image .entry)) n levels
+        (record { order = []; limits = now (limits .entry); worst = now (worst .entry); bounds = now (bounds .entry) })
+        (record { order = []; limits = now (limits .exit); worst = now (worst .exit); bounds = now (bounds .exit) }) o) ⌝ }
 {
     let entries = n * levels;
     let mut next = plan_entry::after_last();
@@ -86,18 +90,19 @@ pub fn fill(
     n: usize,
     levels: usize,
     cycle: u32,
-    actions: &[u8; 64],
+    actions: &[u8; rules::MOST_ACTIONS],
     order: &mut [u8],
     limits: &mut [i32],
     worst: &mut [u32],
     bounds: &mut [i32],
 )
-    requires { ⌜ SomeGiven (now image) n levels cycle (now actions) ⌝ }
-    requires { ⌜ (n ≤ length (now order)) × (n * levels ≤ length (now limits)) ⌝ }
-    requires { ⌜ (n * levels ≤ length (now worst)) × (n * levels * 16 ≤ length (now bounds)) ⌝ }
-    ensures { λ r. ⌜ ((o : Order (profile (now (image .entry)) .n)) → Given (now (image .entry)) n levels cycle (now (actions .entry)) o
-        → Written (now (image .entry)) (now (order .entry)) (now (limits .entry)) (now (worst .entry)) (now (bounds .entry))
-        (now (order .exit)) (now (limits .exit)) (now (worst .exit)) (now (bounds .exit)) o) ⌝ }
+    requires { ⌜ SomePlanInput (now image) n levels cycle (now actions) ⌝ }
+    requires { ⌜ (n ≤ length (now order))
+        × EntriesFit (n * levels) (record { order = now order; limits = now limits; worst = now worst; bounds = now bounds }) ⌝ }
+    ensures { λ r. ⌜ ((o : Order (profile (now (image .entry)) .n)) → PlanInput (now (image .entry)) n levels cycle (now (actions .entry)) o
+        → AllFilled (now (image .entry))
+        (record { order = now (order .entry); limits = now (limits .entry); worst = now (worst .entry); bounds = now (bounds .entry) })
+        (record { order = now (order .exit); limits = now (limits .exit); worst = now (worst .exit); bounds = now (bounds .exit) }) o) ⌝ }
 {
     fields::copy_front(actions, n, order);
     work(image, n, levels, cycle, actions, limits, worst, bounds);

@@ -6,13 +6,12 @@ use native.Mathlib.Decide.{decLt}
 use native.Mathlib.Omega.{arith}
 use lib.IntN.{ℤ, pos, _-ℤ_}
 use Rattle.rules.specs.Words.{least-of, rows}
-use Rattle.rules.specs.Limits.{Tables, margin, mixed, limit, coast-bound}
+use Rattle.rules.specs.Limits.{Tables, margin, mixed, limit, coast-bound, coast-bounds}
 use Rattle.rules.proofs.Sums.{span-same}
 use Rattle.rules.proofs.Limits.Alike.{Same, mixed-same}
 use Rattle.fields.proofs.Cats.{cat-ext}
 use Rattle.fields.proofs.Rows.{rows-ext}
 use Rattle.plan_entry.proofs.Coast.{term, bound-within, bound-past}
-use Rattle.planner.specs.Planning.{coast-bounds}
 
 pub record Alike (S T : Tables) (n L : ℕ) : Type 0 where
   pub n-left : S .n ≡ n

@@ -5,19 +5,20 @@ use mathlib.Core.List.{List, [], _∷_}
 use mathlib.Core.Logic.{inl, inr, _≢_}
 use native.Mathlib.Omega.{arith}
 use borrow.Author.Tests.{ne-eqb}
-use lib.IntN.{ℤ}
 use lib.ListN.{length}
 use Rattle.rules.specs.Numbers.{refused-room}
 use Rattle.rules.specs.Image.{profile}
 use Rattle.rules.specs.Order.{Order}
+use Rattle.rules.specs.Limits.{LentTables}
 use Rattle.rules.specs.Refusals.{Ground, _when_, First, Tight, Accepted, kept, image-checks}
 use Rattle.rules.proofs.Differences.{not-above}
 use Rattle.rules.proofs.Refusals.{first-stops, first-goes-on, first-parts, image-numbered}
+use Rattle.rules.specs.declared.Refusal.{Refusal}
 use Rattle.image_check.specs.declared.Checked.{Checked}
 use Rattle.image_check.specs.Checks.{Judged}
 use Rattle.planner.specs.declared.Planned.{Planned}
-use Rattle.plan_tables.specs.Filling.{Given, SomeGiven, Written}
-use Rattle.planner.specs.Planning.{rooms, Plans, Admits}
+use Rattle.plan_tables.specs.Filling.{PlanInput, SomePlanInput, EntriesFit, AllFilled}
+use Rattle.planner.specs.Planning.{plan-rooms, Plans, Admits}
 
 -- ---- what is kept
 
@@ -34,49 +35,48 @@ by-number n = record { at = λ k. k; pos = λ a. a; at-lt = λ k l. l; pos-lt = 
 -- ---- room
 
 -- 17, after 1 to 9
-abbrev room-check : List ℕ → List ℕ → List ℤ → List ℕ → List ℤ → List Ground
-room-check s order limits worst bounds = refused-room when Tight (rooms (profile s .n) (profile s .levels) order limits worst bounds) ∷ []
+abbrev room-check : List ℕ → LentTables → List Ground
+room-check s lent = refused-room when Tight (plan-rooms (profile s .n) (profile s .levels) lent) ∷ []
 
-module _ (n L : ℕ) (order : List ℕ) (limits : List ℤ) (worst : List ℕ) (bounds : List ℤ) where
+module _ (n L : ℕ) (lent : LentTables) where
   pub record Roomy : Type 0 where
-    pub order-room : n ≤ length order
-    pub limits-room : n * L ≤ length limits
-    pub worst-room : n * L ≤ length worst
-    pub bounds-room : n * L * 16 ≤ length bounds
+    pub order-room : n ≤ length (lent .order)
+    pub entries-room : EntriesFit (n * L) lent
 
-  pub roomy : First (refused-room when Tight (rooms n L order limits worst bounds) ∷ []) 0 → Roomy
+  pub roomy : First (refused-room when Tight (plan-rooms n L lent) ∷ []) 0 → Roomy
   roomy (inl p) = absurd (omega arith)
   roomy (inr p) = record {
     order-room = not-above (λ h. p .0 (inl h));
-    limits-room = not-above (λ h. p .0 (inr (inl h)));
-    worst-room = not-above (λ h. p .0 (inr (inr (inl h))));
-    bounds-room = not-above (λ h. p .0 (inr (inr (inr (inl h)))));
+    entries-room = record {
+      limits-room = not-above (λ h. p .0 (inr (inl h)));
+      worst-room = not-above (λ h. p .0 (inr (inr (inl h))));
+      bounds-room = not-above (λ h. p .0 (inr (inr (inr (inl h)))));
+    };
   }
 
 -- ---- by what the check of the image answers: refused with 1 to 9, or judged for 17
 
-module _ {s : List ℕ} {r : Checked} (a : Judged s r) (order : List ℕ) (limits : List ℤ) (worst : List ℕ) (bounds : List ℤ) where
-  pub image-refused : r .refusal .number ≢ 0 → Admits s order limits worst bounds r
+module _ {s : List ℕ} {r : Checked} (a : Judged s r) (lent : LentTables) where
+  pub image-refused : r .refusal .number ≢ 0 → Admits s lent r
   image-refused some = record {
-    number = first-stops (image-checks s) (room-check s order limits worst bounds) (r .refusal .number) (a .number) some;
+    number = first-stops (image-checks s) (room-check s lent) (r .refusal .number) (a .number) some;
     found = λ none. absurd (some none);
   }
 
-  pub room-judged : {k : ℕ} → r .refusal .number ≡ 0 → First (refused-room when Tight (rooms (r .n) (r .levels) order limits worst bounds) ∷ []) k
-      → Admits s order limits worst bounds (record { refusal = record { number = k }; n = r .n; levels = r .levels; cycle = r .cycle; order = r .order })
-  room-judged {k} none p =
+  pub room-judged : {f : Refusal} → r .refusal .number ≡ 0 → First (refused-room when Tight (plan-rooms (r .n) (r .levels) lent) ∷ []) (f .number)
+      → Admits s lent (record { refusal = f; n = r .n; levels = r .levels; cycle = r .cycle; order = r .order })
+  room-judged {f} none p =
       let found = a .accepted none in
       record {
-        number = first-goes-on (image-checks s) (room-check s order limits worst bounds) k (image-numbered s) (rw none at (a .number))
+        number = first-goes-on (image-checks s) (room-check s lent) (f .number) (image-numbered s) (rw none at (a .number))
             (rw (found .n, found .levels) at p);
-        found = λ _. record { n = found .n; levels = found .levels; cycle = found .cycle; order = found .order };
+        found = λ _. record { n = found .n; levels = found .levels; cycle = found .cycle; order = found .order; rest = found .rest };
       }
 
 -- ---- by what both checks answer
 
-module _ {s order : List ℕ} {limits : List ℤ} {worst : List ℕ} {bounds : List ℤ} {r : Checked} (a : Admits s order limits worst bounds r) where
-  pub refused-plans : {p : Planned} → r .refusal .number ≢ 0 → p ≡ record { refusal = r .refusal; n = 0; levels = 0; cycle = 0 }
-      → Plans s order limits worst bounds order limits worst bounds p
+module _ {s : List ℕ} {lent : LentTables} {r : Checked} (a : Admits s lent r) where
+  pub refused-plans : {p : Planned} → r .refusal .number ≢ 0 → p ≡ record { refusal = r .refusal; n = 0; levels = 0; cycle = 0 } → Plans s lent lent p
   refused-plans some e = rw e (record {
     number = a .number;
     n = kept-old _ _ _ some;
@@ -84,39 +84,33 @@ module _ {s order : List ℕ} {limits : List ℤ} {worst : List ℕ} {bounds : L
     cycle = kept-old _ _ _ some;
     o = by-number (profile s .n);
     the-order = λ none. absurd (some none);
-    order-is = kept-old _ _ _ some;
-    limits-are = kept-old _ _ _ some;
-    worst-is = kept-old _ _ _ some;
-    bounds-are = kept-old _ _ _ some;
+    tables-are = kept-old _ _ _ some;
   })
 
   module _ (none : r .refusal .number ≡ 0) where
     -- the image is accepted, and 17 is not given
-    parts : Accepted s × First (room-check s order limits worst bounds) 0
-    parts = elim (first-parts (image-checks s) (room-check s order limits worst bounds) 0 (image-numbered s) (rw none at (a .number))) [
+    parts : Accepted s × First (room-check s lent) 0
+    parts = elim (first-parts (image-checks s) (room-check s lent) 0 (image-numbered s) (rw none at (a .number))) [
       | inl x ↦ absurd (x .1 refl)
       | inr x ↦ x
     ]
 
-    given : Given s (r .n) (r .levels) (r .cycle) (r .order) (a .found none .order .0)
-    given =
+    input : PlanInput s (r .n) (r .levels) (r .cycle) (r .order) (a .found none .order .0)
+    input =
         let found = a .found none in
         record { accepted = parts .0; n-is = found .n; levels-are = found .levels; cycle-is = found .cycle; lists = found .order .2 }
 
-    pub some-given : SomeGiven s (r .n) (r .levels) (r .cycle) (r .order)
-    some-given = (a .found none .order .0, given)
+    pub some-input : SomePlanInput s (r .n) (r .levels) (r .cycle) (r .order)
+    some-input = (a .found none .order .0, input)
 
-    pub has-room : Roomy (r .n) (r .levels) order limits worst bounds
-    has-room = let found = a .found none in rw (found .n, found .levels) (roomy _ _ order limits worst bounds (parts .1))
+    pub has-room : Roomy (r .n) (r .levels) lent
+    has-room = let found = a .found none in rw (found .n, found .levels) (roomy _ _ lent (parts .1))
 
-    pub all-written : {order′ : List ℕ} {limits′ : List ℤ} {worst′ : List ℕ} {bounds′ : List ℤ}
-        → ((o : Order (profile s .n)) → Given s (r .n) (r .levels) (r .cycle) (r .order) o
-        → Written s order limits worst bounds order′ limits′ worst′ bounds′ o)
-        → Plans s order limits worst bounds order′ limits′ worst′ bounds′
-        (record { refusal = r .refusal; n = r .n; levels = r .levels; cycle = r .cycle })
-    all-written written =
+    pub all-written : {after : LentTables}
+        → ((o : Order (profile s .n)) → PlanInput s (r .n) (r .levels) (r .cycle) (r .order) o → AllFilled s lent after o)
+        → Plans s lent after (record { refusal = r .refusal; n = r .n; levels = r .levels; cycle = r .cycle })
+    all-written filled =
         let found = a .found none in
-        let w = written (found .order .0) given in
         record {
           number = a .number;
           n = kept-new _ _ _ none (found .n);
@@ -124,8 +118,5 @@ module _ {s order : List ℕ} {limits : List ℤ} {worst : List ℕ} {bounds : L
           cycle = kept-new _ _ _ none (found .cycle);
           o = found .order .0;
           the-order = λ _. found .order .1;
-          order-is = kept-new _ _ _ none (w .order-is);
-          limits-are = kept-new _ _ _ none (w .limits-are);
-          worst-is = kept-new _ _ _ none (w .worst-is);
-          bounds-are = kept-new _ _ _ none (w .bounds-are);
+          tables-are = kept-new _ _ _ none (filled (found .order .0) input);
         }

@@ -1,3 +1,4 @@
 pub mod Answers
 pub mod Alike
 pub mod Settled
+pub mod Reading

@@ -5,20 +5,18 @@ use mathlib.Core.List.{List, [], _∷_}
 use mathlib.Core.Logic.{⊎-elim}
 use native.Mathlib.Decide.{ℕ-discrete}
 use borrow.Author.Tests.{ne-eqb}
-use lib.IntN.{ℤ}
 use Rattle.rules.specs.Numbers.{refused-room}
-use Rattle.rules.specs.Words.{tab}
 use Rattle.rules.specs.Image.{Profile, due, profile}
 use Rattle.rules.specs.Order.{Order, TheOrder}
-use Rattle.rules.specs.Limits.{tables}
+use Rattle.rules.specs.Limits.{tables, LentTables, planner-tables}
 use Rattle.rules.specs.Refusals.{_when_, Count, Tight, kept, image-call}
 use Rattle.rules.proofs.Refusals.{Sound, first-one, accepted-parts}
 use Rattle.rules.proofs.Accepted.{some-level}
 use Rattle.rules.proofs.Order.OfProfile.{order-settled}
-use Rattle.fields.specs.Fields.{splice}
 use Rattle.fields.proofs.Tabs.{tab-ext}
+use Rattle.plan_tables.proofs.Filling.{same-tables}
 use Rattle.planner.specs.declared.Planned.{Planned}
-use Rattle.planner.specs.Planning.{rooms, Plans}
+use Rattle.planner.specs.Planning.{plan-rooms, with-fronts, Plans}
 use Rattle.planner.proofs.Alike.{Alike, limits-alike, worst-alike, bounds-alike}
 
 -- two orders of one profile give the same tables
@@ -43,14 +41,10 @@ kept-one {A} k m new new′ old e same f g = f ∙ both (ℕ-discrete k 0) ∙ s
     both (yes z) = rw z (same z)
     both (no z) = rw (ne-eqb k 0 z)
 
-module _ {s order : List ℕ} {limits : List ℤ} {worst : List ℕ} {bounds : List ℤ}
-    {order₁ order₂ : List ℕ} {limits₁ limits₂ : List ℤ} {worst₁ worst₂ : List ℕ} {bounds₁ bounds₂ : List ℤ} {r t : Planned}
-    (x : Plans s order limits worst bounds order₁ limits₁ worst₁ bounds₁ r)
-    (y : Plans s order limits worst bounds order₂ limits₂ worst₂ bounds₂ t) where
+module _ {s : List ℕ} {before after₁ after₂ : LentTables} {r t : Planned} (x : Plans s before after₁ r) (y : Plans s before after₂ t) where
   number : r .refusal .number ≡ t .refusal .number
   number =
-      first-one (image-call s (rooms (profile s .n) (profile s .levels) order limits worst bounds)) (r .refusal .number) (t .refusal .number)
-      (x .number) (y .number)
+      first-one (image-call s (plan-rooms (profile s .n) (profile s .levels) before)) (r .refusal .number) (t .refusal .number) (x .number) (y .number)
 
   answer : r ≡ t
   answer =
@@ -65,21 +59,18 @@ module _ {s order : List ℕ} {limits : List ℤ} {worst : List ℕ} {bounds : L
   -- without a refusal the image is sound
   sound : r .refusal .number ≡ 0 → Sound s
   sound none =
-      let own = refused-room when Tight (rooms (profile s .n) (profile s .levels) order limits worst bounds) ∷ [] in
+      let own = refused-room when Tight (plan-rooms (profile s .n) (profile s .levels) before) ∷ [] in
       ⊎-elim (λ p. absurd (p .1 none)) (λ p. p .0) (accepted-parts s own (r .refusal .number) (x .number))
 
   alike : r .refusal .number ≡ 0 → Alike (tables (profile s) (x .o)) (tables (profile s) (y .o)) (profile s .n) (profile s .levels)
   alike none = settled-alike (sound none .not-count) (x .the-order none) (y .the-order (sym number ∙ none))
 
-  order-one : r .refusal .number ≡ 0 → tab (x .o .at) (profile s .n) ≡ tab (y .o .at) (profile s .n)
-  order-one none = tab-ext (x .o .at) (y .o .at) (profile s .n) (order-settled (x .the-order none) (y .the-order (sym number ∙ none)))
+  tables-one : r .refusal .number ≡ 0 → planner-tables (profile s) (x .o) ≡ planner-tables (profile s) (y .o)
+  tables-one none =
+      let the-same = alike none in
+      same-tables (tab-ext (x .o .at) (y .o .at) (profile s .n) (order-settled (x .the-order none) (y .the-order (sym number ∙ none))))
+      (limits-alike the-same) (worst-alike the-same) (bounds-alike the-same)
 
   -- Two results that satisfy the contract on the same input are equal.
-  pub plan-settled : (r ≡ t) × (order₁ ≡ order₂) × (limits₁ ≡ limits₂) × (worst₁ ≡ worst₂) × (bounds₁ ≡ bounds₂)
-  plan-settled = (
-    answer,
-    kept-one _ _ _ _ order number (λ none. ap (splice order 0) (order-one none)) (x .order-is) (y .order-is),
-    kept-one _ _ _ _ limits number (λ none. ap (splice limits 0) (limits-alike (alike none))) (x .limits-are) (y .limits-are),
-    kept-one _ _ _ _ worst number (λ none. ap (splice worst 0) (worst-alike (alike none))) (x .worst-is) (y .worst-is),
-    kept-one _ _ _ _ bounds number (λ none. ap (splice bounds 0) (bounds-alike (alike none))) (x .bounds-are) (y .bounds-are),
-  )
+  pub plan-settled : (r ≡ t) × (after₁ ≡ after₂)
+  plan-settled = (answer, kept-one _ _ _ _ before number (λ none. ap (with-fronts before) (tables-one none)) (x .tables-are) (y .tables-are))

@@ -5,9 +5,9 @@ use rules::Refusal;
 ghost use mathlib.Core.Path.{_≡_};
 ghost use mathlib.Core.List.{[], _∷_};
 ghost use Prim.Native.Nat.{_≤_};
-ghost use Rattle.rules.specs.Numbers.{refused-room};
+ghost use Rattle.rules.specs.Numbers.{most-actions, most-levels, refused-room};
 ghost use Rattle.rules.specs.Refusals.{_when_, First, Tight};
-ghost use Rattle.planner.specs.Planning.{rooms, Plans, Admits};
+ghost use Rattle.planner.specs.Planning.{plan-rooms, Plans, Admits};
 
 // The answer of planning: with a refusal all else is 0; without one what the header says.
 #[repr(C)]
@@ -18,7 +18,7 @@ pub struct Planned {
     pub cycle: u32,
 }
 
-// 17 where a lent table is shorter than needed, else 0.
+// 17 where a lent table is shorter than needed.
 fn tight(
     n: usize,
     levels: usize,
@@ -26,37 +26,42 @@ fn tight(
     limits: &[i32],
     worst: &[u32],
     bounds: &[i32],
-) -> u32
-    requires { ⌜ (n ≤ 64) × (levels ≤ 8) ⌝ }
+) -> Refusal
+    requires { ⌜ (n ≤ most-actions) × (levels ≤ most-levels) ⌝ }
     ensures { λ r. ⌜ First
-        (refused-room when Tight (rooms n levels (now (order .entry)) (now (limits .entry)) (now (worst .entry)) (now (bounds .entry))) ∷ []) r ⌝ }
+        (refused-room when Tight (plan-rooms n levels
+        (record { order = now (order .entry); limits = now (limits .entry); worst = now (worst .entry); bounds = now (bounds .entry) })) ∷ [])
+        (r .number) ⌝ }
 {
     let entries = n * levels;
+    let short = Refusal {
+        number: rules::REFUSED_ROOM,
+    };
     if order.len() < n {
-        return rules::REFUSED_ROOM;
+        return short;
     }
     if limits.len() < entries {
-        return rules::REFUSED_ROOM;
+        return short;
     }
     if worst.len() < entries {
-        return rules::REFUSED_ROOM;
+        return short;
     }
     if bounds.len() < entries * rules::LONGEST_COAST {
-        return rules::REFUSED_ROOM;
+        return short;
     }
-    0
+    Refusal { number: 0 }
 }
 
 // What the check of the image answers, with 17 after 1 to 9.
 fn with_room(image: &[u8], order: &[u8], limits: &[i32], worst: &[u32], bounds: &[i32]) -> Checked
-    ensures { λ r. ⌜ Admits (now (image .entry)) (now (order .entry)) (now (limits .entry)) (now (worst .entry)) (now (bounds .entry)) r ⌝ }
+    ensures { λ r. ⌜ Admits (now (image .entry))
+        (record { order = now (order .entry); limits = now (limits .entry); worst = now (worst .entry); bounds = now (bounds .entry) }) r ⌝ }
 {
     let mut checked = whole::checked(image);
     if checked.refusal.number != 0 {
         return checked;
     }
-    let number = tight(checked.n, checked.levels, order, limits, worst, bounds);
-    let refusal = Refusal { number };
+    let refusal = tight(checked.n, checked.levels, order, limits, worst, bounds);
     checked.refusal = refusal;
     checked
 }
@@ -81,8 +86,9 @@ pub fn plan(
     worst: &mut [u32],
     bounds: &mut [i32],
 ) -> Planned
-    ensures { λ r. ⌜ Plans (now (image .entry)) (now (order .entry)) (now (limits .entry)) (now (worst .entry)) (now (bounds .entry))
-        (now (order .exit)) (now (limits .exit)) (now (worst .exit)) (now (bounds .exit)) r ⌝ }
+    ensures { λ r. ⌜ Plans (now (image .entry))
+        (record { order = now (order .entry); limits = now (limits .entry); worst = now (worst .entry); bounds = now (bounds .entry) })
+        (record { order = now (order .exit); limits = now (limits .exit); worst = now (worst .exit); bounds = now (bounds .exit) }) r ⌝ }
 {
     let checked = with_room(image, order, limits, worst, bounds);
     let refusal = checked.refusal;

@@ -10,14 +10,14 @@ use lib.ListN.{length, getD}
 use Rattle.rules.specs.Numbers.{most-actions, most-levels, refused-room}
 use Rattle.rules.specs.Words.{cat}
 use Rattle.rules.specs.Image.{profile}
-use Rattle.rules.specs.Limits.{tables, limit}
+use Rattle.rules.specs.Limits.{LentTables, tables, limit, planner-tables}
 use Rattle.rules.specs.Refusals.{Ground, Tight, _when_, First, image-checks}
 use Rattle.rules.proofs.Refusals.{Sound, accepted-sound, accepted-parts}
 use Rattle.rules.proofs.Differences.{not-above}
 use Rattle.fields.proofs.Cats.{cat-ext}
 use Rattle.fields.proofs.Tabs.{tab-ext}
 use Rattle.fields.proofs.Written.{tab-written, rows-written}
-use Rattle.planner.specs.Planning.{rooms, Plans}
+use Rattle.planner.specs.Planning.{plan-rooms, with-fronts, Plans}
 use Rattle.planner.specs.declared.Planned.{Planned}
 use Rattle.planner.proofs.Answers.{kept-old, kept-new}
 use Rattle.text.specs.Digits.{decimal, signed, line}
@@ -52,16 +52,15 @@ told order limits L i = position-line i (getD order i 0) (λ q. getD limits (i *
 
 -- ---- tables that have room for every profile
 
-pub record Ample (order : List ℕ) (limits : List ℤ) (worst : List ℕ) (bounds : List ℤ) : Type 0 where
-  pub order-room : 64 ≤ length order
-  pub limits-room : 512 ≤ length limits
-  pub worst-room : 512 ≤ length worst
-  pub bounds-room : 8192 ≤ length bounds
+pub record Ample (lent : LentTables) : Type 0 where
+  pub order-room : 64 ≤ length (lent .order)
+  pub limits-room : 512 ≤ length (lent .limits)
+  pub worst-room : 512 ≤ length (lent .worst)
+  pub bounds-room : 8192 ≤ length (lent .bounds)
 
-module _ {s order : List ℕ} {limits : List ℤ} {worst : List ℕ} {bounds : List ℤ} {order′ : List ℕ} {limits′ : List ℤ} {worst′ : List ℕ}
-    {bounds′ : List ℤ} {r : Planned} (p : Plans s order limits worst bounds order′ limits′ worst′ bounds′ r) where
+module _ {s : List ℕ} {before after : LentTables} {r : Planned} (p : Plans s before after r) where
   abbrev own : List Ground
-  own = refused-room when Tight (rooms (profile s .n) (profile s .levels) order limits worst bounds) ∷ []
+  own = refused-room when Tight (plan-rooms (profile s .n) (profile s .levels) before) ∷ []
 
   parts : (First (image-checks s) (r .refusal .number) × (r .refusal .number ≢ 0)) ⊎ (Sound s × First own (r .refusal .number))
   parts = accepted-parts s own (r .refusal .number) (p .number)
@@ -79,19 +78,20 @@ module _ {s order : List ℕ} {limits : List ℤ} {worst : List ℕ} {bounds : L
     pub counts : Few (r .n) (r .levels)
     counts = rw (n-is, levels-are) (few (⊎-elim (λ x. absurd (x .1 none)) (λ x. x .0) parts))
 
-    text-is : counts-line (r .n) (r .levels) (r .cycle) ++ cat (told order′ limits′ (r .levels)) (r .n)
+    text-is : counts-line (r .n) (r .levels) (r .cycle) ++ cat (told (after .order) (after .limits) (r .levels)) (r .n)
         ≡ plan-text (profile s .n) (profile s .levels) (profile s .cycle) (p .o .at) (limit (tables (profile s) (p .o)))
     text-is =
         let n : ℕ = profile s .n in
         let L : ℕ = profile s .levels in
+        let written : after ≡ with-fronts before (planner-tables (profile s) (p .o)) = rw none at (p .tables-are) in
         rw (n-is, levels-are, cycle-is)
         (ap (λ (x : List ℕ). counts-line n L (profile s .cycle) ++ x)
         (cat-ext _ _ n
-        (λ i b. position-ext i _ _ L (tab-written (p .o .at) order n 0 (rw none at (p .order-is)) i b)
-        (λ q c. rows-written (limit (tables (profile s) (p .o))) limits n L (pos 0) (rw none at (p .limits-are)) i q b c))))
+        (λ i b. position-ext i _ _ L (tab-written (p .o .at) (before .order) n 0 (ap (λ (T : LentTables). T .order) written) i b)
+        (λ q c. rows-written (limit (tables (profile s) (p .o))) (before .limits) n L (pos 0) (ap (λ (T : LentTables). T .limits) written) i q b c))))
 
-  module _ (room : Ample order limits worst bounds) where
-    enough : Sound s → Tight (rooms (profile s .n) (profile s .levels) order limits worst bounds) → ⊥
+  module _ (room : Ample before) where
+    enough : Sound s → Tight (plan-rooms (profile s .n) (profile s .levels) before) → ⊥
     enough h =
         let k = few h in
         ⊎-elim (λ t. omega (arith, k .actions, room .order-room))
@@ -116,7 +116,7 @@ module _ {s order : List ℕ} {limits : List ℤ} {worst : List ℕ} {bounds : L
       }
 
       pub plan-told : r .refusal .number ≡ 0
-          → Puts out 0 (counts-line (r .n) (r .levels) (r .cycle) ++ cat (told order′ limits′ (r .levels)) (r .n)) out′ k → TellsPlan s out out′ k
+          → Puts out 0 (counts-line (r .n) (r .levels) (r .cycle) ++ cat (told (after .order) (after .limits) (r .levels)) (r .n)) out′ k → TellsPlan s out out′ k
       plan-told none put = record {
         number = r .refusal .number;
         refusal = by-image;

@@ -11,7 +11,7 @@ use Rattle.rules.specs.Numbers.{refused-duration, refused-room}
 use Rattle.rules.specs.Words.{cat, one-if}
 use Rattle.rules.specs.Image.{profile}
 use Rattle.rules.specs.Order.{Order, TheOrder}
-use Rattle.rules.specs.Limits.{tables, limit, coast-bound, planned}
+use Rattle.rules.specs.Limits.{tables, limit, coast-bound, coast-bounds, planned}
 use Rattle.rules.specs.Run.{Run, decides}
 use Rattle.rules.specs.Dry.{LongEntry, cell}
 use Rattle.rules.specs.Refusals.{Ground, _when_, Tight, kept, image-checks}
@@ -21,7 +21,6 @@ use Rattle.rules.proofs.Demand.Alike.{Alike, before-alike}
 use Rattle.rules.proofs.Order.OfProfile.{order-settled}
 use Rattle.fields.proofs.Cats.{cat-ext}
 use Rattle.fields.proofs.Rows.{getD-blocks}
-use Rattle.planner.specs.Planning.{coast-bounds}
 use Rattle.planner.proofs.Alike.{limit-alike, bounds-alike}
 use Rattle.planner.proofs.Settled.{settled-alike, kept-one}
 use Rattle.dry_frame.specs.Frame.{run-at}

@@ -20,4 +20,4 @@ spent = 115 ∷ 112 ∷ 101 ∷ 110 ∷ 116 ∷ []
 unfoldable pub reading-text : Reading → List ℕ
 reading-text (Ratio x) = digits 16 16 (ratio-bits x)
 reading-text Spent = spent
-reading-text (Refused number) = refused ++ (space ∷ decimal number)
+reading-text (Refused refusal) = refused ++ (space ∷ decimal (refusal .number))

@@ -26,9 +26,9 @@ pub fn put_reading(out: &mut [u8], reading: Reading) -> usize
             put_bytes(out, 0, &digits[..k])
         }
         Reading::Spent => put_bytes(out, 0, b"spent"),
-        Reading::Refused(number) => {
+        Reading::Refused(refusal) => {
             let at = put_bytes(&mut *out, 0, b"refused ");
-            put_number(out, at, number)
+            put_number(out, at, refusal.number)
         }
     }
 }

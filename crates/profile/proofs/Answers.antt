@@ -9,7 +9,7 @@ use lib.Dec.{eqb}
 use lib.ListN.{length}
 use borrow.Author.Tests.{eq-eqb, ne-eqb}
 use Rattle.rules.specs.Words.{tab, rows}
-use Rattle.rules.specs.Image.{mask-of, deadline-of, average-of, worst-of, profile}
+use Rattle.rules.specs.Image.{ProfileTables, mask-of, deadline-of, average-of, worst-of, profile}
 use Rattle.rules.specs.Refusals.{Ground, First, Tight, Accepted, image-checks, image-call}
 use Rattle.rules.proofs.Differences.{not-above}
 use Rattle.rules.proofs.Refusals.{image-numbered, first-stops, first-goes-on, first-parts}
@@ -17,8 +17,9 @@ use Rattle.fields.specs.Fields.{splice}
 use Rattle.rules.specs.declared.Refusal.{Refusal}
 use Rattle.image_check.specs.declared.Checked.{Checked}
 use Rattle.image_check.specs.Checks.{Found, Judged}
+use Rattle.image_write.specs.Writing.{table-rooms}
 use Rattle.profile.specs.declared.Unpacked.{Unpacked}
-use Rattle.profile.specs.Calls.{rooms, Blank, Reads}
+use Rattle.profile.specs.Calls.{Unread, ReadsImage}
 
 -- ---- the image's refusals, and one of the call's own after them
 
@@ -47,32 +48,32 @@ module _ {s : List ℕ} {r : Checked} where
   pub judged-accepted : Judged s r → r .refusal .number ≡ 0 → Accepted s
   judged-accepted a none = rw none at (a .number)
 
-  pub found-rooms : (m d a w : List ℕ) → Found s r
-      → Tight (rooms (r .n) (r .levels) m d a w) ↔ Tight (rooms (profile s .n) (profile s .levels) m d a w)
-  found-rooms m d a w f = rw (f .n, f .levels) ((λ p. p), (λ p. p))
+  pub found-rooms : (T : ProfileTables) → Found s r
+      → Tight (table-rooms (r .n) (r .levels) T) ↔ Tight (table-rooms (profile s .n) (profile s .levels) T)
+  found-rooms T f = rw (f .n, f .levels) ((λ p. p), (λ p. p))
 
 -- ---- reading
 
 -- no slice is too short
-pub record HasRoom (n L : ℕ) (m d a w : List ℕ) : Type 0 where
-  pub masks : n ≤ length m
-  pub deadlines : n ≤ length d
-  pub averages : n * L ≤ length a
-  pub worst : n * L ≤ length w
+pub record HasRoom (n L : ℕ) (T : ProfileTables) : Type 0 where
+  pub masks : n ≤ length (T .masks)
+  pub deadlines : n ≤ length (T .deadlines)
+  pub averages : n * L ≤ length (T .averages)
+  pub worst : n * L ≤ length (T .worst)
 
-pub has-room : (n L : ℕ) (m d a w : List ℕ) → (Tight (rooms n L m d a w) → ⊥) → HasRoom n L m d a w
-has-room n L m d a w f = record {
+pub has-room : (n L : ℕ) (T : ProfileTables) → (Tight (table-rooms n L T) → ⊥) → HasRoom n L T
+has-room n L T f = record {
   masks = not-above (λ l. f (inl l));
   deadlines = not-above (λ l. f (inr (inl l)));
   averages = not-above (λ l. f (inr (inr (inl l))));
   worst = not-above (λ l. f (inr (inr (inr (inl l)))));
 }
 
-module _ {s m d a w : List ℕ} where
-  pub refused-reads : {r : Unpacked} (f : Refusal) → First (image-call s (rooms (profile s .n) (profile s .levels) m d a w)) (f .number)
-      → f .number ≢ 0 → (r .refusal ≡ f) × Blank r → Reads s m d a w m d a w r
+module _ {s : List ℕ} {T : ProfileTables} where
+  pub refused-reads : {r : Unpacked} (f : Refusal) → First (image-call s (table-rooms (profile s .n) (profile s .levels) T)) (f .number)
+      → f .number ≢ 0 → (r .refusal ≡ f) × Unread r → ReadsImage s T T r
   refused-reads {r} f p some (e, blank) =
-      let number : First (image-call s (rooms (profile s .n) (profile s .levels) m d a w)) (r .refusal .number) = rw e p in
+      let number : First (image-call s (table-rooms (profile s .n) (profile s .levels) T)) (r .refusal .number) = rw e p in
       let other : r .refusal .number ≢ 0 = rw e some in
       let none : eqb (r .refusal .number) 0 ≡ false = ne-eqb (r .refusal .number) 0 other in record {
         given = number;
@@ -85,11 +86,12 @@ module _ {s m d a w : List ℕ} where
         worst = rw none;
       }
 
-  pub accepted-reads : {m′ d′ a′ w′ : List ℕ} {r : Unpacked} → First (image-call s (rooms (profile s .n) (profile s .levels) m d a w)) 0
+  pub accepted-reads : {T′ : ProfileTables} {r : Unpacked} → First (image-call s (table-rooms (profile s .n) (profile s .levels) T)) 0
       → r .refusal .number ≡ 0 → r .n ≡ profile s .n → r .levels ≡ profile s .levels → r .cycle ≡ profile s .cycle
-      → m′ ≡ splice m 0 (tab (mask-of s) (r .n)) → d′ ≡ splice d 0 (tab (deadline-of s) (r .n))
-      → a′ ≡ splice a 0 (rows (average-of s) (r .n) (r .levels)) → w′ ≡ splice w 0 (rows (worst-of s) (r .n) (r .levels))
-      → Reads s m d a w m′ d′ a′ w′ r
+      → T′ .masks ≡ splice (T .masks) 0 (tab (mask-of s) (r .n)) → T′ .deadlines ≡ splice (T .deadlines) 0 (tab (deadline-of s) (r .n))
+      → T′ .averages ≡ splice (T .averages) 0 (rows (average-of s) (r .n) (r .levels))
+      → T′ .worst ≡ splice (T .worst) 0 (rows (worst-of s) (r .n) (r .levels))
+      → ReadsImage s T T′ r
   unfolding profile
   accepted-reads {r = r} p none n levels cycle masks deadlines averages worst =
       let is : eqb (r .refusal .number) 0 ≡ true = eq-eqb (r .refusal .number) 0 none in record {

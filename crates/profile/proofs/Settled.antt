@@ -2,27 +2,28 @@
 use mathlib.Core.Path.{_≡_, sym, ap, _∙_}
 use mathlib.Core.List.{List, []}
 use Prim.Native.Nat.{ℕ}
-use Rattle.rules.specs.Image.{profile}
+use denote.Ref.{RefT, ptr, now}
+use Rattle.rules.specs.Image.{ProfileTables, profile}
 use Rattle.rules.specs.Refusals.{Ground, First, kept, image-call, lookup-call}
 use Rattle.rules.proofs.Refusals.{first-one}
 use Rattle.rules.specs.declared.Refusal.{Refusal}
-use Rattle.image_write.specs.Writing.{Writes}
+use Rattle.image_write.specs.Writing.{table-rooms, Writes}
 use Rattle.image_write.proofs.Settled.{writes-one}
 use Rattle.profile.specs.declared.Unpacked.{Unpacked}
-use Rattle.profile.specs.declared.Written.{Written}
+use Rattle.image_write.specs.declared.Written.{Written}
 use Rattle.profile.specs.declared.Place.{Place}
-use Rattle.profile.specs.Calls.{rooms, Reads, Places, record-of, LooksUp}
+use Rattle.profile.specs.Calls.{ReadsImage, Places, record-of, LooksUp}
 
 -- `check`, whose row is the image checks, and `lookup_refusal`, whose row is that of a lookup
 pub refusal-one : (row : List Ground) (r t : Refusal) → First row (r .number) → First row (t .number) → r ≡ t
 refusal-one row r t p q = ap (λ (k : ℕ). record { number = k }) (first-one row (r .number) (t .number) p q)
 
 -- `read`
-module _ {s m d a w : List ℕ} where
-  pub reads-one : {m′ d′ a′ w′ m″ d″ a″ w″ : List ℕ} {r t : Unpacked} → Reads s m d a w m′ d′ a′ w′ r → Reads s m d a w m″ d″ a″ w″ t
-      → (r ≡ t) × (m′ ≡ m″) × (d′ ≡ d″) × (a′ ≡ a″) × (w′ ≡ w″)
+module _ {s : List ℕ} {T : ProfileTables} where
+  pub reads-one : {T′ T″ : ProfileTables} {r t : Unpacked} → ReadsImage s T T′ r → ReadsImage s T T″ t
+      → (r ≡ t) × (T′ .masks ≡ T″ .masks) × (T′ .deadlines ≡ T″ .deadlines) × (T′ .averages ≡ T″ .averages) × (T′ .worst ≡ T″ .worst)
   reads-one {r = r} {t = t} x y =
-      let e = refusal-one (image-call s (rooms (profile s .n) (profile s .levels) m d a w)) (r .refusal) (t .refusal) (x .given) (y .given) in (
+      let e = refusal-one (image-call s (table-rooms (profile s .n) (profile s .levels) T)) (r .refusal) (t .refusal) (x .given) (y .given) in (
         answer e ((rw e at (x .n)) ∙ sym (y .n)) ((rw e at (x .levels)) ∙ sym (y .levels)) ((rw e at (x .cycle)) ∙ sym (y .cycle)),
         (rw e at (x .masks)) ∙ sym (y .masks),
         (rw e at (x .deadlines)) ∙ sym (y .deadlines),
@@ -40,11 +41,19 @@ module _ {s m d a w : List ℕ} where
           ∙ ap (λ (v : ℕ). made (t .refusal) (t .n) v (r .cycle)) L
           ∙ ap (made (t .refusal) (t .n) (t .levels)) c
 
--- `lookup` and `lookup_place`: the part that goes with the number of the second call
-module _ {s : List ℕ} {a : ℕ} where
-  pub looked-up : {k : ℕ} {x : List ℕ} → First (lookup-call s a) k → LooksUp s a x → x ≡ kept k (record-of s a) []
-  looked-up {k} p x = rw (first-one (lookup-call s a) (x .refusal) k (x .given) p) at (x .is)
+-- `lookup`: the bytes, and where they lie
+pub lookup-one : {image x y : RefT (List ℕ)} {a : ℕ} → LooksUp image a x → LooksUp image a y → (now x ≡ now y) × (ptr x ≡ ptr y)
+lookup-one {image} {a = a} x y =
+    let e = first-one (lookup-call (now image) a) (x .refusal) (y .refusal) (x .given) (y .given) in
+    ((rw e at (x .is)) ∙ sym (y .is), (rw e at (x .lies)) ∙ sym (y .lies))
 
+-- the part that goes with the number of the second call
+pub looked-up : {image x : RefT (List ℕ)} {a k : ℕ} → First (lookup-call (now image) a) k → LooksUp image a x
+    → now x ≡ kept k (record-of (now image) a) []
+looked-up {image} {a = a} {k = k} p x = rw (first-one (lookup-call (now image) a) (x .refusal) k (x .given) p) at (x .is)
+
+-- `lookup_place`
+module _ {s : List ℕ} {a : ℕ} where
   pub place-one : {r t : Place} → Places s a r → Places s a t → r ≡ t
   place-one {r} {t} x y =
       let e = refusal-one (lookup-call s a) (r .refusal) (t .refusal) (x .given) (y .given) in
@@ -59,13 +68,10 @@ module _ {s : List ℕ} {a : ℕ} where
           ∙ ap (λ (v : ℕ). made (t .refusal) v (r .length)) start
           ∙ ap (made (t .refusal) (t .start)) length
 
-  pub lookup-one : {x y : List ℕ} → LooksUp s a x → LooksUp s a y → x ≡ y
-  lookup-one x y = looked-up (y .given) x ∙ sym (y .is)
-
 -- `write`
-module _ {n L cycle : ℕ} {m d a w before : List ℕ} where
-  pub written-one : {after after′ : List ℕ} {r t : Written} → Writes n L cycle m d a w before after (r .refusal .number) (r .bytes)
-      → Writes n L cycle m d a w before after′ (t .refusal .number) (t .bytes) → (r ≡ t) × (after ≡ after′)
+module _ {n L cycle : ℕ} {T : ProfileTables} {before : List ℕ} where
+  pub written-one : {after after′ : List ℕ} {r t : Written} → Writes n L cycle T before after (r .refusal .number) (r .bytes)
+      → Writes n L cycle T before after′ (t .refusal .number) (t .bytes) → (r ≡ t) × (after ≡ after′)
   written-one {r = r} {t = t} x y =
       let (number, bytes, left) = writes-one x y in
       (ap (λ (k : ℕ). made k (r .bytes)) number ∙ ap (made (t .refusal .number)) bytes, left)

@@ -1,9 +1,10 @@
 // The public calls on a profile image: check, read, look an action up, write.
+use image_write::Written;
 use rules::Refusal;
 ghost use mathlib.Core.Path.{_≡_};
 ghost use Rattle.rules.specs.Refusals.{First, image-checks, lookup-call};
 ghost use Rattle.image_write.specs.Writing.{Writes};
-ghost use Rattle.profile.specs.Calls.{Blank, Reads, Places, LooksUp};
+ghost use Rattle.profile.specs.Calls.{Unread, ReadsImage, Places, LooksUp};
 
 // The answer of reading: the refusal, and without one the counts and the cycle of the profile, else 0.
 #[repr(C)]
@@ -12,13 +13,6 @@ pub struct Unpacked {
     pub n: usize,
     pub levels: usize,
     pub cycle: u32,
-}
-
-// The answer of writing: the refusal, and the number of bytes written.
-#[repr(C)]
-pub struct Written {
-    pub refusal: Refusal,
-    pub bytes: usize,
 }
 
 // The answer of a lookup: the refusal, and without one where the action's own part of the image starts and how many bytes it has, else 0.
@@ -38,7 +32,7 @@ pub fn check(image: &[u8]) -> Refusal
 
 // What a refused reading answers.
 fn refused(refusal: Refusal) -> Unpacked
-    ensures { λ r. ⌜ (r .refusal ≡ refusal) × Blank r ⌝ }
+    ensures { λ r. ⌜ (r .refusal ≡ refusal) × Unread r ⌝ }
 {
     Unpacked {
         refusal,
@@ -56,9 +50,9 @@ pub fn read(
     averages: &mut [u32],
     worst: &mut [u32],
 ) -> Unpacked
-    ensures { λ r. ⌜ Reads (now (image .entry))
-        (now (masks .entry)) (now (deadlines .entry)) (now (averages .entry)) (now (worst .entry))
-        (now (masks .exit)) (now (deadlines .exit)) (now (averages .exit)) (now (worst .exit)) r ⌝ }
+    ensures { λ r. ⌜ ReadsImage (now (image .entry))
+        (record { masks = now (masks .entry); deadlines = now (deadlines .entry); averages = now (averages .entry); worst = now (worst .entry) })
+        (record { masks = now (masks .exit); deadlines = now (deadlines .exit); averages = now (averages .exit); worst = now (worst .exit) }) r ⌝ }
 {
     let checked = image_check::whole::checked(image);
     let refusal = checked.refusal;
@@ -123,7 +117,7 @@ pub fn lookup_place(image: &[u8], action: usize) -> Place
 
 // The action's own part of the image, uncopied; empty with a refusal.
 pub fn lookup(image: &[u8], action: usize) -> &[u8]
-    ensures { λ r. ⌜ LooksUp (now (image .entry)) action (now r) ⌝ }
+    ensures { λ r. ⌜ LooksUp (image .entry) action r ⌝ }
 {
     let place = lookup_place(image, action);
     let start = place.start;
@@ -142,14 +136,9 @@ pub fn write(
     worst: &[u32],
     image: &mut [u8],
 ) -> Written
-    ensures { λ r. ⌜ Writes n levels cycle (now (masks .entry)) (now (deadlines .entry)) (now (averages .entry)) (now (worst .entry))
+    ensures { λ r. ⌜ Writes n levels cycle
+        (record { masks = now (masks .entry); deadlines = now (deadlines .entry); averages = now (averages .entry); worst = now (worst .entry) })
         (now (image .entry)) (now (image .exit)) (r .refusal .number) (r .bytes) ⌝ }
 {
-    let packed = image_write::write(n, levels, cycle, masks, deadlines, averages, worst, image);
-    Written {
-        refusal: Refusal {
-            number: packed.refusal,
-        },
-        bytes: packed.bytes,
-    }
+    image_write::write(n, levels, cycle, masks, deadlines, averages, worst, image)
 }

@@ -11,8 +11,8 @@ use Rattle.rules.specs.Image.{Profile, profile}
 use Rattle.rules.specs.Refusals.{Ground, _when_, First, Tight, image-checks, Accepted}
 use Rattle.rules.specs.Refresh.{records, Trace}
 use Rattle.rules.proofs.Refusals.{Numbered, first-none, first-goes-on, image-numbered}
-use Rattle.trace.specs.Measure.{faults}
-use Rattle.refresh.specs.Refresh.{refreshing, own}
+use Rattle.trace.specs.Trace.{faults}
+use Rattle.refresh.specs.Refresh.{refreshing, own-grounds}
 
 -- 17
 abbrev pub room-grounds : ℕ → ℕ → List Ground
@@ -36,7 +36,7 @@ few-records trace p =
     omega arith
 
 module _ (F : Profile) (trace : List ℕ) (needed room k : ℕ) where
-  pub after-trace : First (refused-trace when Trace trace ∷ []) 0 → First (rest-grounds F trace needed room) k → First (own F trace needed room) k
+  pub after-trace : First (refused-trace when Trace trace ∷ []) 0 → First (rest-grounds F trace needed room) k → First (own-grounds F trace needed room) k
   after-trace p r = first-goes-on (refused-trace when Trace trace ∷ []) (rest-grounds F trace needed room) k (numbered-14 trace) p r
 
   pub after-faults : {fault : ℕ} → First (faults F trace) fault → fault ≡ 0 → First (room-grounds needed room) k
@@ -44,13 +44,13 @@ module _ (F : Profile) (trace : List ℕ) (needed room k : ℕ) where
   after-faults p none r = first-goes-on (faults F trace) (room-grounds needed room) k (lit< tt, (lit< tt, tt)) (gives-none (faults F trace) none p) r
 
 -- Without a refusal of its own the call has room.
-pub enough : (F : Profile) (trace : List ℕ) (needed room : ℕ) → First (own F trace needed room) 0 → needed ≤ room
+pub enough : (F : Profile) (trace : List ℕ) (needed room : ℕ) → First (own-grounds F trace needed room) 0 → needed ≤ room
 enough F trace needed room p =
-    let none = first-none (own F trace needed room) (lit< tt, (lit< tt, (lit< tt, (lit< tt, tt)))) .0 p in
+    let none = first-none (own-grounds F trace needed room) (lit< tt, (lit< tt, (lit< tt, (lit< tt, tt)))) .0 p in
     let not-tight : room < needed → ⊥ = λ h. none .1 .1 .1 .0 (inl h) in
     omega arith
 
 -- Of an accepted image the call's own grounds give.
-pub after-image : (s trace out : List ℕ) (k : ℕ) → Accepted s → First (own (profile s) trace (length s) (length out)) k
+pub after-image : (s trace out : List ℕ) (k : ℕ) → Accepted s → First (own-grounds (profile s) trace (length s) (length out)) k
     → First (refreshing s trace out) k
-after-image s trace out k a p = first-goes-on (image-checks s) (own (profile s) trace (length s) (length out)) k (image-numbered s) a p
+after-image s trace out k a p = first-goes-on (image-checks s) (own-grounds (profile s) trace (length s) (length out)) k (image-numbered s) a p

@@ -4,13 +4,13 @@ use mathlib.Core.Path.{_≡_}
 use mathlib.Core.List.{List, [], _∷_, _++_}
 use mathlib.Core.Logic.{_⊎_}
 use lib.ListN.{length, getD}
-use Rattle.rules.specs.Numbers.{header-bytes, refused-trace, refused-room}
+use Rattle.rules.specs.Numbers.{most-actions, most-levels, header-bytes, refused-trace, refused-room}
 use Rattle.rules.specs.Words.{cat}
 use Rattle.rules.specs.Image.{Profile, levels, record-at, worst-of, profile, record-image}
 use Rattle.rules.specs.Refusals.{Ground, _when_, First, kept, Tight}
 use Rattle.rules.specs.Refresh.{refreshed, new-image, Trace, refresh-call}
 use Rattle.fields.specs.Fields.{splice}
-use Rattle.trace.specs.Measure.{cell, Ceilings, faults, Weighs}
+use Rattle.trace.specs.Trace.{cells, cell-of, Ceilings, faults, Weighs}
 
 -- The grounds for refusing to refresh the image s by the trace; of the lent slice as many bytes are needed as s has.
 abbrev pub refreshing : List ℕ → List ℕ → List ℕ → List Ground
@@ -25,19 +25,19 @@ pub record Refreshes (s trace before after : List ℕ) (refusal bytes : ℕ) : T
 -- ---- asked between the functions of this crate
 
 -- The call's own grounds, of a profile: `needed` bytes are needed of `room`.
-abbrev pub own : Profile → List ℕ → ℕ → ℕ → List Ground
-own F trace needed room = refused-trace when Trace trace ∷ (faults F trace ++ (refused-room when Tight ((room, needed) ∷ []) ∷ []))
+abbrev pub own-grounds : Profile → List ℕ → ℕ → ℕ → List Ground
+own-grounds F trace needed room = refused-trace when Trace trace ∷ (faults F trace ++ (refused-room when Tight ((room, needed) ∷ []) ∷ []))
 
 -- The number of the call's own refusal and, with none, the tallies of the trace.
 pub record Weighed (trace ceilings : List ℕ) (needed room : ℕ) (tallies : List ℕ) (k : ℕ) : Type 0 where
-  pub number : (F : Profile) → Ceilings F ceilings → First (own F trace needed room) k
+  pub number : (F : Profile) → Ceilings F ceilings → First (own-grounds F trace needed room) k
   pub weighs : k ≡ 0 → Weighs trace tallies
 
 -- The table has the first durations that are too long for the first n actions of the image s, which has L levels, and 0 in all other cells.
 pub record Ceiled (s : List ℕ) (n L : ℕ) (table : List ℕ) : Type 0 where
-  pub size : length table ≡ 512
-  pub present : (a q : ℕ) → a < n → q < L → getD table (cell a q) 0 ≡ worst-of s a q + 1
-  pub absent : (a q : ℕ) → a < 64 → q < 8 → (n ≤ a) ⊎ (L ≤ q) → getD table (cell a q) 0 ≡ 0
+  pub size : length table ≡ cells
+  pub present : (a q : ℕ) → a < n → q < L → getD table (cell-of a q) 0 ≡ worst-of s a q + 1
+  pub absent : (a q : ℕ) → a < most-actions → q < most-levels → (n ≤ a) ⊎ (L ≤ q) → getD table (cell-of a q) 0 ≡ 0
 
 -- The slice has a copy of the record of action a: writing it there again changes nothing.
 abbrev pub Copied : List ℕ → List ℕ → ℕ → Type 0

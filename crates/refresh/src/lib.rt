@@ -4,12 +4,13 @@ use rules::Refusal;
 ghost use mathlib.Core.Path.{_≡_};
 ghost use Prim.Native.Nat.{_+_, _*_, _≤_};
 ghost use lib.ListN.{length};
+ghost use Rattle.rules.specs.Numbers.{most-levels};
 ghost use Rattle.rules.specs.Words.{tab};
 ghost use Rattle.rules.specs.Image.{record-bytes, record-at, worst-of, profile};
 ghost use Rattle.rules.specs.Refusals.{Accepted};
 ghost use Rattle.fields.specs.Fields.{splice};
 ghost use Rattle.image_fields.specs.Reading.{HasRecord, HasRecords};
-ghost use Rattle.trace.specs.Measure.{Tallied};
+ghost use Rattle.trace.specs.Trace.{cells, Tallied};
 ghost use Rattle.refresh.specs.Refresh.{Refreshes, Weighed, Ceiled, Renews, AllRenewed};
 
 // The answer of a refresh: the refusal, 0 for none, and the bytes of the new image.
@@ -23,42 +24,44 @@ pub struct Refreshed {
 // trace, which leaves its tallies.
 fn own_refusal(
     trace: &[u8],
-    ceilings: &[u32; 512],
-    tallies: &mut [u64; 512],
+    ceilings: &[u32; trace::CELLS],
+    tallies: &mut [u64; trace::CELLS],
     needed: usize,
     room: usize,
-) -> u32
+) -> Refusal
     requires { ⌜ Tallied (now trace) 0 (now tallies) ⌝ }
-    ensures { λ k. ⌜ Weighed (now (trace .entry)) (now (ceilings .entry)) needed room (now (tallies .exit)) k ⌝ }
+    ensures { λ r. ⌜ Weighed (now (trace .entry)) (now (ceilings .entry)) needed room (now (tallies .exit)) (r .number) ⌝ }
 {
     let whole = trace::trace_refusal(trace);
-    if whole != 0 {
+    if whole.number != 0 {
         return whole;
     }
     let fault = trace::pass(trace, ceilings, tallies);
-    if fault != 0 {
+    if fault.number != 0 {
         return fault;
     }
     if room < needed {
-        return rules::REFUSED_ROOM;
+        return Refusal {
+            number: rules::REFUSED_ROOM,
+        };
     }
-    0
+    Refusal { number: 0 }
 }
 
 // The first durations that are too long for action a, by level: one above its worst times.
-fn ceiling_row(image: &[u8], levels: usize, a: usize, ceilings: &mut [u32; 512])
-    requires { ⌜ HasRecord (now image) levels a × (length (now ceilings) ≡ 512) ⌝ }
-    ensures { λ r. ⌜ now (ceilings .exit) ≡ splice (now (ceilings .entry)) (a * 8) (tab (λ q. worst-of (now (image .entry)) a q + 1) levels) ⌝ }
+fn ceiling_row(image: &[u8], levels: usize, a: usize, ceilings: &mut [u32; trace::CELLS])
+    requires { ⌜ HasRecord (now image) levels a × (length (now ceilings) ≡ cells) ⌝ }
+    ensures { λ r. ⌜ now (ceilings .exit) ≡ splice (now (ceilings .entry)) (a * most-levels) (tab (λ q. worst-of (now (image .entry)) a q + 1) levels) ⌝ }
 {
     let mut q = 0;
     while q < levels {
-        ceilings[a * 8 + q] = read::worst_at(image, levels, a, q) + 1;
+        ceilings[a * rules::MOST_LEVELS + q] = read::worst_at(image, levels, a, q) + 1;
         q += 1;
     }
 }
 
 // Those of n actions, in a table that starts with none.
-fn take_ceilings(image: &[u8], n: usize, levels: usize, ceilings: &mut [u32; 512])
+fn take_ceilings(image: &[u8], n: usize, levels: usize, ceilings: &mut [u32; trace::CELLS])
     requires { ⌜ HasRecords (now image) levels n × Ceiled (now image) 0 levels (now ceilings) ⌝ }
     ensures { λ r. ⌜ Ceiled (now (image .entry)) n levels (now (ceilings .exit)) ⌝ }
 {
@@ -70,7 +73,13 @@ fn take_ceilings(image: &[u8], n: usize, levels: usize, ceilings: &mut [u32; 512
 }
 
 // The new averages of action a, over the old ones of its record, of which `out` has a copy.
-fn put_averages(image: &[u8], levels: usize, a: usize, tallies: &[u64; 512], out: &mut [u8])
+fn put_averages(
+    image: &[u8],
+    levels: usize,
+    a: usize,
+    tallies: &[u64; trace::CELLS],
+    out: &mut [u8],
+)
     requires { ⌜ HasRecord (now image) levels a × (record-at levels a + record-bytes levels ≤ length (now out)) ⌝ }
     ensures { λ r. ⌜ Renews (now (image .entry)) a (now (tallies .entry)) (now (out .entry)) (now (out .exit)) ⌝ }
 {
@@ -79,14 +88,14 @@ fn put_averages(image: &[u8], levels: usize, a: usize, tallies: &[u64; 512], out
     let mut q = 0;
     while q < levels {
         let average = read::average_at(image, levels, a, q);
-        last = trace::raised(last, tallies[a * 8 + q], average);
+        last = trace::raised(last, tallies[a * rules::MOST_LEVELS + q], average);
         fields::put_be(out, start + q * rules::LEVEL_BYTES, last, 3);
         q += 1;
     }
 }
 
 // The new averages of n actions, over the old ones of an image of which `out` has a copy.
-fn renew(image: &[u8], n: usize, levels: usize, tallies: &[u64; 512], out: &mut [u8])
+fn renew(image: &[u8], n: usize, levels: usize, tallies: &[u64; trace::CELLS], out: &mut [u8])
     requires { ⌜ HasRecords (now image) levels n × (length (now image) ≤ length (now out)) ⌝ }
     ensures { λ r. ⌜ AllRenewed (now (image .entry)) n (now (tallies .entry)) (now (out .entry)) (now (out .exit)) ⌝ }
 {
@@ -108,21 +117,21 @@ fn refresh_accepted(
     requires { ⌜ Accepted (now image) × (n ≡ profile (now image) .n) × (levels ≡ profile (now image) .levels) ⌝ }
     ensures { λ r. ⌜ Refreshes (now (image .entry)) (now (trace .entry)) (now (out .entry)) (now (out .exit)) (r .refusal .number) (r .bytes) ⌝ }
 {
-    let mut ceilings = [0u32; 512];
+    let mut ceilings = [0u32; trace::CELLS];
     take_ceilings(image, n, levels, &mut ceilings);
-    let mut tallies = [0u64; 512];
+    let mut tallies = [0u64; trace::CELLS];
     let bytes = image.len();
-    let number = own_refusal(trace, &ceilings, &mut tallies, bytes, out.len());
-    if number != 0 {
+    let own = own_refusal(trace, &ceilings, &mut tallies, bytes, out.len());
+    if own.number != 0 {
         return Refreshed {
-            refusal: Refusal { number },
+            refusal: own,
             bytes: 0,
         };
     }
     fields::copy_front(image, bytes, out);
     renew(image, n, levels, &tallies, out);
     Refreshed {
-        refusal: Refusal { number: 0 },
+        refusal: own,
         bytes,
     }
 }

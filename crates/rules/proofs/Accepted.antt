@@ -15,11 +15,12 @@ use Rattle.rules.specs.Words.{sum}
 use Rattle.rules.specs.Image.{Profile, due, profile}
 use Rattle.rules.specs.Order.{Order, Meets, TheOrder, FitFrom, Fit}
 use Rattle.rules.specs.Limits.{Tables, tables, limit}
-use Rattle.rules.specs.Refusals.{Count, Range, TimeOut, Falls, Table, Unfit, Accepted}
+use Rattle.rules.specs.Refusals.{Count, Range, Falls, Table, Unfit, Accepted}
 use Rattle.rules.specs.Demand.{Safe, Policy, WithinWorst, DemandThree}
 use Rattle.rules.proofs.Sums.{sum-longer}
 use Rattle.rules.proofs.Differences.{not-above}
 use Rattle.rules.proofs.Refusals.{accepted-sound}
+use Rattle.rules.proofs.Faults.{TimeOut}
 use Rattle.rules.proofs.Order.OfProfile.{fit-exact, fit?}
 use Rattle.rules.proofs.Limits.Mixed.{Sound, mixed-passes, mixed-safe}
 use Rattle.rules.proofs.Limits.Shape.{limit-fits, mixed-policy}

@@ -8,12 +8,12 @@ use native.Mathlib.Nat.{le-refl, le-trans}
 use native.Mathlib.Omega.{arith}
 use borrow.Author.Tests.{le-ltb, ne-eqb, eqb-false}
 use lib.Dec.{leb, ltb, eqb, leb→le, le→leb, ltb→lt, lt→ltb}
-use lib.IntN.{ℤ, pos}
+use lib.IntN.{pos}
 use lib.Signed.{leZ}
 use lib.ListN.{length, getD}
 use Rattle.rules.specs.Numbers.{last-clock, longest-time}
 use Rattle.rules.specs.Words.{every, one-if}
-use Rattle.rules.specs.Limits.{Plan}
+use Rattle.rules.specs.Limits.{LentTables, Plan}
 use Rattle.rules.specs.Refusals.{first}
 use Rattle.rules.specs.Run.{Run, in-range, begun, decide, coast, fits, decides, given, ended, qualifies, left-granted, level-given, lent, Next, Answer, ask-refusal, ask, report-refusal, report}
 use Rattle.rules.specs.Dry.{step, before, cell}
@@ -199,25 +199,25 @@ skip false k m h e = e
 neither : (a b c : Bool) → a ≡ false → b ≡ false → c ≡ false → a || b || c ≡ false
 neither a b c p q s = ap (λ (x : Bool). x || b || c) p ∙ ap (λ (x : Bool). x || c) q ∙ s
 
-module _ (order : List ℕ) (limits bounds : List ℤ) (r : Run) (F : InRange r) where
-  ask-refusal-none : r .n ≤ length order → r .n * r .levels ≤ length limits → r .n * r .levels * 16 ≤ length bounds
-      → r .running ≡ false → r .position < r .n → ask-refusal order limits bounds r ≡ 0
+module _ (T : LentTables) (r : Run) (F : InRange r) where
+  ask-refusal-none : r .n ≤ length (T .order) → r .n * r .levels ≤ length (T .limits) → r .n * r .levels * 16 ≤ length (T .bounds)
+      → r .running ≡ false → r .position < r .n → ask-refusal T r ≡ 0
   unfolding ask-refusal first
   ask-refusal-none a b c waits more =
       skip _ 11 _ (ap not (facts-in-range r F))
       (skip _ 17 _ (neither _ _ _ (le-ltb _ _ a) (le-ltb _ _ b) (le-ltb _ _ c))
       (skip _ 11 _ waits (skip _ 10 0 (ne-eqb (r .position) (r .n) (λ e. omega arith)) refl)))
 
-  pub ask-accepted : r .n ≤ length order → r .n * r .levels ≤ length limits → r .n * r .levels * 16 ≤ length bounds
+  pub ask-accepted : r .n ≤ length (T .order) → r .n * r .levels ≤ length (T .limits) → r .n * r .levels * 16 ≤ length (T .bounds)
       → r .running ≡ false → r .position < r .n
-      → let P = lent (r .n) (r .levels) limits bounds in
-      ask order limits bounds r
-      ≡ Answer.gives (getD order (r .position) 0) (given 16 P r .level) (decides r) (decides r && not (fits P (r .clock) (r .position))) (given 16 P r)
+      → let P = lent (r .n) (r .levels) T in
+      ask T r
+      ≡ Answer.gives (getD (T .order) (r .position) 0) (given 16 P r .level) (decides r) (decides r && not (fits P (r .clock) (r .position))) (given 16 P r)
   unfolding ask
   ask-accepted a b c waits more =
-      let P = lent (r .n) (r .levels) limits bounds in
+      let P = lent (r .n) (r .levels) T in
       ap (λ (k : ℕ). cond (eqb k 0)
-      (Answer.gives (getD order (r .position) 0) (given 16 P r .level) (decides r) (decides r && not (fits P (r .clock) (r .position))) (given 16 P r))
+      (Answer.gives (getD (T .order) (r .position) 0) (given 16 P r .level) (decides r) (decides r && not (fits P (r .clock) (r .position))) (given 16 P r))
       (Answer.refused k r)) (ask-refusal-none a b c waits more)
 
 module _ (worst : List ℕ) (t : ℕ) (r : Run) (F : InRange r) where
@@ -239,20 +239,21 @@ module _ (worst : List ℕ) (t : ℕ) (r : Run) (F : InRange r) where
 -- ---- a whole cycle by the calls
 
 -- Asked and reported i times from the record r, no call refused, and s is the record then.
-pub data Called (order : List ℕ) (limits bounds : List ℤ) (worst : List ℕ) (d : ℕ → ℕ → ℕ) (r : Run) : ℕ → Run → Type 0 where
-  none : Called order limits bounds worst d r 0 r
-  more : {i a q : ℕ} {decided late : Bool} {s s′ s″ : Run} → Called order limits bounds worst d r i s
-      → ask order limits bounds s ≡ Answer.gives a q decided late s′
-      → report worst (s .clock + d (s .position) q) s′ ≡ record { number = 0; run = s″ } → Called order limits bounds worst d r (suc i) s″
+pub data Called (T : LentTables) (d : ℕ → ℕ → ℕ) (r : Run) : ℕ → Run → Type 0 where
+  none : Called T d r 0 r
+  more : {i a q : ℕ} {decided late : Bool} {s s′ s″ : Run} → Called T d r i s
+      → ask T s ≡ Answer.gives a q decided late s′
+      → report (T .worst) (s .clock + d (s .position) q) s′ ≡ record { number = 0; run = s″ } → Called T d r (suc i) s″
 
-module _ (n L : ℕ) (order : List ℕ) (limits bounds : List ℤ) (worst : List ℕ) (d : ℕ → ℕ → ℕ)
-    (counts : InRange (begun n L 0)) (orders : n ≤ length order) (limited : n * L ≤ length limits) (bounded : n * L * 16 ≤ length bounds)
-    (timed : n * L ≤ length worst) (short : (p q : ℕ) → p < n → q < L → d p q ≤ longest-time) where
+module _ (n L : ℕ) (T : LentTables) (d : ℕ → ℕ → ℕ)
+    (counts : InRange (begun n L 0)) (orders : n ≤ length (T .order)) (limited : n * L ≤ length (T .limits))
+    (bounded : n * L * 16 ≤ length (T .bounds)) (timed : n * L ≤ length (T .worst))
+    (short : (p q : ℕ) → p < n → q < L → d p q ≤ longest-time) where
   P : Plan
-  P = lent n L limits bounds
+  P = lent n L T
 
   at : ℕ → Run
-  at i = before 16 P (cell worst L) d 0 i
+  at i = before 16 P (cell (T .worst) L) d 0 i
 
   waits : (i : ℕ) → at i .running ≡ false
   unfolding at before begun step ended
@@ -261,15 +262,15 @@ module _ (n L : ℕ) (order : List ℕ) (limits bounds : List ℤ) (worst : List
 
   n-at : (i : ℕ) → at i .n ≡ n
   unfolding at P lent
-  n-at i = n-is 16 P (cell worst L) d 0 i
+  n-at i = n-is 16 P (cell (T .worst) L) d 0 i
 
   levels-at : (i : ℕ) → at i .levels ≡ L
   unfolding at P lent
-  levels-at i = levels-is 16 P (cell worst L) d 0 i
+  levels-at i = levels-is 16 P (cell (T .worst) L) d 0 i
 
   position-at : (i : ℕ) → at i .position ≡ i
   unfolding at
-  position-at i = position-is 16 P (cell worst L) d 0 i
+  position-at i = position-is 16 P (cell (T .worst) L) d 0 i
 
   next : ℕ → Run
   next i = given 16 P (at i)
@@ -326,30 +327,30 @@ module _ (n L : ℕ) (order : List ℕ) (limits bounds : List ℤ) (worst : List
   cells : (i : ℕ) → at i .n * at i .levels ≡ n * L
   cells i = ap (λ (x : ℕ). x * at i .levels) (n-at i) ∙ ap (λ (x : ℕ). n * x) (levels-at i)
 
-  asked-at : (i : ℕ) → i < n → ask order limits bounds (at i)
-      ≡ Answer.gives (getD order (at i .position) 0) (next i .level) (decides (at i)) (decides (at i) && not (fits P (at i .clock) (at i .position))) (next i)
+  asked-at : (i : ℕ) → i < n → ask T (at i)
+      ≡ Answer.gives (getD (T .order) (at i .position) 0) (next i .level) (decides (at i)) (decides (at i) && not (fits P (at i .clock) (at i .position))) (next i)
   unfolding next P
   asked-at i l =
-      ask-accepted order limits bounds (at i) (good i (omega arith) .ranges) (omega (arith, n-at i)) (omega (arith, cells i)) (omega (arith, cells i))
+      ask-accepted T (at i) (good i (omega arith) .ranges) (omega (arith, n-at i)) (omega (arith, cells i)) (omega (arith, cells i))
       (waits i) (omega (arith, n-at i, position-at i))
-      ∙ ap (λ (m : ℕ). with-plan (lent m (at i .levels) limits bounds)) (n-at i)
-      ∙ ap (λ (m : ℕ). with-plan (lent n m limits bounds)) (levels-at i)
+      ∙ ap (λ (m : ℕ). with-plan (lent m (at i .levels) T)) (n-at i)
+      ∙ ap (λ (m : ℕ). with-plan (lent n m T)) (levels-at i)
     where
       with-plan : Plan → Answer
-      with-plan Q = Answer.gives (getD order (at i .position) 0) (given 16 Q (at i) .level) (decides (at i)) (decides (at i) && not (fits Q (at i .clock) (at i .position))) (given 16 Q (at i))
+      with-plan Q = Answer.gives (getD (T .order) (at i .position) 0) (given 16 Q (at i) .level) (decides (at i)) (decides (at i) && not (fits Q (at i .clock) (at i .position))) (given 16 Q (at i))
 
-  reported-at : (i : ℕ) → i < n → report worst (end i) (next i) ≡ record { number = 0; run = at (suc i) }
+  reported-at : (i : ℕ) → i < n → report (T .worst) (end i) (next i) ≡ record { number = 0; run = at (suc i) }
   unfolding at next end before step
   reported-at i l =
       let g = good i (omega arith) in
       let S = same i l g in
-      report-accepted worst (end i) (next i) (in-turn i l g) (omega (arith, cells i, ap (λ (x : ℕ). x * next i .levels) (S .n), ap (λ (x : ℕ). at i .n * x) (S .levels)))
+      report-accepted (T .worst) (end i) (next i) (in-turn i l g) (omega (arith, cells i, ap (λ (x : ℕ). x * next i .levels) (S .n), ap (λ (x : ℕ). at i .n * x) (S .levels)))
       (runs i) (omega (arith, S .clock)) (ends-in-range i l g)
-      ∙ ap (λ (k : ℕ). record { number = 0; run = ended (getD worst (k * next i .levels + next i .level) 0) (end i) (next i) }) (S .position)
-      ∙ ap (λ (k : ℕ). record { number = 0; run = ended (getD worst (at i .position * k + next i .level) 0) (end i) (next i) }) (S .levels ∙ levels-at i)
+      ∙ ap (λ (k : ℕ). record { number = 0; run = ended (getD (T .worst) (k * next i .levels + next i .level) 0) (end i) (next i) }) (S .position)
+      ∙ ap (λ (k : ℕ). record { number = 0; run = ended (getD (T .worst) (at i .position * k + next i .level) 0) (end i) (next i) }) (S .levels ∙ levels-at i)
 
   -- The dry run is asking and reporting through a whole cycle: no call is refused, and the records are the same.
-  pub dry-called : (i : ℕ) → i ≤ n → Called order limits bounds worst d (begun n L 0) i (before 16 (lent n L limits bounds) (cell worst L) d 0 i)
+  pub dry-called : (i : ℕ) → i ≤ n → Called T d (begun n L 0) i (before 16 (lent n L T) (cell (T .worst) L) d 0 i)
   unfolding at next end P lent before
   dry-called zero l = Called.none
   dry-called (suc i) l = Called.more (dry-called i (omega arith)) (asked-at i l) (reported-at i l)

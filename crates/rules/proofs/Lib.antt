@@ -3,6 +3,7 @@ pub mod Terms
 pub mod Tests
 pub mod Differences
 pub mod Refusals
+pub mod Faults
 pub mod Order
 pub mod Limits
 pub mod Margin

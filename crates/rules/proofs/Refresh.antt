@@ -13,11 +13,12 @@ use lib.Dec.{eqb, lit<}
 use Rattle.rules.specs.Numbers.{last-clock, refused-trace, refused-name, refused-duration, refused-room}
 use Rattle.rules.specs.Words.{sum}
 use Rattle.rules.specs.Image.{Profile, due, profile}
-use Rattle.rules.specs.Refusals.{Ground, _when_, First, Count, Range, TimeOut, Table, Looped, Unfit, Tight}
+use Rattle.rules.specs.Refusals.{Ground, _when_, First, Count, Range, Table, Looped, Unfit, Tight}
 use Rattle.rules.specs.Refresh.{records, open-of, action-of, level-of, duration-of, measures, counted, summed, unmeasured, measured, raised, new-average, refreshed, Trace, Name, Duration, Fault, FirstFault, refresh-call}
 use Rattle.rules.proofs.Differences.{not-above}
 use Rattle.rules.proofs.Terms.{sum-within}
 use Rattle.rules.proofs.Refusals.{None, first-none, Sound, accepted-parts}
+use Rattle.rules.proofs.Faults.{TimeOut}
 
 -- ---- the first record at fault
 

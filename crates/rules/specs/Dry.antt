@@ -2,11 +2,10 @@
 use Prim.Native.Nat.{ℕ, zero, suc, _+_, _*_, _<_}
 use mathlib.Core.Bool.{Bool}
 use mathlib.Core.List.{List, [], _∷_, _++_}
-use lib.IntN.{ℤ}
 use lib.ListN.{getD}
 use Rattle.rules.specs.Numbers.{longest-time, longest-coast, refused-count, refused-duration, refused-room}
 use Rattle.rules.specs.Words.{tab, one-if}
-use Rattle.rules.specs.Limits.{Plan}
+use Rattle.rules.specs.Limits.{LentTables, Plan}
 use Rattle.rules.specs.Image.{profile}
 use Rattle.rules.specs.Refusals.{Ground, _when_, CountsOut, Tight, image-checks}
 use Rattle.rules.specs.Run.{Run, begun, decides, given, ended, lent}
@@ -38,14 +37,14 @@ abbrev pub cell : List ℕ → ℕ → ℕ → ℕ → ℕ
 cell table L i q = getD table (i * L + q) 0
 
 -- It writes n levels and n decided marks (1 or 0), and answers decisions, end, overrun and late, the fields of the last record.
-unfoldable pub dry-levels : ℕ → ℕ → List ℤ → List ℕ → List ℤ → List ℕ → List ℕ
-dry-levels n L limits worst bounds durations = tab (level-of longest-coast (lent n L limits bounds) (cell worst L) (cell durations L) 0) n
+unfoldable pub dry-levels : ℕ → ℕ → LentTables → List ℕ → List ℕ
+dry-levels n L T durations = tab (level-of longest-coast (lent n L T) (cell (T .worst) L) (cell durations L) 0) n
 
-unfoldable pub dry-marks : ℕ → ℕ → List ℤ → List ℕ → List ℤ → List ℕ → List ℕ
-dry-marks n L limits worst bounds durations = tab (λ i. one-if (decided longest-coast (lent n L limits bounds) (cell worst L) (cell durations L) 0 i)) n
+unfoldable pub dry-marks : ℕ → ℕ → LentTables → List ℕ → List ℕ
+dry-marks n L T durations = tab (λ i. one-if (decided longest-coast (lent n L T) (cell (T .worst) L) (cell durations L) 0 i)) n
 
-unfoldable pub dry-end : ℕ → ℕ → List ℤ → List ℕ → List ℤ → List ℕ → Run
-dry-end n L limits worst bounds durations = before longest-coast (lent n L limits bounds) (cell worst L) (cell durations L) 0 n
+unfoldable pub dry-end : ℕ → ℕ → LentTables → List ℕ → Run
+dry-end n L T durations = before longest-coast (lent n L T) (cell (T .worst) L) (cell durations L) 0 n
 
 -- 16 Duration: an entry above 16,777,215
 abbrev pub LongEntry : ℕ → List ℕ → Type 0

@@ -104,16 +104,27 @@ profile s = record {
   worst = worst-of s;
 }
 
--- What the tables of masks, deadlines, averages and worst times say, the times by action, then level.
-unfoldable pub of-tables : ℕ → ℕ → ℕ → List ℕ → List ℕ → List ℕ → List ℕ → Profile
-of-tables n L cycle masks deadlines averages worst = record {
+-- a table of times, by action, then level
+abbrev pub time-at : ℕ → List ℕ → ℕ → ℕ → ℕ
+time-at L table a q = getD table (a * L + q) 0
+
+-- The tables of a profile: masks and deadlines by action, averages and worst times by action, then level.
+pub record ProfileTables : Type 0 where
+  pub masks : List ℕ
+  pub deadlines : List ℕ
+  pub averages : List ℕ
+  pub worst : List ℕ
+
+-- What they say of n actions at L levels.
+unfoldable pub of-tables : ℕ → ℕ → ℕ → ProfileTables → Profile
+of-tables n L cycle T = record {
   n = n;
   levels = L;
   cycle = cycle;
-  mask = λ a. getD masks a 0;
-  deadline = λ a. getD deadlines a 0;
-  average = λ a q. getD averages (a * L + q) 0;
-  worst = λ a q. getD worst (a * L + q) 0;
+  mask = λ a. getD (T .masks) a 0;
+  deadline = λ a. getD (T .deadlines) a 0;
+  average = time-at L (T .averages);
+  worst = time-at L (T .worst);
 }
 
 -- the header's 48 bits of version 1, spare bits zero

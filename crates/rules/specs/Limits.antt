@@ -7,7 +7,8 @@ use mathlib.Core.Logic.{_⊎_}
 use lib.Dec.{ltb}
 use lib.IntN.{ℤ, pos, negsuc, _-ℤ_}
 use lib.Signed.{_≤ℤ_}
-use Rattle.rules.specs.Words.{span, greatest-of, least-of}
+use Rattle.rules.specs.Numbers.{longest-coast}
+use Rattle.rules.specs.Words.{span, greatest-of, least-of, cat, tab, rows}
 use Rattle.rules.specs.Image.{Profile, due}
 use Rattle.rules.specs.Order.{Order}
 
@@ -68,6 +69,19 @@ pub record LentTables : Type 0 where
   pub limits : List ℤ
   pub worst : List ℕ
   pub bounds : List ℤ
+
+-- the coast bounds by position, level and length from 1 to 16
+abbrev pub coast-bounds : Tables → ℕ → ℕ → List ℤ
+coast-bounds S n L = cat (λ i. rows (λ q x. coast-bound S (limit S) i q (suc x)) L longest-coast) n
+
+-- The planner writes the order, the limits, the worst times by position and level, and the coast bounds.
+abbrev pub planner-tables : (F : Profile) → Order (F .n) → LentTables
+planner-tables F o = record {
+  order = tab (o .at) (F .n);
+  limits = rows (limit (tables F o)) (F .n) (F .levels);
+  worst = rows (tables F o .worst) (F .n) (F .levels);
+  bounds = coast-bounds (tables F o) (F .n) (F .levels);
+}
 
 -- ---- what the manager reads
 

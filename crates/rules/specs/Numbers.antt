@@ -58,6 +58,10 @@ worst-at = 15
 abbrev pub entry-bytes : ℕ
 entry-bytes = 5
 
+-- how many numbers a duration's 30 bits can say
+abbrev pub duration-said : ℕ
+duration-said = 1073741824
+
 -- ---- numbers of refusal
 
 abbrev pub refused-short : ℕ

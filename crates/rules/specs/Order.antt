@@ -3,7 +3,7 @@ use Prim.Native.Nat.{ℕ, suc, _+_, _≤_, _<_}
 use mathlib.Core.Path.{_≡_}
 use mathlib.Core.Bool.{true}
 use mathlib.Core.Logic.{_⊎_}
-use Rattle.rules.specs.Words.{sum}
+use Rattle.rules.specs.Words.{sum, Some}
 use Rattle.rules.specs.Image.{Profile, has, due}
 
 -- An order of the actions 0 to n - 1: the action at each position and the position of each action, each undoing the other.
@@ -22,9 +22,13 @@ pub data MustFollow (n : ℕ) (before : ℕ → ℕ → Type 0) : ℕ → ℕ �
   next : {a b : ℕ} → b < n → before a b → MustFollow n before a b
   through : {a b c : ℕ} → b < n → before a b → MustFollow n before b c → MustFollow n before a c
 
--- The masks contain a loop, a single action included: some action must follow itself.
+-- a is on a loop: it must follow itself.
+abbrev pub OnLoop : ℕ → (ℕ → ℕ → Type 0) → ℕ → Type 0
+OnLoop n before a = MustFollow n before a a
+
+-- The masks contain a loop, a single action included.
 abbrev pub Loop : ℕ → (ℕ → ℕ → Type 0) → Type 0
-Loop n before = (a : ℕ) × (a < n) × MustFollow n before a a
+Loop n before = Some (OnLoop n before) n
 
 -- An order is permitted when each predecessor comes earlier.
 abbrev pub Permitted : {n : ℕ} → (ℕ → ℕ → Type 0) → Order n → Type 0

@@ -7,8 +7,9 @@ use mathlib.Core.Logic.{_⊎_, _≢_}
 use lib.Dec.{eqb}
 use lib.ListN.{length}
 use Rattle.rules.specs.Numbers.{most-actions, most-levels, last-clock, longest-time, header-bytes, refused-short, refused-version, refused-count, refused-length, refused-spare, refused-range, refused-table, refused-loop, refused-unfit, refused-name, refused-room}
+use Rattle.rules.specs.Words.{Some}
 use Rattle.rules.specs.Image.{Profile, has, version, header-spare, spare-of, image-bytes, profile}
-use Rattle.rules.specs.Order.{Loop, Before, Fit}
+use Rattle.rules.specs.Order.{OnLoop, Before, Fit}
 
 -- ---- in which order
 
@@ -39,33 +40,65 @@ unfoldable pub first : List Test → ℕ
 first [] = 0
 first (t ∷ row) = cond (t .fails) (t .number) (first row)
 
--- ---- given exactly when, of a profile
+-- ---- the action at fault
+
+-- r is the lowest action below n at fault, n if none is.
+pub record LowestFault (Fault : ℕ → Type 0) (n r : ℕ) : Type 0 where
+  pub most : r ≤ n
+  pub fault : r < n → Fault r
+  pub before : (a : ℕ) → a < r → Fault a → ⊥
+
+-- ---- given exactly when, of a profile: of an action, and so of the profile where some action is at fault
 
 -- 3 Count: n, L or cycle outside its range
 abbrev pub CountsOut : ℕ → ℕ → Type 0
 CountsOut n L = (n < 1) ⊎ ((most-actions < n) ⊎ ((L < 1) ⊎ (most-levels < L)))
 
+abbrev pub CountOut : ℕ → ℕ → ℕ → Type 0
+CountOut n L cycle = CountsOut n L ⊎ ((cycle < 1) ⊎ (last-clock < cycle))
+
 abbrev pub Count : Profile → Type 0
-Count F = CountsOut (F .n) (F .levels) ⊎ ((F .cycle < 1) ⊎ (last-clock < F .cycle))
+Count F = CountOut (F .n) (F .levels) (F .cycle)
 
 -- 6 Range: deadline above the cycle, or a mask names action n or more
+abbrev pub OutOfRange : ℕ → ℕ → ℕ → ℕ → Type 0
+OutOfRange n cycle mask deadline = (cycle < deadline) ⊎ ((b : ℕ) × (n ≤ b) × (has mask b ≡ true))
+
+abbrev pub RangeFault : Profile → ℕ → Type 0
+RangeFault F a = OutOfRange (F .n) (F .cycle) (F .mask a) (F .deadline a)
+
 abbrev pub Range : Profile → Type 0
-Range F = (a : ℕ) × (a < F .n) × ((F .cycle < F .deadline a) ⊎ ((b : ℕ) × (F .n ≤ b) × (has (F .mask a) b ≡ true)))
+Range F = Some (RangeFault F) (F .n)
 
 -- on writing, also a time above 16,777,215
-abbrev pub TimeOut : Profile → Type 0
-TimeOut F = (a : ℕ) × (a < F .n) × ((q : ℕ) × (q < F .levels) × ((longest-time < F .average a q) ⊎ (longest-time < F .worst a q)))
+abbrev pub LongTime : ℕ → (ℕ → ℕ) → (ℕ → ℕ) → Type 0
+LongTime L average worst = (q : ℕ) × (q < L) × ((longest-time < average q) ⊎ (longest-time < worst q))
+
+abbrev pub WriteFault : Profile → ℕ → Type 0
+WriteFault F a = RangeFault F a ⊎ LongTime (F .levels) (F .average a) (F .worst a)
+
+abbrev pub WriteRange : Profile → Type 0
+WriteRange F = Some (WriteFault F) (F .n)
 
 -- 7 Table: average above worst, or a time that falls with the level
 abbrev pub Falls : (ℕ → ℕ) → ℕ → Type 0
 Falls time L = (q : ℕ) × (suc q < L) × (time (suc q) < time q)
 
+abbrev pub RowBreaks : ℕ → (ℕ → ℕ) → (ℕ → ℕ) → Type 0
+RowBreaks L average worst = ((q : ℕ) × (q < L) × (worst q < average q)) ⊎ (Falls average L ⊎ Falls worst L)
+
+abbrev pub TableFault : Profile → ℕ → Type 0
+TableFault F a = RowBreaks (F .levels) (F .average a) (F .worst a)
+
 abbrev pub Table : Profile → Type 0
-Table F = (a : ℕ) × (a < F .n) × (((q : ℕ) × (q < F .levels) × (F .worst a q < F .average a q)) ⊎ (Falls (F .average a) (F .levels) ⊎ Falls (F .worst a) (F .levels)))
+Table F = Some (TableFault F) (F .n)
 
 -- 8 Loop: the masks contain a loop, a single action included
+abbrev pub LoopFault : Profile → ℕ → Type 0
+LoopFault F = OnLoop (F .n) (Before F)
+
 abbrev pub Looped : Profile → Type 0
-Looped F = Loop (F .n) (Before F)
+Looped F = Some (LoopFault F) (F .n)
 
 -- 9 Unfit: no permitted order meets all deadlines at level 0 worst times
 abbrev pub Unfit : Profile → Type 0
@@ -73,7 +106,7 @@ Unfit F = Fit F → ⊥
 
 -- ---- given exactly when, of an image
 
--- 1 Short, 2 Version, 4 Length, 5 Spare
+-- 1 Short, 2 Version, 4 Length
 abbrev pub Short : List ℕ → Type 0
 Short s = length s < header-bytes
 
@@ -83,8 +116,12 @@ Version s = version s ≢ 1
 abbrev pub Length : List ℕ → Type 0
 Length s = length s ≢ image-bytes (profile s .n) (profile s .levels)
 
+-- 5 Spare: a spare bit is set, of the header or of an action's record
+abbrev pub SpareFault : List ℕ → ℕ → Type 0
+SpareFault s a = spare-of s a ≢ 0
+
 abbrev pub Spare : List ℕ → Type 0
-Spare s = (header-spare s ≢ 0) ⊎ ((a : ℕ) × (a < profile s .n) × (spare-of s a ≢ 0))
+Spare s = (header-spare s ≢ 0) ⊎ Some (SpareFault s) (profile s .n)
 
 -- Image checks go over the whole image in the order 1 to 9.
 abbrev pub image-checks : List ℕ → List Ground
@@ -128,7 +165,7 @@ abbrev pub write-call : Profile → List (ℕ × ℕ) → List Ground
 write-call F rooms =
     refused-count when Count F
     ∷ refused-room when Tight rooms
-    ∷ refused-range when (Range F ⊎ TimeOut F)
+    ∷ refused-range when WriteRange F
     ∷ refused-table when Table F
     ∷ refused-loop when Looped F
     ∷ refused-unfit when Unfit F

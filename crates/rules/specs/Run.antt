@@ -5,12 +5,12 @@ use mathlib.Core.Bool.{Bool, true, false, not, cond, _&&_, _||_}
 use mathlib.Core.List.{List, [], _∷_}
 use mathlib.Core.Logic.{_⊎_}
 use lib.Dec.{leb, ltb, eqb}
-use lib.IntN.{ℤ, pos}
+use lib.IntN.{pos}
 use lib.Signed.{leZ, _≤ℤ_}
 use lib.ListN.{length, getD}
 use Rattle.rules.specs.Numbers.{most-actions, most-levels, last-clock, longest-coast, refused-count, refused-finished, refused-turn, refused-back, refused-clock, refused-room}
 use Rattle.rules.specs.Words.{last-passing, all-pass, every, one-if}
-use Rattle.rules.specs.Limits.{Plan}
+use Rattle.rules.specs.Limits.{LentTables, Plan}
 use Rattle.rules.specs.Refusals.{_if_, first}
 
 -- ---- a decision
@@ -138,13 +138,13 @@ ended w t r =
 
 -- ---- the calls, on lent tables whoever wrote them
 
--- the limits, n by L, and the coast bounds, n by L by 16, as lent
-unfoldable pub lent : ℕ → ℕ → List ℤ → List ℤ → Plan
-lent n L limits bounds = record {
+-- the limits and the coast bounds as they are lent
+unfoldable pub lent : ℕ → ℕ → LentTables → Plan
+lent n L T = record {
   n = n;
   levels = L;
-  limit = λ i q. getD limits (i * L + q) (pos 0);
-  bound = λ i q r. getD bounds ((i * L + q) * longest-coast + (r - 1)) (pos 0);
+  limit = λ i q. getD (T .limits) (i * L + q) (pos 0);
+  bound = λ i q r. getD (T .bounds) ((i * L + q) * longest-coast + (r - 1)) (pos 0);
 }
 
 -- What a start and a report answer: the number of the refusal, 0 for none, and the next record.
@@ -165,22 +165,23 @@ unfoldable pub start : ℕ → ℕ → Next
 start n L = cond (eqb (start-refusal n L) 0) (record { number = 0; run = begun n L 0 }) (record { number = start-refusal n L; run = begun 0 0 0 })
 
 -- Asking: fields out of range 11, room 17, an action runs 11, all done 10.
-unfoldable pub ask-refusal : List ℕ → List ℤ → List ℤ → Run → ℕ
-ask-refusal order limits bounds r =
+unfoldable pub ask-refusal : LentTables → Run → ℕ
+ask-refusal T r =
+    let cells : ℕ = r .n * r .levels in
     first
     (refused-turn if not (in-range r)
-    ∷ refused-room if (ltb (length order) (r .n) || ltb (length limits) (r .n * r .levels) || ltb (length bounds) (r .n * r .levels * longest-coast))
+    ∷ refused-room if (ltb (length (T .order)) (r .n) || ltb (length (T .limits)) cells || ltb (length (T .bounds)) (cells * longest-coast))
     ∷ refused-turn if r .running
     ∷ refused-finished if eqb (r .position) (r .n)
     ∷ [])
 
-unfoldable pub ask : List ℕ → List ℤ → List ℤ → Run → Answer
-ask order limits bounds r =
-    let P : Plan = lent (r .n) (r .levels) limits bounds in
+unfoldable pub ask : LentTables → Run → Answer
+ask T r =
+    let P : Plan = lent (r .n) (r .levels) T in
     let next : Run = given longest-coast P r in
-    cond (eqb (ask-refusal order limits bounds r) 0)
-    (gives (getD order (r .position) 0) (next .level) (decides r) (decides r && not (fits P (r .clock) (r .position))) next)
-    (refused (ask-refusal order limits bounds r) r)
+    cond (eqb (ask-refusal T r) 0)
+    (gives (getD (T .order) (r .position) 0) (next .level) (decides r) (decides r && not (fits P (r .clock) (r .position))) next)
+    (refused (ask-refusal T r) r)
 
 -- Reporting an end by the clock t: fields out of range 11, room 17, none runs 11, back 12, above the clock limit 13.
 unfoldable pub report-refusal : List ℕ → ℕ → Run → ℕ

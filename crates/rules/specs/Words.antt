@@ -1,5 +1,5 @@
 -- The words that the other files use: sums, the least and the greatest of some numbers, tables row by row, the first test that holds.
-use Prim.Native.Nat.{ℕ, zero, suc, _+_, _-_, max}
+use Prim.Native.Nat.{ℕ, zero, suc, _+_, _-_, _<_, max}
 use mathlib.Core.Bool.{Bool, true, cond, _&&_}
 use mathlib.Core.List.{List, [], _∷_, _++_}
 use lib.IntN.{ℤ}
@@ -46,6 +46,10 @@ all-pass test (suc m) = all-pass test m && test m
 unfoldable pub every : List Bool → Bool
 every [] = true
 every (b ∷ bs) = b && every bs
+
+-- some number below n has the property
+abbrev pub Some : (ℕ → Type 0) → ℕ → Type 0
+Some P n = (a : ℕ) × (a < n) × P a
 
 -- 1 for yes, 0 for no
 abbrev pub one-if : Bool → ℕ

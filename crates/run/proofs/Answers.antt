@@ -6,10 +6,9 @@ use mathlib.Core.List.{List}
 use mathlib.Core.Logic.{_≢_}
 use native.Mathlib.Omega.{arith}
 use lib.Dec.{eqb}
-use lib.IntN.{ℤ}
 use lib.ListN.{getD}
 use borrow.Author.Tests.{eqb-true, eqb-false}
-use Rattle.rules.specs.Limits.{Plan}
+use Rattle.rules.specs.Limits.{LentTables, Plan}
 use Rattle.rules.specs.Words.{every}
 use Rattle.rules.specs.Refusals.{first}
 use Rattle.rules.specs.Run as rules
@@ -46,14 +45,14 @@ run-of-one r s e = ap back e
 
 pub start-of-one : (a b : Started) → start-of a ≡ start-of b → a ≡ b
 unfolding back
-start-of-one a b e = ap (λ (x : rules.Next). record { run = back (x .run); refusal = x .number }) e
+start-of-one a b e = ap (λ (x : rules.Next). record { run = back (x .run); refusal = record { number = x .number } }) e
 
 pub next-of-one : (a b : Reported) → next-of a ≡ next-of b → a ≡ b
 unfolding back
-next-of-one a b e = ap (λ (x : rules.Next). record { run = back (x .run); refusal = x .number }) e
+next-of-one a b e = ap (λ (x : rules.Next). record { run = back (x .run); refusal = record { number = x .number } }) e
 
 back-asked : rules.Answer → Asked
-back-asked (rules.refused k r) = record { run = back r; answer = Refused k }
+back-asked (rules.refused k r) = record { run = back r; answer = Refused (record { number = k }) }
 back-asked (rules.gives a q d l r) = record { run = back r; answer = Given a q d l }
 
 pub answer-of-one : (a b : Asked) → answer-of a ≡ answer-of b → a ≡ b
@@ -74,35 +73,35 @@ abbrev pub AskKept : Run → Answer → Run → Type 0
 AskKept r (Refused k) s = s ≡ r
 AskKept r (Given action level decided late) s = rules.in-range (run-of s) ≡ true
 
-module _ (order : List ℕ) (limits bounds : List ℤ) where
+module _ (T : LentTables) where
   abbrev Keeps : rules.Run → rules.Answer → Type 0
   Keeps r (rules.refused k s) = s ≡ r
   Keeps r (rules.gives a q decided late s) = rules.in-range s ≡ true
 
-  given-ranged : (r : rules.Run) → 0 ≡ rules.ask-refusal order limits bounds r
-      → rules.in-range (rules.given 16 (rules.lent (r .n) (r .levels) limits bounds) r) ≡ true
+  given-ranged : (r : rules.Run) → 0 ≡ rules.ask-refusal T r
+      → rules.in-range (rules.given 16 (rules.lent (r .n) (r .levels) T) r) ≡ true
   unfolding rules.lent
   given-ranged r none =
-      let o = askable order limits bounds r none .is-open in
-      facts-in-range _ (given-in-range (rules.lent (r .n) (r .levels) limits bounds) r refl refl (in-range-facts r (o .ranged)) (o .waits) (o .more))
+      let o = askable T r none .is-open in
+      facts-in-range _ (given-in-range (rules.lent (r .n) (r .levels) T) r refl refl (in-range-facts r (o .ranged)) (o .waits) (o .more))
 
-  keeps : (r : rules.Run) → Keeps r (rules.ask order limits bounds r)
+  keeps : (r : rules.Run) → Keeps r (rules.ask T r)
   unfolding rules.ask
-  keeps r = by (eqb (rules.ask-refusal order limits bounds r) 0) refl
+  keeps r = by (eqb (rules.ask-refusal T r) 0) refl
     where
       P : Plan
-      P = rules.lent (r .n) (r .levels) limits bounds
+      P = rules.lent (r .n) (r .levels) T
 
       late : Bool
       late = rules.decides r && not (rules.fits P (r .clock) (r .position))
 
-      by : (b : Bool) → eqb (rules.ask-refusal order limits bounds r) 0 ≡ b → Keeps r (cond b
-          (rules.gives (getD order (r .position) 0) (rules.given 16 P r .level) (rules.decides r) late (rules.given 16 P r))
-          (rules.refused (rules.ask-refusal order limits bounds r) r))
+      by : (b : Bool) → eqb (rules.ask-refusal T r) 0 ≡ b → Keeps r (cond b
+          (rules.gives (getD (T .order) (r .position) 0) (rules.given 16 P r .level) (rules.decides r) late (rules.given 16 P r))
+          (rules.refused (rules.ask-refusal T r) r))
       by true e = given-ranged r (sym (eqb-true _ _ e))
       by false e = refl
 
-  pub asked-kept : (r : Run) (a : Asked) → answer-of a ≡ rules.ask order limits bounds (run-of r) → AskKept r (a .answer) (a .run)
+  pub asked-kept : (r : Run) (a : Asked) → answer-of a ≡ rules.ask T (run-of r) → AskKept r (a .answer) (a .run)
   asked-kept r a e = by (a .answer) (subst (Keeps (run-of r)) (sym e) (keeps (run-of r)))
     where
       by : (x : Answer) → Keeps (run-of r) (with-run x (run-of (a .run))) → AskKept r x (a .run)
@@ -113,8 +112,8 @@ module _ (order : List ℕ) (limits bounds : List ℤ) where
 
 module _ (worst : List ℕ) (t : ℕ) where
   pub record ReportKept (r : Run) (a : Reported) : Type 0 where
-    pub refused : a .refusal ≢ 0 → a .run ≡ r
-    pub accepted : a .refusal ≡ 0 → rules.in-range (run-of (a .run)) ≡ true
+    pub refused : a .refusal .number ≢ 0 → a .run ≡ r
+    pub accepted : a .refusal .number ≡ 0 → rules.in-range (run-of (a .run)) ≡ true
 
   pub reported-kept : (r : Run) (a : Reported) → next-of a ≡ rules.report worst t (run-of r) → ReportKept r a
   unfolding rules.report
@@ -145,8 +144,8 @@ module _ (worst : List ℕ) (t : ℕ) where
 
 -- a refused start gives a record of zero actions
 pub record StartKept (n L : ℕ) (a : Started) : Type 0 where
-  pub refused : a .refusal ≢ 0 → run-of (a .run) ≡ rules.begun 0 0 0
-  pub accepted : a .refusal ≡ 0 → rules.in-range (run-of (a .run)) ≡ true
+  pub refused : a .refusal .number ≢ 0 → run-of (a .run) ≡ rules.begun 0 0 0
+  pub accepted : a .refusal .number ≡ 0 → rules.in-range (run-of (a .run)) ≡ true
 
 pub started-kept : (n L : ℕ) (a : Started) → start-of a ≡ rules.start n L → StartKept n L a
 unfolding rules.start
@@ -168,10 +167,9 @@ started-kept n L a e = by (eqb (rules.start-refusal n L) 0) refl e
     }
 
 -- on which each later call answers 11
-pub ask-not-begun : (order : List ℕ) (limits bounds : List ℤ)
-    → rules.ask order limits bounds (rules.begun 0 0 0) ≡ rules.refused 11 (rules.begun 0 0 0)
+pub ask-not-begun : (T : LentTables) → rules.ask T (rules.begun 0 0 0) ≡ rules.refused 11 (rules.begun 0 0 0)
 unfolding rules.ask rules.ask-refusal rules.in-range rules.begun first every
-ask-not-begun order limits bounds = refl
+ask-not-begun T = refl
 
 pub report-not-begun : (worst : List ℕ) (t : ℕ) → rules.report worst t (rules.begun 0 0 0) ≡ record { number = 11; run = rules.begun 0 0 0 }
 unfolding rules.report rules.report-refusal rules.in-range rules.begun first every

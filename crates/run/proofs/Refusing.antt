@@ -2,18 +2,18 @@
 use Prim.Native.Nat.{ℕ, _+_, _*_, _≤_, _<_}
 use mathlib.Core.Path.{_≡_, refl, ap}
 use mathlib.Core.Bool.{Bool, true, false, not, cond, _||_, true≢false}
-use mathlib.Core.List.{List}
+use mathlib.Core.List.{List, []}
 use mathlib.Core.Logic.{_≢_}
 use native.Mathlib.Nat.{mul-le-mul, mul-le-mul-right}
 use native.Mathlib.Omega.{arith}
 use lib.Dec.{ltb, eqb, lit<}
-use lib.IntN.{ℤ}
 use lib.ListN.{length}
 use borrow.Author.Tests.{ltb-false, eqb-false, not-false}
 use Rattle.rules.specs.Numbers.{last-clock}
 use Rattle.rules.specs.Words.{one-if}
+use Rattle.rules.specs.Limits.{LentTables}
 use Rattle.rules.specs.Refusals.{first}
-use Rattle.rules.specs.Run.{Run, in-range, ask-refusal, report-refusal}
+use Rattle.rules.specs.Run.{Run, in-range, lent, ask-refusal, report-refusal}
 use Rattle.rules.proofs.Calls.{InRange, in-range-facts}
 use Rattle.run.specs.Calls.{Open}
 
@@ -28,18 +28,26 @@ neither false b h = (refl, h)
 
 -- ---- asking
 
-module _ (order : List ℕ) (limits bounds : List ℤ) (r : Run) where
-  pub record Askable : Type 0 where
-    pub is-open : Open limits bounds r
-    pub orders : r .n ≤ length order
+-- What a decision reads of the tables, and that the plan is read of it alone.
+abbrev pub read : LentTables → LentTables
+read T = record { order = []; limits = T .limits; worst = []; bounds = T .bounds }
 
-  pub askable : 0 ≡ ask-refusal order limits bounds r → Askable
+pub read-alone : (n L : ℕ) (T : LentTables) → lent n L (read T) ≡ lent n L T
+unfolding lent
+read-alone n L T = refl
+
+module _ (T : LentTables) (r : Run) where
+  pub record Askable : Type 0 where
+    pub is-open : Open (read T) r
+    pub orders : r .n ≤ length (T .order)
+
+  pub askable : 0 ≡ ask-refusal T r → Askable
   unfolding ask-refusal first
   askable e =
-      let ordered = ltb (length order) (r .n) in
-      let limited = ltb (length limits) (r .n * r .levels) in
+      let ordered = ltb (length (T .order)) (r .n) in
+      let limited = ltb (length (T .limits)) (r .n * r .levels) in
       let a = clear (not (in-range r)) 11 _ (lit< tt) e in
-      let b = clear (ordered || limited || ltb (length bounds) (r .n * r .levels * 16)) 17 _ (lit< tt) (a .1) in
+      let b = clear (ordered || limited || ltb (length (T .bounds)) (r .n * r .levels * 16)) 17 _ (lit< tt) (a .1) in
       let c = clear (r .running) 11 _ (lit< tt) (b .1) in
       let d = clear (eqb (r .position) (r .n)) 10 0 (lit< tt) (c .1) in
       let p = neither (ordered || limited) _ (b .0) in

@@ -7,12 +7,12 @@ use mathlib.Core.Logic.{_≢_}
 use native.Mathlib.Nat.{mul-le-mul, mul-le-mul-right}
 use native.Mathlib.Numerals.{add-one}
 use native.Mathlib.Omega.{arith}
-use lib.IntN.{ℤ, pos}
+use lib.IntN.{pos}
 use lib.ListN.{getD}
 use lib.Signed.{leZ}
 use borrow.Author.Tests.{eq-eqb, ne-eqb}
 use Rattle.rules.specs.Words.{last-passing, one-if}
-use Rattle.rules.specs.Limits.{Plan}
+use Rattle.rules.specs.Limits.{LentTables, Plan}
 use Rattle.rules.specs.Run.{Run, level-given, fits, left-granted, lent, decide, coast, decides, given, ended}
 use Rattle.rules.specs.Run.{ask-refusal, ask, report-refusal, report}
 use Rattle.rules.specs.Run.Answer.{refused, gives}
@@ -20,10 +20,11 @@ use Rattle.rules.proofs.Tests.{failed, last-is}
 use Rattle.rules.proofs.Calls.{InRange, in-range-facts}
 use Rattle.run_decision.proofs.Rows.{into, past}
 use Rattle.run.specs.Calls.{Open}
+use Rattle.run.proofs.Refusing.{read, read-alone}
 
 -- ---- a decision
 
-module _ {limits bounds : List ℤ} {r : Run} (o : Open limits bounds r) where
+module _ {T : LentTables} {r : Run} (o : Open T r) where
   pub record Opened : Type 0 where
     pub ranges : InRange r
     pub row : r .position * r .levels + r .levels ≤ r .n * r .levels
@@ -47,12 +48,12 @@ module _ {limits bounds : List ℤ} {r : Run} (o : Open limits bounds r) where
 pub none-above : (levels level : ℕ) (test : ℕ → Bool) → level ≡ last-passing test levels → suc level < levels → test (suc level) ≡ false
 none-above levels level test e below = failed (test (suc level)) (last-is test levels .none-above (suc level) (omega (arith, e)) below)
 
-module _ (limits bounds : List ℤ) (r : Run) where
+module _ (T : LentTables) (r : Run) where
   pub decided-is : (level left : ℕ) (fit : Bool)
-      → level ≡ last-passing (λ q. leZ (pos (r .clock)) (getD limits (r .position * r .levels + q) (pos 0))) (r .levels)
-      → fit ≡ leZ (pos (r .clock)) (getD limits (r .position * r .levels + level) (pos 0))
-      → left ≡ left-granted 16 (lent (r .n) (r .levels) limits bounds) (r .clock) (r .position) level
-      → let P = lent (r .n) (r .levels) limits bounds in
+      → level ≡ last-passing (λ q. leZ (pos (r .clock)) (getD (T .limits) (r .position * r .levels + q) (pos 0))) (r .levels)
+      → fit ≡ leZ (pos (r .clock)) (getD (T .limits) (r .position * r .levels + level) (pos 0))
+      → left ≡ left-granted 16 (lent (r .n) (r .levels) T) (r .clock) (r .position) level
+      → let P = lent (r .n) (r .levels) T in
       (record {
         n = r .n;
         levels = r .levels;
@@ -70,22 +71,23 @@ module _ (limits bounds : List ℤ) (r : Run) where
 
 -- ---- the answers
 
-module _ (order : List ℕ) (limits bounds : List ℤ) (r : Run) where
+module _ (T : LentTables) (r : Run) where
   abbrev P : Plan
-  P = lent (r .n) (r .levels) limits bounds
+  P = lent (r .n) (r .levels) T
 
-  pub ask-refuses : (k : ℕ) → k ≡ ask-refusal order limits bounds r → k ≢ 0 → refused k r ≡ ask order limits bounds r
+  pub ask-refuses : (k : ℕ) → k ≡ ask-refusal T r → k ≢ 0 → refused k r ≡ ask T r
   unfolding ask
   ask-refuses k e some = past _ _ _ (ne-eqb _ _ (λ z. some (e ∙ z))) (ap (λ (x : ℕ). refused x r) e)
 
-  module _ (none : 0 ≡ ask-refusal order limits bounds r) where
-    pub ask-decides : (next : Run) (late : Bool) → r .left ≡ 0 → next ≡ decide 16 P r → late ≡ not (fits P (r .clock) (r .position))
-        → gives (getD order (r .position) 0) (next .level) true late next ≡ ask order limits bounds r
+  module _ (none : 0 ≡ ask-refusal T r) where
+    pub ask-decides : (next : Run) (late : Bool) → r .left ≡ 0 → let Q = lent (r .n) (r .levels) (read T) in
+        next ≡ decide 16 Q r → late ≡ not (fits Q (r .clock) (r .position))
+        → gives (getD (T .order) (r .position) 0) (next .level) true late next ≡ ask T r
     unfolding ask given decides
-    ask-decides next late z e l = into _ _ _ (eq-eqb _ _ (sym none)) (rw (eq-eqb (r .left) 0 z, e, l))
+    ask-decides next late z e l = into _ _ _ (eq-eqb _ _ (sym none)) (rw (eq-eqb (r .left) 0 z, e, l, read-alone (r .n) (r .levels) T))
 
     pub ask-coasts : (next : Run) → r .left ≢ 0 → next ≡ coast r
-        → gives (getD order (r .position) 0) (r .level) false false next ≡ ask order limits bounds r
+        → gives (getD (T .order) (r .position) 0) (r .level) false false next ≡ ask T r
     unfolding ask given decides
     ask-coasts next z e = into _ _ _ (eq-eqb _ _ (sym none)) (rw (ne-eqb (r .left) 0 z, e))
 

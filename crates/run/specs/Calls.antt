@@ -2,9 +2,9 @@
 use Prim.Native.Nat.{_*_, _≤_, _<_}
 use mathlib.Core.Path.{_≡_}
 use mathlib.Core.Bool.{true, false}
-use mathlib.Core.List.{List}
-use lib.IntN.{ℤ}
 use lib.ListN.{length}
+use Rattle.rules.specs.Numbers.{longest-coast}
+use Rattle.rules.specs.Limits.{LentTables}
 use Rattle.rules.specs.Run as rules
 use Rattle.run.specs.declared.Run.{Run}
 use Rattle.run.specs.declared.Answer.{Answer}
@@ -30,14 +30,14 @@ run-of r = record {
 
 -- What a start and a report answer: the number of the refusal, 0 for none, and the next record.
 abbrev pub start-of : Started → rules.Next
-start-of a = record { number = a .refusal; run = run-of (a .run) }
+start-of a = record { number = a .refusal .number; run = run-of (a .run) }
 
 abbrev pub next-of : Reported → rules.Next
-next-of a = record { number = a .refusal; run = run-of (a .run) }
+next-of a = record { number = a .refusal .number; run = run-of (a .run) }
 
 -- What an asking answers: the number of the refusal, or action, level, whether decided and late; and the next record.
 abbrev pub with-run : Answer → rules.Run → rules.Answer
-with-run (Refused number) r = rules.refused number r
+with-run (Refused refusal) r = rules.refused (refusal .number) r
 with-run (Given action level decided late) r = rules.gives action level decided late r
 
 abbrev pub answer-of : Asked → rules.Answer
@@ -46,9 +46,9 @@ answer-of a = with-run (a .answer) (run-of (a .run))
 -- ---- asked between the functions of this crate
 
 -- A record that may be asked: in its ranges, with no action running and one left, and the tables lent as long as it says.
-pub record Open (limits bounds : List ℤ) (r : rules.Run) : Type 0 where
+pub record Open (T : LentTables) (r : rules.Run) : Type 0 where
   pub ranged : rules.in-range r ≡ true
   pub waits : r .running ≡ false
   pub more : r .position < r .n
-  pub limited : r .n * r .levels ≤ length limits
-  pub bounded : r .n * r .levels * 16 ≤ length bounds
+  pub limited : r .n * r .levels ≤ length (T .limits)
+  pub bounded : r .n * r .levels * longest-coast ≤ length (T .bounds)

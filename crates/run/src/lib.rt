@@ -1,11 +1,16 @@
-// The run record and its calls: start, ask and report. Each call takes the record and hands the next one back.
+// The run record and its calls: start, ask and report. Each call takes the record and hands the next one back. `dry` runs a whole cycle.
+use rules::Refusal;
 ghost use mathlib.Core.Path.{_≡_};
-ghost use mathlib.Core.Bool.{not, cond};
+ghost use mathlib.Core.Bool.{not};
+ghost use mathlib.Core.List.{[]};
 ghost use Prim.Native.Nat.{_+_, _*_, _<_, _≤_};
 ghost use lib.Dec.{eqb};
+ghost use Rattle.rules.specs.Numbers.{most-actions, longest-coast};
 ghost use Rattle.rules.specs.Words.{one-if};
 ghost use Rattle.rules.specs.Run.{in-range, begun, coast, decide, ended, fits, lent, start-refusal, start, ask-refusal, ask, report-refusal, report};
 ghost use Rattle.run.specs.Calls.{run-of, answer-of, next-of, start-of, Open};
+
+pub mod dry;
 
 // The fields and their ranges are `in-range` of the rules. The three marks stand last, so that there is no gap between fields.
 #[repr(C)]
@@ -22,15 +27,15 @@ pub struct Run {
     pub late: bool,
 }
 
-// What a start answers: the record begun, and the number of the refusal, 0 for none.
+// What a start answers: the record begun, and the refusal.
 #[repr(C)]
 pub struct Started {
     pub run: Run,
-    pub refusal: u32,
+    pub refusal: Refusal,
 }
 
 pub enum Answer {
-    Refused(u32),
+    Refused(Refusal),
     Given {
         action: u32,
         level: u32,
@@ -45,17 +50,17 @@ pub struct Asked {
     pub answer: Answer,
 }
 
-// What a report answers: the next record, and the number of the refusal, 0 for none.
+// What a report answers: the next record, and the refusal.
 #[repr(C)]
 pub struct Reported {
     pub run: Run,
-    pub refusal: u32,
+    pub refusal: Refusal,
 }
 
 // A decision made: the record with the action running, and whether no level fits.
-pub struct Decided {
-    pub run: Run,
-    pub late: bool,
+struct Decided {
+    run: Run,
+    late: bool,
 }
 
 fn one_if(b: bool) -> u32
@@ -64,14 +69,8 @@ fn one_if(b: bool) -> u32
     if b { 1 } else { 0 }
 }
 
-fn unless(b: bool, x: u32) -> u32
-    ensures { λ r. ⌜ r ≡ cond b 0 x ⌝ }
-{
-    if b { 0 } else { x }
-}
-
 // A start sets n and L, all else 0 or no.
-pub fn begun(n: u32, levels: u32) -> Run
+fn begun(n: u32, levels: u32) -> Run
     ensures { λ r. ⌜ run-of r ≡ begun n levels 0 ⌝ }
 {
     Run {
@@ -89,7 +88,7 @@ pub fn begun(n: u32, levels: u32) -> Run
 }
 
 // Whether n and L are in their ranges.
-pub fn counts_fit(n: usize, levels: usize) -> bool
+fn counts_fit(n: usize, levels: usize) -> bool
     ensures { λ r. ⌜ r ≡ eqb (start-refusal n levels) 0 ⌝ }
 {
     !((n < 1) | (rules::MOST_ACTIONS < n) | (levels < 1) | (rules::MOST_LEVELS < levels))
@@ -97,23 +96,25 @@ pub fn counts_fit(n: usize, levels: usize) -> bool
 
 impl Run {
     // A refused start gives a record of zero actions, on which each later call answers 11.
-    pub fn start(n: u32, levels: u32) -> Started
+    pub fn start(n: usize, levels: usize) -> Started
         ensures { λ r. ⌜ start-of r ≡ start n levels ⌝ }
     {
-        if !counts_fit(n as usize, levels as usize) {
+        if !counts_fit(n, levels) {
             return Started {
                 run: begun(0, 0),
-                refusal: rules::REFUSED_COUNT,
+                refusal: Refusal {
+                    number: rules::REFUSED_COUNT,
+                },
             };
         }
         Started {
-            run: begun(n, levels),
-            refusal: 0,
+            run: begun(n as u32, levels as u32),
+            refusal: Refusal { number: 0 },
         }
     }
 
-    // Whether each field is in its range. Too high a position and too long a coast are told first, so that their sum does not wrap. A test
-    // at a time: joined in one they would load the record whole, right after its fields were stored one by one.
+    // Whether each field is in its range. Too high a position and too long a coast are told first, so that their sum does not wrap. A test at a
+    // time: a joined one would load two fields at once, right after they were stored one by one, and wait for both stores.
     fn in_range(self) -> bool
         ensures { λ r. ⌜ r ≡ in-range (run-of self) ⌝ }
     {
@@ -147,11 +148,12 @@ impl Run {
     }
 
     // A decision here and now takes the level given, leaves r - 1 to coast, counts, and sets the late mark where no level fits.
-    pub fn decided(self, limits: &[i32], bounds: &[i32]) -> Decided
-        requires { ⌜ Open (now limits) (now bounds) (run-of self) ⌝ }
-        ensures run { λ r. ⌜ run-of (r .run) ≡ decide 16 (lent (self .n) (self .levels) (now (limits .entry)) (now (bounds .entry))) (run-of self) ⌝ }
-        ensures late { λ r. ⌜ r .late
-            ≡ not (fits (lent (self .n) (self .levels) (now (limits .entry)) (now (bounds .entry))) (self .clock) (self .position)) ⌝ }
+    fn decided(self, limits: &[i32], bounds: &[i32]) -> Decided
+        requires { ⌜ Open (record { order = []; limits = now limits; worst = []; bounds = now bounds }) (run-of self) ⌝ }
+        ensures run { λ r. ⌜ run-of (r .run) ≡ decide longest-coast (lent (self .n) (self .levels)
+            (record { order = []; limits = now (limits .entry); worst = []; bounds = now (bounds .entry) })) (run-of self) ⌝ }
+        ensures late { λ r. ⌜ r .late ≡ not (fits (lent (self .n) (self .levels)
+            (record { order = []; limits = now (limits .entry); worst = []; bounds = now (bounds .entry) })) (self .clock) (self .position)) ⌝ }
     {
         let n = self.n as usize;
         let levels = self.levels as usize;
@@ -161,85 +163,48 @@ impl Run {
         let level = run_decision::last_within(limits, from, levels, t);
         let late = !run_decision::within(limits, from + level, t);
         let left = run_decision::left_granted(limits, bounds, n, levels, position, level, t);
-        Decided {
-            run: Run {
-                n: self.n,
-                levels: self.levels,
-                position: self.position,
-                clock: t,
-                level: level as u32,
-                left,
-                decisions: self.decisions + 1,
-                running: true,
-                overrun: self.overrun,
-                late: self.late | late,
-            },
-            late,
-        }
+        let mut run = self;
+        run.level = level as u32;
+        run.left = left;
+        run.decisions = self.decisions + 1;
+        run.running = true;
+        run.late = self.late | late;
+        Decided { run, late }
     }
 
     // A coasted asking gives the same level undecided and lowers what is left by 1.
-    pub fn coasted(self) -> Run
+    fn coasted(self) -> Run
         requires { ⌜ 0 < self .left ⌝ }
         ensures { λ r. ⌜ run-of r ≡ coast (run-of self) ⌝ }
     {
-        let left = self.left - 1;
-        Run {
-            n: self.n,
-            levels: self.levels,
-            position: self.position,
-            clock: self.clock,
-            level: self.level,
-            left,
-            decisions: self.decisions,
-            running: true,
-            overrun: self.overrun,
-            late: self.late,
-        }
+        let mut run = self;
+        run.left = self.left - 1;
+        run.running = true;
+        run
     }
 
     // The action's end at a clock, where its worst time at its level is `worst`: a longer duration sets the overrun mark and cancels the rest of
     // the coast.
-    pub fn ended(self, worst: u32, clock: u32) -> Run
-        requires { ⌜ (self .position < 64) × (self .clock ≤ clock) ⌝ }
+    fn ended(self, worst: u32, clock: u32) -> Run
+        requires { ⌜ (self .position < most-actions) × (self .clock ≤ clock) ⌝ }
         ensures { λ r. ⌜ run-of r ≡ ended worst clock (run-of self) ⌝ }
     {
         let over = worst < clock - self.clock;
-        Run {
-            n: self.n,
-            levels: self.levels,
-            position: self.position + 1,
-            clock,
-            level: self.level,
-            left: unless(over, self.left),
-            decisions: self.decisions,
-            running: false,
-            overrun: self.overrun | over,
-            late: self.late,
+        let mut run = self;
+        run.position = self.position + 1;
+        run.clock = clock;
+        run.running = false;
+        if over {
+            run.left = 0;
+            run.overrun = true;
         }
-    }
-
-    // The record as it was, field by field, so that a refusal stores what every other answer stores, and nothing behind the last field.
-    fn kept(self) -> Run
-        ensures { λ r. ⌜ run-of r ≡ run-of self ⌝ }
-    {
-        Run {
-            n: self.n,
-            levels: self.levels,
-            position: self.position,
-            clock: self.clock,
-            level: self.level,
-            left: self.left,
-            decisions: self.decisions,
-            running: self.running,
-            overrun: self.overrun,
-            late: self.late,
-        }
+        run
     }
 
     // Fields out of range 11, room 17, an action runs 11, all done 10.
     fn ask_refusal(self, order: &[u8], limits: &[i32], bounds: &[i32]) -> u32
-        ensures { λ r. ⌜ r ≡ ask-refusal (now (order .entry)) (now (limits .entry)) (now (bounds .entry)) (run-of self) ⌝ }
+        ensures { λ r. ⌜ r ≡ ask-refusal
+            (record { order = now (order .entry); limits = now (limits .entry); worst = []; bounds = now (bounds .entry) }) (run-of self) ⌝ }
     {
         if !self.in_range() {
             return rules::REFUSED_TURN;
@@ -263,13 +228,14 @@ impl Run {
 
     // Asking takes no clock and sets the action running. A refusal gives back the record.
     pub fn ask(self, order: &[u8], limits: &[i32], bounds: &[i32]) -> Asked
-        ensures { λ r. ⌜ answer-of r ≡ ask (now (order .entry)) (now (limits .entry)) (now (bounds .entry)) (run-of self) ⌝ }
+        ensures { λ r. ⌜ answer-of r ≡ ask
+            (record { order = now (order .entry); limits = now (limits .entry); worst = []; bounds = now (bounds .entry) }) (run-of self) ⌝ }
     {
-        let refusal = self.ask_refusal(order, limits, bounds);
-        if refusal != 0 {
+        let number = self.ask_refusal(order, limits, bounds);
+        if number != 0 {
             return Asked {
-                run: self.kept(),
-                answer: Answer::Refused(refusal),
+                run: self,
+                answer: Answer::Refused(Refusal { number }),
             };
         }
         let position = self.position as usize;
@@ -324,17 +290,17 @@ impl Run {
     pub fn report(self, clock: u32, worst: &[u32]) -> Reported
         ensures { λ r. ⌜ next-of r ≡ report (now (worst .entry)) clock (run-of self) ⌝ }
     {
-        let refusal = self.report_refusal(clock, worst);
-        if refusal != 0 {
+        let number = self.report_refusal(clock, worst);
+        if number != 0 {
             return Reported {
-                run: self.kept(),
-                refusal,
+                run: self,
+                refusal: Refusal { number },
             };
         }
         let at = (self.position * self.levels + self.level) as usize;
         Reported {
             run: self.ended(worst[at], clock),
-            refusal: 0,
+            refusal: Refusal { number: 0 },
         }
     }
 }

@@ -3,17 +3,17 @@
 use Prim.Native.Nat.{ℕ, zero, suc, _+_, _-_, _*_, _≤_, _<_, min}
 use mathlib.Core.Path.{_≡_, refl, sym, ap, _∙_}
 use mathlib.Core.Bool.{Bool, true, false, not, cond, _&&_, _||_, true≢false, and-true as and-one}
-use mathlib.Core.List.{List}
 use mathlib.Core.Logic.{inr, ⊎-elim}
 use native.Mathlib.Nat.{eq-or-lt-of-le, add-zero}
 use native.Mathlib.Numerals.{add-one}
 use native.Mathlib.Omega.{arith}
 use lib.Dec.{leb}
-use lib.IntN.{ℤ, pos}
+use lib.IntN.{pos}
 use lib.ListN.{getD}
 use lib.Signed.{leZ}
 use borrow.Author.Tests.{le-leb, lt-leb}
 use Rattle.rules.specs.Words.{last-passing, all-pass}
+use Rattle.rules.specs.Limits.{LentTables}
 use Rattle.rules.specs.Run.{qualifies, left-granted, lent}
 use Rattle.rules.proofs.Tests.{failed, and-true, or-true, not-true, all-pass-each}
 
@@ -54,14 +54,14 @@ module _ (test : ℕ → Bool) where
 
 -- ---- the coast
 
-module _ (n L : ℕ) (limits bounds : List ℤ) (t i q : ℕ) where
+module _ (n L : ℕ) (T : LentTables) (t i q : ℕ) where
   -- t is at most the limit of the level above, x positions on: there the level would rise
   abbrev pub Rises : ℕ → Bool
-  Rises x = leZ (pos t) (getD limits ((i + x) * L + suc q) (pos 0))
+  Rises x = leZ (pos t) (getD (T .limits) ((i + x) * L + suc q) (pos 0))
 
   -- t is at most the bound of a coast of x actions and one more
   abbrev pub Under : ℕ → Bool
-  Under x = leZ (pos t) (getD bounds ((i * L + q) * 16 + x) (pos 0))
+  Under x = leZ (pos t) (getD (T .bounds) ((i * L + q) * 16 + x) (pos 0))
 
   -- x actions would not rise
   pub held : ℕ → Bool
@@ -69,7 +69,7 @@ module _ (n L : ℕ) (limits bounds : List ℤ) (t i q : ℕ) where
 
   -- x actions and one more qualify
   pub passes : ℕ → Bool
-  passes x = qualifies (lent n L limits bounds) t i q (suc x)
+  passes x = qualifies (lent n L T) t i q (suc x)
 
   passes-is : (x : ℕ) → held (suc x) ≡ true → passes x ≡ Under x
   unfolding passes held qualifies lent
@@ -96,7 +96,7 @@ module _ (n L : ℕ) (limits bounds : List ℤ) (t i q : ℕ) where
       go false b false h r = and-one b ∙ h
 
   -- the action decided for is one, and leaves none
-  pub going-one : leZ (pos t) (getD limits (i * L + suc q) (pos 0)) ≡ false → Going 1 0
+  pub going-one : leZ (pos t) (getD (T .limits) (i * L + suc q) (pos 0)) ≡ false → Going 1 0
   unfolding held all-pass last-passing
   going-one low = record {
     found = none (passes 0);
@@ -121,11 +121,13 @@ module _ (n L : ℕ) (limits bounds : List ℤ) (t i q : ℕ) where
       not-true (Rises x) .0 (all-pass-each (λ j. not (Rises j)) (suc y) all x (omega arith)) rise
     where
       all : all-pass (λ j. not (Rises j)) (suc y) ≡ true
-      all = ap (λ (b : Bool). b || all-pass (λ j. not (Rises j)) (suc y)) (sym (lt-leb L (suc q) below)) ∙ and-true (leZ (pos t) (getD bounds ((i * L + q) * 16 + (suc y - 1)) (pos 0))) (leb L (suc q) || all-pass (λ j. not (Rises j)) (suc y)) .0 p .1
+      all =
+          ap (λ (b : Bool). b || all-pass (λ j. not (Rises j)) (suc y)) (sym (lt-leb L (suc q) below))
+          ∙ and-true (leZ (pos t) (getD (T .bounds) ((i * L + q) * 16 + (suc y - 1)) (pos 0))) (leb L (suc q) || all-pass (λ j. not (Rises j)) (suc y)) .0 p .1
 
   pub going-stops : (x left m : ℕ) → Going x left → suc q < L → Rises x ≡ true → x ≤ m → left ≡ last-passing passes m
   going-stops x left m g below r l = g .found ∙ sym (last-below passes x m l (λ y h. failed (passes y) (too-long x y below r h)))
 
-  pub going-done : (left : ℕ) → left ≡ last-passing passes (min 16 (n - i)) → left ≡ left-granted 16 (lent n L limits bounds) t i q
+  pub going-done : (left : ℕ) → left ≡ last-passing passes (min 16 (n - i)) → left ≡ left-granted 16 (lent n L T) t i q
   unfolding left-granted passes lent
   going-done left e = e

@@ -1,10 +1,12 @@
 // What a decision reads of the lent tables, whoever wrote them: the level given and the coast granted.
 ghost use mathlib.Core.Path.{_≡_};
 ghost use mathlib.Core.Bool.{false};
+ghost use mathlib.Core.List.{[]};
 ghost use Prim.Native.Nat.{suc, _+_, _*_, _<_, _≤_, min};
 ghost use lib.IntN.{pos};
 ghost use lib.ListN.{length, getD};
 ghost use lib.Signed.{leZ};
+ghost use Rattle.rules.specs.Numbers.{longest-coast};
 ghost use Rattle.rules.specs.Words.{last-passing};
 ghost use Rattle.rules.specs.Run.{lent, left-granted};
 ghost use Rattle.run_decision.specs.Decision.{Cell};
@@ -34,7 +36,7 @@ pub fn last_within(table: &[i32], from: usize, many: usize, t: u32) -> usize
 
 // The lesser of what is left of the cycle and the longest coast.
 fn most(rest: usize) -> usize
-    ensures { λ r. ⌜ r ≡ min 16 rest ⌝ }
+    ensures { λ r. ⌜ r ≡ min longest-coast rest ⌝ }
 {
     if rest < rules::LONGEST_COAST {
         rest
@@ -55,9 +57,10 @@ pub fn left_granted(
     level: usize,
     t: u32,
 ) -> u32
-    requires { ⌜ Cell n levels position level (length (now limits)) (length (now bounds)) ⌝ }
+    requires { ⌜ Cell n levels (record { order = []; limits = now limits; worst = []; bounds = now bounds }) position level ⌝ }
     requires { ⌜ (suc level < levels → leZ (pos t) (getD (now limits) (position * levels + suc level) (pos 0)) ≡ false) ⌝ }
-    ensures { λ r. ⌜ r ≡ left-granted 16 (lent n levels (now (limits .entry)) (now (bounds .entry))) t position level ⌝ }
+    ensures { λ r. ⌜ r ≡ left-granted longest-coast
+        (lent n levels (record { order = []; limits = now (limits .entry); worst = []; bounds = now (bounds .entry) })) t position level ⌝ }
 {
     let end = most(n - position);
     let from = (position * levels + level) * rules::LONGEST_COAST;

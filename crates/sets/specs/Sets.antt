@@ -60,5 +60,5 @@ pub record Without (s b r : ℕ) : Type 0 where
 -- ---- masks: by action the set of its predecessors
 
 -- b comes before a: `Before` of each profile with these masks
-abbrev pub before : List ℕ → ℕ → ℕ → Type 0
-before masks b a = has (getD masks a 0) b ≡ true
+abbrev pub comes-before : List ℕ → ℕ → ℕ → Type 0
+comes-before masks b a = has (getD masks a 0) b ≡ true

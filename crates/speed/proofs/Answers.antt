@@ -16,6 +16,7 @@ use Rattle.rules.specs.Speed.{reading-by, speed-call}
 use Rattle.rules.proofs.Differences.{not-above}
 use Rattle.rules.proofs.Refusals.{Sound, first-one, first-none, first-stops, first-goes-on, image-numbered, accepted-parts}
 use Rattle.rules.proofs.Order.OfProfile.{order-settled}
+use Rattle.rules.specs.declared.Refusal.{Refusal}
 use Rattle.image_check.specs.declared.Checked.{Checked}
 use Rattle.image_check.specs.Checks.{Judged}
 use Rattle.image_fields.proofs.Reading.{has-record}
@@ -23,11 +24,11 @@ use Rattle.image_check.proofs.Answers.{accepted-records}
 use Rattle.speed_stretch.specs.declared.Reading.{Reading}
 use Rattle.speed_stretch.specs.declared.Reading.the-variants.{Refused}
 use Rattle.speed_stretch.specs.declared.Stretch.{Stretch}
-use Rattle.speed_stretch.specs.Ratio.{gives, refuses, reading-of}
-use Rattle.speed_stretch.specs.Stretch.{Of}
+use Rattle.speed_stretch.specs.Answer.{gives, refuses, reading-of}
+use Rattle.speed_stretch.specs.Stretch.{StretchOf}
 use Rattle.speed_stretch.proofs.Answers.{reading-one}
 use Rattle.speed_stretch.proofs.Stretches.{reading-is}
-use Rattle.speed.specs.Speed.{Reads, own-checks, listed, Readable}
+use Rattle.speed.specs.Speed.{ReadsSpeed, own-checks, listed, Readable}
 use Rattle.speed.proofs.Alike.{same-actions, reading-same}
 
 -- ---- the call's own refusals
@@ -58,10 +59,10 @@ read-range s i k q t none = elim (accepted-parts s (own-checks (profile s .n) (p
 
 -- ---- a refusal
 
-pub refused-reads : {s : List ℕ} {i k q t m : ℕ} → First (speed-call s i k q t) m → m ≢ 0 → Reads s i k q t (Refused m)
-refused-reads {m = m} p some = record { number = m; given = p; refused = λ _. refl; read = λ e. absurd (some e) }
+pub refused-reads : {s : List ℕ} {i k q t : ℕ} {f : Refusal} → First (speed-call s i k q t) (f .number) → f .number ≢ 0 → ReadsSpeed s i k q t (Refused f)
+refused-reads {f = f} p some = record { number = f .number; given = p; refused = λ _. refl; read = λ e. absurd (some e) }
 
-pub image-refused : (s : List ℕ) (i k q t : ℕ) {m : ℕ} → First (image-checks s) m → m ≢ 0 → Reads s i k q t (Refused m)
+pub image-refused : (s : List ℕ) (i k q t : ℕ) {f : Refusal} → First (image-checks s) (f .number) → f .number ≢ 0 → ReadsSpeed s i k q t (Refused f)
 image-refused s i k q t p some = refused-reads (first-stops (image-checks s) (own-checks (profile s .n) (profile s .levels) i k q t) _ p some) some
 
 -- ---- an accepted image
@@ -92,8 +93,8 @@ module _ {s : List ℕ} {c : Checked} (judged : Judged s c) (none : c .refusal .
         }
 
     -- the stretch's average and margin and the deadline of position k give the reading by the order
-    pub read-reads : (x : Stretch) (d : ℕ) (r : Reading) → Of (listed s (c .order)) i k q x → d ≡ due (profile s) (getD (c .order) k 0)
-        → reading-of r ≡ gives (reading-by (x .average) (pos d -ℤ pos (x .margin) -ℤ pos t)) → Reads s i k q t r
+    pub read-reads : (x : Stretch) (d : ℕ) (r : Reading) → StretchOf (listed s (c .order)) i k q x → d ≡ due (profile s) (getD (c .order) k 0)
+        → reading-of r ≡ gives (reading-by (x .average) (pos d -ℤ pos (x .margin) -ℤ pos t)) → ReadsSpeed s i k q t r
     read-reads x d r of e is =
         let found = judged .accepted none in
         let (o, the, lists) = found .order in
@@ -112,7 +113,7 @@ module _ {s : List ℕ} {c : Checked} (judged : Judged s c) (none : c .refusal .
 -- ---- settled
 
 -- The contract settles the answer.
-pub reads-settled : {s : List ℕ} {i k q t : ℕ} (r r′ : Reading) → Reads s i k q t r → Reads s i k q t r′ → r ≡ r′
+pub reads-settled : {s : List ℕ} {i k q t : ℕ} (r r′ : Reading) → ReadsSpeed s i k q t r → ReadsSpeed s i k q t r′ → r ≡ r′
 reads-settled {s} {i} {k} {q} {t} r r′ x y = reading-one r r′ (go (ℕ-discrete (x .number) 0))
   where
     one : x .number ≡ y .number

@@ -17,9 +17,10 @@ use Rattle.rules.proofs.Refusals.{first-one}
 use Rattle.rules.proofs.Order.OfProfile.{order-settled}
 use Rattle.rules.proofs.Tests.{passed, pass, true-or-false}
 use Rattle.rules.proofs.Speed.Reading.{Exact, reading-spent, image-exact}
+use Rattle.rules.specs.declared.Refusal.{Refusal}
 use Rattle.speed_stretch.specs.declared.Reading.the-variants.{Ratio, Spent, Refused}
-use Rattle.speed_stretch.specs.Ratio.{gives, refuses}
-use Rattle.speed.specs.Speed.{Reads, Tells}
+use Rattle.speed_stretch.specs.Answer.{gives, refuses}
+use Rattle.speed.specs.Speed.{ReadsSpeed, Tells}
 use Rattle.speed.proofs.Alike.{same-actions, on-time-same}
 use Rattle.speed.proofs.Listed.{Bytes}
 use Rattle.speed.proofs.Answers.{read-range}
@@ -45,14 +46,14 @@ pub record ExactRatio (s : List ℕ) (i k q t : ℕ) (x : Float) : Type 0 where
 
 module _ {s : List ℕ} {i k q t : ℕ} where
   -- what is answered without a refusal is so by its number
-  ratio-none : {v : Float} (x : Reads s i k q t (Ratio v)) → x .number ≡ 0
+  ratio-none : {v : Float} (x : ReadsSpeed s i k q t (Ratio v)) → x .number ≡ 0
   ratio-none x = elim (ℕ-discrete (x .number) 0) [ yes e ↦ e | no some ↦ absurd (gives-not (x .refused some)) ]
 
-  spent-none : (x : Reads s i k q t Spent) → x .number ≡ 0
+  spent-none : (x : ReadsSpeed s i k q t Spent) → x .number ≡ 0
   spent-none x = elim (ℕ-discrete (x .number) 0) [ yes e ↦ e | no some ↦ absurd (gives-not (x .refused some)) ]
 
   -- Of a ratio that the call answers: the theorem of the rules, for the image's own tables.
-  pub reads-exact : {v : Float} → Bytes s → Reads s i k q t (Ratio v) → ExactRatio s i k q t v
+  pub reads-exact : {v : Float} → Bytes s → ReadsSpeed s i k q t (Ratio v) → ExactRatio s i k q t v
   reads-exact {v} byte x = by (above? (room (tables (profile s) o) i k q t))
     where
       o : Order (profile s .n)
@@ -76,7 +77,7 @@ module _ {s : List ℕ} {i k q t : ℕ} where
           absurd (omega arith)
 
   -- Of spent: room is at or below 0.
-  pub reads-spent : Reads s i k q t Spent
+  pub reads-spent : ReadsSpeed s i k q t Spent
       → (o : Order (profile s .n)) × TheOrder (profile s) o × (room (tables (profile s) o) i k q t ≤ℤ pos 0)
   reads-spent x =
       let (o, the, is) = x .read (spent-none x) in
@@ -85,7 +86,7 @@ module _ {s : List ℕ} {i k q t : ℕ} where
 
   -- ---- whether it is a ratio of at most 1
 
-  pub ratio-tells : {v : Float} {b : Bool} → Bytes s → Reads s i k q t (Ratio v) → b ≡ at-most-one v → Tells s i k q t b
+  pub ratio-tells : {v : Float} {b : Bool} → Bytes s → ReadsSpeed s i k q t (Ratio v) → b ≡ at-most-one v → Tells s i k q t b
   ratio-tells byte x e =
       let r = reads-exact byte x in
       let test = e ∙ r .exact in
@@ -96,7 +97,7 @@ module _ {s : List ℕ} {i k q t : ℕ} where
         read = λ _. (r .o, r .the-order, ((λ y. (r .above, leZ-yes (pass _ (sym test ∙ y)))), (λ w. test ∙ passed _ (w .1 .le))));
       }
 
-  pub spent-tells : Reads s i k q t Spent → Tells s i k q t false
+  pub spent-tells : ReadsSpeed s i k q t Spent → Tells s i k q t false
   spent-tells x =
       let (o, the, below) = reads-spent x in
       record {
@@ -106,7 +107,7 @@ module _ {s : List ℕ} {i k q t : ℕ} where
         read = λ _. (o, the, ((λ e. absurd (false≢true e)), (λ w. clashℤ (w .0) below)));
       }
 
-  pub refused-tells : {m : ℕ} → Reads s i k q t (Refused m) → Tells s i k q t false
+  pub refused-tells : {f : Refusal} → ReadsSpeed s i k q t (Refused f) → Tells s i k q t false
   refused-tells x = record {
     number = x .number;
     given = x .given;

@@ -7,19 +7,19 @@ use mathlib.Core.Logic.{_⊎_, _≢_, _↔_}
 use lib.IntN.{pos, _-ℤ_}
 use lib.ListN.{getD}
 use lib.Signed.{_≤ℤ_, _<ℤ_}
-use Rattle.rules.specs.Numbers.{last-clock, refused-clock, refused-reading}
+use Rattle.rules.specs.Numbers.{most-actions, last-clock, refused-clock, refused-reading}
 use Rattle.rules.specs.Image.{Profile, due, profile}
 use Rattle.rules.specs.Order.{Order, TheOrder}
 use Rattle.rules.specs.Limits.{Tables, tables, mixed}
 use Rattle.rules.specs.Refusals.{Ground, _when_, First}
 use Rattle.rules.specs.Speed.{room, reading, speed-call}
 use Rattle.speed_stretch.specs.declared.Reading.{Reading}
-use Rattle.speed_stretch.specs.Ratio.{gives, refuses, reading-of}
+use Rattle.speed_stretch.specs.Answer.{gives, refuses, reading-of}
 use Rattle.image_fields.specs.Reading.{HasRecord}
 
 -- r answers the speed reading of positions first to last at the level and time t: the first number of refusal that is given, or the reading
 -- by the profile's order.
-pub record Reads (s : List ℕ) (first last level t : ℕ) (r : Reading) : Type 0 where
+pub record ReadsSpeed (s : List ℕ) (first last level t : ℕ) (r : Reading) : Type 0 where
   pub number : ℕ
   pub given : First (speed-call s first last level t) number
   pub refused : number ≢ 0 → reading-of r ≡ refuses number
@@ -64,6 +64,6 @@ listed s actions = by-position (profile s) (λ k. getD actions k 0)
 -- positions first to last and the level are there to be read, in a list of 64 actions
 pub record Readable (s : List ℕ) (levels : ℕ) (actions : List ℕ) (first last level : ℕ) : Type 0 where
   pub ordered : first ≤ last
-  pub few : last < 64
+  pub few : last < most-actions
   pub below : level < levels
   pub present : (p : ℕ) → p ≤ last → HasRecord s levels (getD actions p 0)

@@ -1,14 +1,15 @@
 // The speed reading of an image: how fast positions in a row must run at a level to end in time.
 use image_check::whole;
 use image_fields::read;
+use rules::Refusal;
 use speed_stretch::Reading;
 use speed_stretch::Stretch;
 ghost use mathlib.Core.Path.{_≡_};
 ghost use mathlib.Core.Bool.{true};
 ghost use mathlib.Core.Logic.{_↔_};
 ghost use Rattle.rules.specs.Refusals.{First};
-ghost use Rattle.speed_stretch.specs.Stretch.{Of, Small};
-ghost use Rattle.speed.specs.Speed.{Reads, Tells, Absent, own-checks, listed, Readable};
+ghost use Rattle.speed_stretch.specs.Stretch.{StretchOf, SmallStretch};
+ghost use Rattle.speed.specs.Speed.{ReadsSpeed, Tells, Absent, own-checks, listed, Readable};
 
 // The first position is above the last one, or a position or the level is absent.
 fn is_absent(n: usize, levels: usize, first: usize, last: usize, level: usize) -> bool
@@ -26,31 +27,35 @@ fn is_absent(n: usize, levels: usize, first: usize, last: usize, level: usize) -
     false
 }
 
-// 18 for the positions and the level, then 13 for the clock; 0 for none.
-fn own_refusal(n: usize, levels: usize, first: usize, last: usize, level: usize, t: u32) -> u32
-    ensures { λ r. ⌜ First (own-checks n levels first last level t) r ⌝ }
+// 18 for the positions and the level, then 13 for the clock.
+fn own_refusal(n: usize, levels: usize, first: usize, last: usize, level: usize, t: u32) -> Refusal
+    ensures { λ r. ⌜ First (own-checks n levels first last level t) (r .number) ⌝ }
 {
     let absent = is_absent(n, levels, first, last, level);
     if absent {
-        return rules::REFUSED_READING;
+        return Refusal {
+            number: rules::REFUSED_READING,
+        };
     }
     if rules::LAST_CLOCK < t {
-        return rules::REFUSED_CLOCK;
+        return Refusal {
+            number: rules::REFUSED_CLOCK,
+        };
     }
-    0
+    Refusal { number: 0 }
 }
 
 // Average and margin of the positions, from the last one back.
 fn stretch(
     image: &[u8],
     levels: usize,
-    actions: &[u8; 64],
+    actions: &[u8; rules::MOST_ACTIONS],
     first: usize,
     last: usize,
     level: usize,
 ) -> Stretch
     requires { ⌜ Readable (now image) levels (now actions) first last level ⌝ }
-    ensures { λ r. ⌜ Of (listed (now (image .entry)) (now (actions .entry))) first last level r × Small r ⌝ }
+    ensures { λ r. ⌜ StretchOf (listed (now (image .entry)) (now (actions .entry))) first last level r × SmallStretch r ⌝ }
 {
     let mut s = speed_stretch::nothing();
     let mut j = last + 1;
@@ -67,16 +72,16 @@ fn stretch(
 
 // The reading of positions `first` to `last` at the level and time t, any values.
 pub fn speed_reading(image: &[u8], first: usize, last: usize, level: usize, t: u32) -> Reading
-    ensures { λ r. ⌜ Reads (now (image .entry)) first last level t r ⌝ }
+    ensures { λ r. ⌜ ReadsSpeed (now (image .entry)) first last level t r ⌝ }
 {
     let checked = whole::checked(image);
-    let number = checked.refusal.number;
-    if number != 0 {
-        return Reading::Refused(number);
+    let refusal = checked.refusal;
+    if refusal.number != 0 {
+        return Reading::Refused(refusal);
     }
     let levels = checked.levels;
     let own = own_refusal(checked.n, levels, first, last, level, t);
-    if own != 0 {
+    if own.number != 0 {
         return Reading::Refused(own);
     }
     let actions = checked.order;

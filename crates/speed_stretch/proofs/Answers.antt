@@ -1,6 +1,7 @@
 -- What is answered settles the answer. Assumes nothing.
-use mathlib.Core.Path.{_≡_, refl}
-use Rattle.speed_stretch.specs.Ratio.{reading-of}
+use Prim.Native.Nat.{ℕ}
+use mathlib.Core.Path.{_≡_, refl, ap}
+use Rattle.speed_stretch.specs.Answer.{reading-of}
 use Rattle.speed_stretch.specs.declared.Reading.{Reading}
 use Rattle.speed_stretch.specs.declared.Reading.the-variants.{Ratio, Spent, Refused}
 
@@ -13,4 +14,4 @@ reading-one Spent Spent h = refl
 reading-one Spent (Refused m) h = cc
 reading-one (Refused k) (Ratio y) h = cc
 reading-one (Refused k) Spent h = cc
-reading-one (Refused k) (Refused m) h = cc
+reading-one (Refused k) (Refused m) h = let same : k .number ≡ m .number = cc in ap (λ (number : ℕ). Refused (record { number = number })) same

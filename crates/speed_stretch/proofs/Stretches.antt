@@ -12,13 +12,13 @@ use Rattle.rules.specs.Limits as Limits
 use Rattle.rules.specs.Limits.{Tables, safe}
 use Rattle.rules.specs.Speed.{room, reading-by, reading}
 use Rattle.rules.proofs.Sums.{sum-longer}
-use Rattle.speed_stretch.specs.Stretch.{Of, Nothing, Small}
+use Rattle.speed_stretch.specs.Stretch.{StretchOf, NoStretch, SmallStretch}
 use Rattle.speed_stretch.specs.declared.Stretch.{Stretch}
 
 -- ---- no position, and one more in front
 
 -- none, in front of whichever
-pub from-nothing : {S : Tables} {j k q : ℕ} {s : Stretch} → Nothing s → j ≡ suc k → Of S j k q s
+pub from-nothing : {S : Tables} {j k q : ℕ} {s : Stretch} → NoStretch s → j ≡ suc k → StretchOf S j k q s
 from-nothing none e = rw e (none _ _ _)
 
 greatest-front : (f : ℕ → ℕ) (i m : ℕ) → greatest-of f i (suc m) ≡ max (f i) (greatest-of f (suc i) m)
@@ -53,8 +53,8 @@ module _ (S : Tables) (j k q : ℕ) (within : j ≤ k) where
       let some : k - j ≡ suc (k - suc j) = omega arith in
       rw (some, greatest-front (λ p. safe S p k q - Limits.average S p k q) j (k - suc j), here)
 
-  pub lengthened : (s r : Stretch) → Of S (suc j) k q s → r .average ≡ S .average j q + s .average → r .worst0 ≡ S .worst j 0 + s .worst0
-      → r .margin ≡ max (S .worst j q + s .worst0 - (S .average j q + s .average)) (s .margin) → Of S j k q r
+  pub lengthened : (s r : Stretch) → StretchOf S (suc j) k q s → r .average ≡ S .average j q + s .average → r .worst0 ≡ S .worst j 0 + s .worst0
+      → r .margin ≡ max (S .worst j q + s .worst0 - (S .average j q + s .average)) (s .margin) → StretchOf S j k q r
   lengthened s r of average worst0 margin = record {
     average = average ∙ rw (of .average) (sym average-front);
     worst0 = worst0 ∙ rw (of .worst0) (sym worst0-front);
@@ -99,7 +99,7 @@ module _ (S : Tables) (i k q : ℕ) (few : k < 64) (times : Times S k q) where
       greatest-within (λ p. safe S p k q - Limits.average S p k q) i (k - i) (64 * longest)
       (λ p h. omega (arith, times .worst p (omega arith), span-within (λ r. S .worst r 0) (suc p) (suc k) (omega arith) (times .worst0)))
 
-  pub small : (s : Stretch) → i ≤ suc k → Of S i k q s → Small s
+  pub small : (s : Stretch) → i ≤ suc k → StretchOf S i k q s → SmallStretch s
   small s within of = record {
     average = omega (arith, span-within (λ p. S .average p q) i (suc k) within (times .average));
     worst0 = omega (arith, span-within (λ p. S .worst p 0) i (suc k) within (times .worst0));
@@ -112,7 +112,7 @@ module _ (S : Tables) (i k q : ℕ) (few : k < 64) (times : Times S k q) where
 
 -- ---- the reading
 
-module _ (S : Tables) (i k q : ℕ) (s : Stretch) (of : Of S i k q s) (some : i ≤ k) where
+module _ (S : Tables) (i k q : ℕ) (s : Stretch) (of : StretchOf S i k q s) (some : i ≤ k) where
   pub reading-is : (t : ℕ) → reading-by (s .average) (pos (S .deadline k) -ℤ pos (s .margin) -ℤ pos t) ≡ reading S i k q t
   unfolding reading room
   reading-is t = ap₂ (λ (a m : ℕ). reading-by a (pos (S .deadline k) -ℤ pos m -ℤ pos t)) (of .average) (of .margin some)

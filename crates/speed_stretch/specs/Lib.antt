@@ -1,2 +1,2 @@
-pub mod Ratio
+pub mod Answer
 pub mod Stretch

@@ -1,17 +1,17 @@
 // The speed reading's arithmetic: average and margin of a stretch of positions, and the ratio of average and room.
+use rules::Refusal;
 ghost use mathlib.Core.Path.{_≡_};
 ghost use Prim.Native.Nat.{_+_, _≤_, _<_};
-ghost use lib.Dec.{leb};
 ghost use lib.IntN.{pos, _-ℤ_};
 ghost use Rattle.rules.specs.Numbers.{longest-time};
 ghost use Rattle.rules.specs.Speed.{quotient, reading-by, at-most-one};
-ghost use Rattle.speed_stretch.specs.Ratio.{gives, reading-of};
-ghost use Rattle.speed_stretch.specs.Stretch.{Small, Lengthens, Nothing};
+ghost use Rattle.speed_stretch.specs.Answer.{gives, reading-of};
+ghost use Rattle.speed_stretch.specs.Stretch.{NoStretch, Lengthens, SmallStretch};
 
 pub enum Reading {
     Ratio(f64),
     Spent,
-    Refused(u32),
+    Refused(Refusal),
 }
 
 // Of some positions in a row, at one level: the sum of their averages, the sum of their worst times at level 0, and their margin.
@@ -23,7 +23,7 @@ pub struct Stretch {
 
 // No positions yet.
 pub fn nothing() -> Stretch
-    ensures { λ r. ⌜ Nothing r ⌝ }
+    ensures { λ r. ⌜ NoStretch r ⌝ }
 {
     Stretch {
         average: 0,
@@ -34,7 +34,7 @@ pub fn nothing() -> Stretch
 
 // One position more, in front of the others: its average and its worst time at the level, and its worst time at level 0.
 pub fn longer(s: Stretch, average: u32, worst: u32, worst0: u32) -> Stretch
-    requires { ⌜ Small s × (average ≤ longest-time) × (worst ≤ longest-time) × (worst0 ≤ longest-time) ⌝ }
+    requires { ⌜ SmallStretch s × (average ≤ longest-time) × (worst ≤ longest-time) × (worst0 ≤ longest-time) ⌝ }
     ensures { λ r. ⌜ Lengthens s average worst worst0 r ⌝ }
 {
     let sum = average + s.average;
@@ -70,16 +70,9 @@ pub fn read(average: u32, deadline: u32, margin: u32, t: u32) -> Reading
     }
 }
 
+// Whether a ratio is at most 1. Of a ratio that the reading gives, it is so exactly if t is at most deadline - mixed.
 pub fn at_most_one(x: f64) -> bool
     ensures { λ b. ⌜ b ≡ at-most-one x ⌝ }
 {
     x <= 1.0
-}
-
-// With room above 0 the ratio is at most 1 exactly if t is at most deadline - mixed.
-pub fn on_time(average: u32, deadline: u32, margin: u32, t: u32) -> bool
-    requires { ⌜ margin + t < deadline ⌝ }
-    ensures { λ b. ⌜ b ≡ leb (t + (average + margin)) deadline ⌝ }
-{
-    at_most_one(quotient(average, deadline - (margin + t)))
 }

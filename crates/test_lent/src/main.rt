@@ -1,7 +1,11 @@
-// Runs a cycle of Three (case 1 of the worked values) over a lent record and, beside it, by value, with each refusal of the run on the way. A line
-// has the call, the number of its refusal, what was asked for, and then the lent record: position, clock, running, decisions. Where the two
-// differ it says so instead.
+// Runs a cycle of Three (case 1 of the worked values) over a lent record and, beside it, by value, with each refusal of the run on the way. A case
+// is a line of cases.txt: `start`, n and levels; `ask`, and how much of the order is lent; `report`, the clock, and how much of the worst times is
+// lent. It is told again with the answer, the number of a refusal first, and then the lent record: position, clock, running, decisions. Where the
+// two differ it says so instead.
+use nyokazerubi::runs;
 use run::Run;
+use text::words;
+ghost use Prim.Native.Nat.{_≤_};
 
 mod through;
 
@@ -12,69 +16,95 @@ fn main() {
     let mut worst = [0u32; 6];
     let mut bounds = [0i32; 96];
     planner::plan(&image, &mut order, &mut limits, &mut worst, &mut bounds);
-    cycle(&order, &limits, &worst, &bounds);
+    let mut text = io::large_buffer();
+    let n = files::read_file(b"cases.txt", &mut text);
+    tell_each(&text[..n], order, &limits, worst, &bounds);
 }
 
-fn cycle(order: &[u8], limits: &[i32], worst: &[u32], bounds: &[i32]) {
-    let short_order = [0u8; 2];
-    let short_worst = [0u32; 5];
-    let mut run = start(run::begun(0, 0), 3, 2);
-    run = report(run, 6, worst);
-    run = ask(run, order, limits, bounds);
-    run = ask(run, order, limits, bounds);
-    run = report(run, 1_073_741_824, worst);
-    run = report(run, 6, &short_worst);
-    run = report(run, 6, worst);
-    run = ask(run, order, limits, bounds);
-    run = report(run, 5, worst);
-    run = report(run, 14, worst);
-    run = ask(run, &short_order, limits, bounds);
-    run = ask(run, order, limits, bounds);
-    run = report(run, 18, worst);
-    run = ask(run, order, limits, bounds);
-    run = start(run, 65, 2);
-    run = ask(run, order, limits, bounds);
-    report(run, 18, worst);
+fn tell_each(text: &[u8], order: [u8; 3], limits: &[i32], worst: [u32; 6], bounds: &[i32]) {
+    let mut run = run::begun(0, 0);
+    let mut at = 0;
+    while at < text.len() {
+        let end = words::find(text, at, b'\n');
+        run = tell(run, &text[at..end], order, limits, worst, bounds);
+        at = end + 1;
+    }
+}
+
+// A case by the letter that it begins with.
+fn tell(
+    run: Run,
+    line: &[u8],
+    order: [u8; 3],
+    limits: &[i32],
+    worst: [u32; 6],
+    bounds: &[i32],
+) -> Run {
+    if line.len() == 0 {
+        return run;
+    }
+    let a = words::number(line, 1);
+    let b = words::number(line, 2);
+    io::write_all(1, line);
+    io::write_all(1, b":");
+    match line[0] {
+        b's' => start(run, a as usize, b as usize),
+        b'a' => ask(run, a, order, limits, bounds),
+        _ => report(run, a, b, worst),
+    }
+}
+
+// As much of a table as a case says.
+fn part(n: u32, most: usize) -> usize
+    ensures { λ r. ⌜ r ≤ most ⌝ }
+{
+    if n as usize <= most { n as usize } else { most }
 }
 
 // ---- each call over the lent record and by value
 
-fn start(run: Run, n: u32, levels: u32) -> Run {
+fn start(run: Run, n: usize, levels: usize) -> Run {
     let lent = through::started(run, n, levels);
-    let value = Run::start(n, levels);
-    io::write_all(1, b"start");
-    say(lent.refusal);
-    tell(lent.refusal == value.refusal, lent.run, value.run);
+    let value = runs::start_flat(n, levels);
+    say(lent.refusal.number);
+    tell_record(
+        lent.refusal.number == value.refusal.number,
+        lent.run,
+        value.run,
+    );
     lent.run
 }
 
-fn ask(run: Run, order: &[u8], limits: &[i32], bounds: &[i32]) -> Run {
-    let lent = through::asked(run, order, limits, bounds);
-    let value = nyokazerubi::runs::ask_flat(run, order, limits, bounds);
+fn ask(run: Run, much: u32, order: [u8; 3], limits: &[i32], bounds: &[i32]) -> Run {
+    let k = part(much, 3);
+    let lent = through::asked(run, &order[0..k], limits, bounds);
+    let value = runs::ask_flat(run, &order[0..k], limits, bounds);
     let a = lent.given;
     let b = value.given;
-    io::write_all(1, b"ask");
-    say(a.refusal);
+    say(a.refusal.number);
     say(a.action);
     say(a.level);
     say(a.decided as u32);
     say(a.late as u32);
-    let same = a.refusal == b.refusal
+    let alike = a.refusal.number == b.refusal.number
         && a.action == b.action
         && a.level == b.level
         && a.decided == b.decided
         && a.late == b.late;
-    tell(same, lent.run, value.run);
+    tell_record(alike, lent.run, value.run);
     lent.run
 }
 
-fn report(run: Run, clock: u32, worst: &[u32]) -> Run {
-    let lent = through::reported(run, clock, worst);
-    let value = run.report(clock, worst);
-    io::write_all(1, b"report");
-    say(lent.refusal);
-    say(clock);
-    tell(lent.refusal == value.refusal, lent.run, value.run);
+fn report(run: Run, clock: u32, much: u32, worst: [u32; 6]) -> Run {
+    let k = part(much, 6);
+    let lent = through::reported(run, clock, &worst[0..k]);
+    let value = runs::report_flat(run, clock, &worst[0..k]);
+    say(lent.refusal.number);
+    tell_record(
+        lent.refusal.number == value.refusal.number,
+        lent.run,
+        value.run,
+    );
     lent.run
 }
 
@@ -86,8 +116,8 @@ fn say(x: u32) {
 }
 
 // The end of a line: the lent record, if the two answers and the two records are the same.
-fn tell(same: bool, lent: Run, value: Run) {
-    if same && counts_alike(lent, value) && marks_alike(lent, value) {
+fn tell_record(alike: bool, lent: Run, value: Run) {
+    if alike && same(lent, value) {
         io::write_all(1, b" |");
         say(lent.position);
         say(lent.clock);
@@ -99,16 +129,15 @@ fn tell(same: bool, lent: Run, value: Run) {
     }
 }
 
-fn counts_alike(a: Run, b: Run) -> bool {
-    a.n == b.n
-        && a.levels == b.levels
-        && a.position == b.position
-        && a.clock == b.clock
-        && a.level == b.level
-        && a.left == b.left
-        && a.decisions == b.decisions
-}
-
-fn marks_alike(a: Run, b: Run) -> bool {
-    a.running == b.running && a.overrun == b.overrun && a.late == b.late
+fn same(a: Run, b: Run) -> bool {
+    (a.n == b.n)
+        & (a.levels == b.levels)
+        & (a.position == b.position)
+        & (a.clock == b.clock)
+        & (a.level == b.level)
+        & (a.left == b.left)
+        & (a.decisions == b.decisions)
+        & (a.running == b.running)
+        & (a.overrun == b.overrun)
+        & (a.late == b.late)
 }

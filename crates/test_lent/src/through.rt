@@ -1,16 +1,16 @@
 // From a record by value to the calls over a lent one, and back.
 use nyokazerubi::runs;
 use nyokazerubi::runs::Asked;
-use run::Reported;
+use nyokazerubi::runs::Reported;
+use nyokazerubi::runs::Started;
 use run::Run;
-use run::Started;
 ghost use mathlib.Core.Path.{_≡_};
 ghost use Rattle.rules.specs.Run.{start, ask, report};
-ghost use Rattle.run.specs.Calls.{run-of, start-of, next-of};
-ghost use Rattle.nyokazerubi.specs.Flat.{Asks};
+ghost use Rattle.run.specs.Calls.{run-of};
+ghost use Rattle.nyokazerubi.specs.Flat.{next-of, Asks};
 
-pub fn started(run: Run, n: u32, levels: u32) -> Started
-    ensures { λ r. ⌜ start-of r ≡ start n levels ⌝ }
+pub fn started(run: Run, n: usize, levels: usize) -> Started
+    ensures { λ r. ⌜ next-of (r .run) (r .refusal) ≡ start n levels ⌝ }
 {
     let mut kept = run;
     let refusal = runs::nyokazerubi_start(&mut kept, n, levels);
@@ -26,7 +26,7 @@ pub fn asked(run: Run, order: &[u8], limits: &[i32], bounds: &[i32]) -> Asked
 }
 
 pub fn reported(run: Run, clock: u32, worst: &[u32]) -> Reported
-    ensures { λ r. ⌜ next-of r ≡ report (now (worst .entry)) clock (run-of run) ⌝ }
+    ensures { λ r. ⌜ next-of (r .run) (r .refusal) ≡ report (now (worst .entry)) clock (run-of run) ⌝ }
 {
     let mut kept = run;
     let refusal = runs::nyokazerubi_report(&mut kept, clock, worst);

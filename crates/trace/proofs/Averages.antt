@@ -6,7 +6,7 @@ use native.Mathlib.Nat.{zero-max}
 use native.Mathlib.Numerals.{add-one}
 use Rattle.rules.specs.Image.{Profile}
 use Rattle.rules.specs.Refresh.{records, counted, unmeasured, measured, raised}
-use Rattle.trace.specs.Measure.{raised-below}
+use Rattle.trace.specs.Trace.{raised-below}
 
 -- With nothing counted the level is unmeasured.
 pub none-measured : (F : Profile) (trace : List ℕ) (a q : ℕ) → counted trace a q (records trace) ≡ 0 → measured F trace a q ≡ unmeasured F a q

@@ -10,26 +10,27 @@ use native.Mathlib.Omega.{arith}
 use borrow.Author.Tests.{eq-eqb}
 use lib.Dec.{eqb}
 use lib.ListN.{getD}
+use Rattle.rules.specs.Numbers.{most-actions, most-levels, duration-said}
 use Rattle.rules.specs.Image.{be}
 use Rattle.rules.specs.Refresh.{entry, open-of, action-of, level-of, duration-of, measures}
 use Rattle.fields.proofs.Bytes.{be-front}
-use Rattle.trace.specs.Measure.{cell, Reads, Measures}
+use Rattle.trace.specs.Trace.{cells, cell-of, IsRecord, Measures}
 use Rattle.trace.specs.declared.Entry.{Entry}
 
 -- An action has 6 bits, a level 3 and a duration 30.
-pub action-lt : (trace : List ℕ) (r : ℕ) → action-of trace r < 64
+pub action-lt : (trace : List ℕ) (r : ℕ) → action-of trace r < most-actions
 unfolding action-of
 action-lt trace r = omega arith
 
-pub level-lt : (trace : List ℕ) (r : ℕ) → level-of trace r < 8
+pub level-lt : (trace : List ℕ) (r : ℕ) → level-of trace r < most-levels
 unfolding level-of
 level-lt trace r = omega arith
 
-pub duration-lt : (trace : List ℕ) (r : ℕ) → duration-of trace r < 1073741824
+pub duration-lt : (trace : List ℕ) (r : ℕ) → duration-of trace r < duration-said
 unfolding duration-of
 duration-lt trace r = omega arith
 
-pub cell-lt : {trace : List ℕ} {r : ℕ} {e : Entry} → Reads trace r e → e .cell < 512
+pub cell-lt : {trace : List ℕ} {r : ℕ} {e : Entry} → IsRecord trace r e → e .cell < cells
 cell-lt {trace} {r} is = omega (arith, is .in-cell, action-lt trace r, level-lt trace r)
 
 digits : (f x : ℕ) → x < 4 → f % 128 * 4 + x ≡ (f * 4 + x) / 8 % 64 * 8 + (f * 4 + x) % 8
@@ -49,15 +50,15 @@ module _ (trace : List ℕ) (r first rest : ℕ) (is : first ≡ getD trace (r *
       let top : first / 128 ≡ entry trace r / 2 ^ 39 = omega (arith, joined) in
       ap (λ (x : ℕ). eqb x 1) top
 
-  pub in-cell : first % 128 * 4 + rest / 1073741824 ≡ cell (action-of trace r) (level-of trace r)
+  pub in-cell : first % 128 * 4 + rest / duration-said ≡ cell-of (action-of trace r) (level-of trace r)
   unfolding action-of level-of
   in-cell =
-      let q : ℕ = first * 4 + rest / 1073741824 in
+      let q : ℕ = first * 4 + rest / duration-said in
       let level : entry trace r / 2 ^ 30 ≡ q = omega (arith, joined) in
       let action : entry trace r / 2 ^ 33 ≡ q / 8 = sym (div-div-eq-div-mul (entry trace r) (2 ^ 30) 8) ∙ ap (λ (x : ℕ). x / 8) level in
-      rw (level, action) (digits first (rest / 1073741824) (omega arith))
+      rw (level, action) (digits first (rest / duration-said) (omega arith))
 
-  pub lasts : rest % 1073741824 ≡ duration-of trace r
+  pub lasts : rest % duration-said ≡ duration-of trace r
   unfolding duration-of
   lasts = omega (arith, joined)
 

@@ -7,17 +7,18 @@ use native.Mathlib.Omega.{arith}
 use native.Mathlib.Decide.{decLe}
 use borrow.Author.Count.{below-more}
 use lib.ListN.{getD}
+use Rattle.rules.specs.Numbers.{refused-name, refused-duration}
 use Rattle.rules.specs.Image.{Profile}
 use Rattle.rules.specs.Refusals.{First}
 use Rattle.rules.specs.Refresh.{records, action-of, level-of, Name, Fault, FirstFault}
 use Rattle.rules.proofs.Refresh.{NoFault, named-not-longer}
-use Rattle.trace.specs.Measure.{Reads, Ceilings, faults-at, faults}
+use Rattle.trace.specs.Trace.{IsRecord, Ceilings, faults-at, faults}
 use Rattle.trace.specs.declared.Entry.{Entry}
 use Rattle.trace.proofs.Entries.{action-lt, level-lt}
 
 -- ---- one record
 
-module _ {e : Entry} {table : List ℕ} (F : Profile) (trace : List ℕ) (r : ℕ) (has : Ceilings F table) (is : Reads trace r e) where
+module _ {e : Entry} {table : List ℕ} (F : Profile) (trace : List ℕ) (r : ℕ) (has : Ceilings F table) (is : IsRecord trace r e) where
   here : ℕ
   here = getD table (e .cell) 0
 
@@ -50,11 +51,11 @@ module _ {e : Entry} {table : List ℕ} (F : Profile) (trace : List ℕ) (r : �
         let there = named (λ none. omega arith) in
         inr (there, inr ((λ d. omega (arith, is .duration, present there)), refl))
 
-    pub no-name : ceiling ≡ 0 → First (faults-at F trace r) 15
+    pub no-name : ceiling ≡ 0 → First (faults-at F trace r) refused-name
     unfolding here
     no-name none = inl (name (omega arith), refl)
 
-    pub too-long : (ceiling ≡ 0 → ⊥) → ceiling ≤ e .duration → First (faults-at F trace r) 16
+    pub too-long : (ceiling ≡ 0 → ⊥) → ceiling ≤ e .duration → First (faults-at F trace r) refused-duration
     unfolding here
     too-long some long =
         let there = named (λ none. some (omega arith)) in

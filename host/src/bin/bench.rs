@@ -2,7 +2,7 @@
 //! Prints the tables of docs/BENCHMARKS.md.
 
 use nyokazerubi_host::c::C;
-use nyokazerubi_host::calls::{Calls, Counts, Fast, Run, Tables, COAST};
+use nyokazerubi_host::calls::{Calls, Counts, Fast, Run, Tables, LONGEST_COAST};
 use nyokazerubi_host::draw::{Draw, Sketch};
 use nyokazerubi_host::product::Product;
 use std::hint::black_box;
@@ -41,7 +41,7 @@ fn table(sides: &Sides, name: &str, bench: &Bench) {
     );
     println!("| call | product | Rust | C | ratio |\n|---|---|---|---|---|");
     for (call, run) in CALLS {
-        let by = if call.ends_with("an action") { f64::from(n) } else { 1.0 };
+        let by = if call.ends_with("an action") { n as f64 } else { 1.0 };
         let [product, rust, c] = measure(sides, |calls| run(bench, calls)).map(|median| median / by);
         println!("| {call} | {product:.1} | {rust:.1} | {c:.1} | {:.2} |", product / rust.min(c));
     }
@@ -115,7 +115,7 @@ struct Bench {
     order: Vec<u8>,
     limits: Vec<i32>,
     by_position: Vec<u32>,
-    coasts: Vec<i32>,
+    bounds: Vec<i32>,
     durations: Vec<u32>,
     /// A few records and many.
     traces: [Vec<u8>; 2],
@@ -127,7 +127,7 @@ struct Bench {
 impl Bench {
     fn new(image: &[u8]) -> Bench {
         let counts = Product.check(image).expect("accepted");
-        let (n, cells) = (counts.n as usize, (counts.n * counts.levels) as usize);
+        let (n, cells) = (counts.n, (counts.n * counts.levels));
         let mut bench = Bench {
             image: image.to_vec(),
             counts,
@@ -138,7 +138,7 @@ impl Bench {
             order: vec![0; n],
             limits: vec![0; cells],
             by_position: vec![0; cells],
-            coasts: vec![0; cells * COAST],
+            bounds: vec![0; cells * LONGEST_COAST],
             durations: Vec::new(),
             traces: Default::default(),
             clocks: Vec::new(),
@@ -147,7 +147,7 @@ impl Bench {
         let (masks, deadlines) = (&mut bench.masks, &mut bench.deadlines);
         Fast.read(image, masks, deadlines, &mut bench.averages, &mut bench.worst).expect("accepted");
         let (order, limits) = (&mut bench.order, &mut bench.limits);
-        Fast.plan(image, order, limits, &mut bench.by_position, &mut bench.coasts).expect("accepted");
+        Fast.plan(image, order, limits, &mut bench.by_position, &mut bench.bounds).expect("accepted");
         let mut draw = Draw::new(8);
         // Mostly near the average, now and then up to the worst time.
         bench.durations = (0..cells)
@@ -169,28 +169,27 @@ impl Bench {
 
     fn trace(&self, draw: &mut Draw, records: usize) -> Vec<u8> {
         let record = |_| {
-            let (action, level) = (draw.between(0, self.counts.n - 1), draw.between(0, self.counts.levels - 1));
-            let longest = self.worst[(action * self.counts.levels + level) as usize];
+            let (action, level) = (draw.index(self.counts.n), draw.index(self.counts.levels));
+            let longest = self.worst[action * self.counts.levels + level];
             let open = u64::from(!draw.once_in(4));
-            let bits =
-                open << 39 | u64::from(action) << 33 | u64::from(level) << 30 | u64::from(draw.between(0, longest));
+            let bits = open << 39 | (action as u64) << 33 | (level as u64) << 30 | u64::from(draw.between(0, longest));
             bits.to_be_bytes()[3..].to_vec()
         };
         (0..records).flat_map(record).collect()
     }
 
     fn tables(&self) -> Tables<'_> {
-        Tables { limits: &self.limits, worst: &self.by_position, coasts: &self.coasts }
+        Tables { limits: &self.limits, worst_by_position: &self.by_position, bounds: &self.bounds }
     }
 
     /// Where a cycle over the durations gets to.
     fn cycle(&mut self) {
         let Counts { n, levels, .. } = self.counts;
-        let (mut given, mut decided) = (vec![0; n as usize], vec![0; n as usize]);
+        let (mut given, mut decided) = (vec![0; n], vec![0; n]);
         let answer = Fast.dry_run(n, levels, self.tables(), &self.durations, &mut given, &mut decided);
         self.decisions = answer.expect("a cycle").decisions;
         let mut clock = 0;
-        for (&level, row) in given.iter().zip(self.durations.chunks(levels as usize)) {
+        for (&level, row) in given.iter().zip(self.durations.chunks(levels)) {
             clock += row[level as usize];
             self.clocks.push(clock);
         }
@@ -207,7 +206,7 @@ struct Room {
     words: [u64; 64],
     numbers: [[u32; 512]; 3],
     limits: [i32; 512],
-    coasts: [i32; 8192],
+    bounds: [i32; 8192],
 }
 
 static mut ROOM: Room = Room {
@@ -216,7 +215,7 @@ static mut ROOM: Room = Room {
     words: [0; 64],
     numbers: [[0; 512]; 3],
     limits: [0; 512],
-    coasts: [0; 8192],
+    bounds: [0; 8192],
 };
 
 /// The one room. There is one thread, and each call is over before the next.
@@ -240,8 +239,8 @@ const CALLS: [Call; 11] = [
         black_box(calls.lookup_refusal(black_box(&bench.image), bench.counts.n - 1));
     }),
     ("plan", |bench, calls| {
-        let Room { small: [order, _], limits, numbers: [worst, ..], coasts, .. } = room();
-        black_box(calls.plan(black_box(&bench.image), order, limits, worst, coasts).is_ok());
+        let Room { small: [order, _], limits, numbers: [worst, ..], bounds, .. } = room();
+        black_box(calls.plan(black_box(&bench.image), order, limits, worst, bounds).is_ok());
     }),
     ("ask + report, an action", |bench, calls| cycle(bench, calls)),
     ("dry run", |bench, calls| {
@@ -255,7 +254,7 @@ const CALLS: [Call; 11] = [
     }),
     ("reading", |bench, calls| {
         let Counts { n, levels, .. } = bench.counts;
-        black_box(calls.reading(black_box(&bench.image), 0, n - 1, levels / 2, 1000));
+        black_box(calls.speed_reading(black_box(&bench.image), 0, n - 1, levels / 2, 1000));
     }),
     ("refresh, 100 records", |bench, calls| {
         black_box(calls.refresh(black_box(&bench.image), &bench.traces[0], &mut room().image).is_ok());
@@ -270,7 +269,7 @@ fn cycle(bench: &Bench, calls: &dyn Calls) {
     let mut run = Run::default();
     calls.start_lent(&mut run, bench.counts.n, bench.counts.levels);
     for &clock in &bench.clocks {
-        black_box(calls.ask_lent(&mut run, &bench.order, &bench.limits, &bench.coasts).is_ok());
+        black_box(calls.ask_lent(&mut run, &bench.order, &bench.limits, &bench.bounds).is_ok());
         black_box(calls.report_lent(&mut run, clock, &bench.by_position));
     }
     black_box(run);
@@ -289,7 +288,7 @@ fn frame(sides: &Sides) {
     }
 }
 
-/// The document's encoder.
+/// The rules' encoder.
 fn encoder() -> Vec<u8> {
     let mut image = vec![0; 546];
     assert_eq!(Product.write_encoder(&mut image), Ok(546));

@@ -1,7 +1,7 @@
 //! Image check, reading, writing, lookup.
 
 use super::order::{arrange, Actions, Arranged};
-use crate::calls::{no, Answer, Counts, CLOCK, TIME};
+use crate::calls::{refused, Answer, Counts, LAST_CLOCK, LONGEST_TIME};
 
 /// The sizes of an image whose length is right.
 #[derive(Clone, Copy)]
@@ -16,8 +16,7 @@ pub(super) struct Shape {
 impl Shape {
     fn new(counts: Counts) -> Option<Shape> {
         let Counts { n, levels, cycle } = counts;
-        let fits = n.wrapping_sub(1) < 64 && levels.wrapping_sub(1) < 8 && cycle.wrapping_sub(1) < CLOCK;
-        let (n, levels) = (n as usize, levels as usize);
+        let fits = n.wrapping_sub(1) < 64 && levels.wrapping_sub(1) < 8 && cycle.wrapping_sub(1) < LAST_CLOCK;
         fits.then_some(Shape { n, levels, cycle, stride: 12 + 6 * levels })
     }
 
@@ -30,7 +29,7 @@ impl Shape {
     }
 
     pub fn counts(self) -> Counts {
-        Counts { n: self.n as u32, levels: self.levels as u32, cycle: self.cycle }
+        Counts { n: self.n, levels: self.levels, cycle: self.cycle }
     }
 
     /// The set of all actions.
@@ -109,11 +108,11 @@ impl Faults {
 
     fn first(&self) -> Answer<()> {
         if self.spare != 0 {
-            Err(no::SPARE)
+            Err(refused::SPARE)
         } else if self.range {
-            Err(no::RANGE)
+            Err(refused::RANGE)
         } else if self.kept & GUARD != GUARD {
-            Err(no::TABLE)
+            Err(refused::TABLE)
         } else {
             Ok(())
         }
@@ -123,17 +122,18 @@ impl Faults {
 /// Refusals 1 to 4.
 fn shape(image: &[u8]) -> Answer<Shape> {
     if image.len() < 6 {
-        return Err(no::SHORT);
+        return Err(refused::SHORT);
     }
     let head = u32::from_be_bytes([image[0], image[1], image[2], image[3]]);
     let tail = u16::from_be_bytes([image[4], image[5]]);
     if head >> 28 != 1 {
-        return Err(no::VERSION);
+        return Err(refused::VERSION);
     }
     let cycle = (head & 0x1_ffff) << 13 | u32::from(tail >> 3);
-    let shape = Shape::new(Counts { n: head >> 21 & 127, levels: head >> 17 & 15, cycle }).ok_or(no::COUNT)?;
+    let shape = Shape::new(Counts { n: (head >> 21 & 127) as usize, levels: (head >> 17 & 15) as usize, cycle })
+        .ok_or(refused::COUNT)?;
     if image.len() != shape.bytes() {
-        return Err(no::LENGTH);
+        return Err(refused::LENGTH);
     }
     Ok(shape)
 }
@@ -180,7 +180,7 @@ pub fn read(
     let (shape, _) = examine(image)?;
     let (n, levels, cells) = (shape.n, shape.levels, shape.cells());
     if masks.len() < n || deadlines.len() < n || averages.len() < cells || worst.len() < cells {
-        return Err(no::ROOM);
+        return Err(refused::ROOM);
     }
     let heads = masks.iter_mut().zip(deadlines);
     let rows = averages.chunks_exact_mut(levels).zip(worst.chunks_exact_mut(levels));
@@ -204,17 +204,17 @@ pub fn write(
     worst: &[u32],
     image: &mut [u8],
 ) -> Answer<usize> {
-    let shape = Shape::new(counts).ok_or(no::COUNT)?;
+    let shape = Shape::new(counts).ok_or(refused::COUNT)?;
     let (n, levels, cells, bytes) = (shape.n, shape.levels, shape.cells(), shape.bytes());
     let times_short = averages.len() < cells || worst.len() < cells;
     if masks.len() < n || deadlines.len() < n || times_short || image.len() < bytes {
-        return Err(no::ROOM);
+        return Err(refused::ROOM);
     }
     let (masks, deadlines) = (&masks[..n], &deadlines[..n]);
     let (averages, worst, image) = (&averages[..cells], &worst[..cells], &mut image[..bytes]);
     judge(shape, masks, deadlines, averages, worst)?;
 
-    let head = 1 << 28 | counts.n << 21 | counts.levels << 17 | shape.cycle >> 13;
+    let head = 1 << 28 | (n as u32) << 21 | (levels as u32) << 17 | shape.cycle >> 13;
     image[..4].copy_from_slice(&head.to_be_bytes());
     image[4..6].copy_from_slice(&((shape.cycle << 3) as u16).to_be_bytes());
     let heads = masks.iter().zip(deadlines);
@@ -252,24 +252,24 @@ fn judge(shape: Shape, masks: &[u64], deadlines: &[u32], averages: &[u32], worst
             before = pair;
         }
     }
-    faults.range |= times > TIME;
+    faults.range |= times > LONGEST_TIME;
     faults.first()?;
     arrange(&actions, shape.n).map(|_| ())
 }
 
 /// The action's own part of the image, empty with a refusal.
-pub fn lookup(image: &[u8], action: u32) -> &[u8] {
+pub fn lookup(image: &[u8], action: usize) -> &[u8] {
     match examine(image) {
-        Ok((shape, _)) if (action as usize) < shape.n => shape.record(image, action as usize),
+        Ok((shape, _)) if action < shape.n => shape.record(image, action),
         _ => &[],
     }
 }
 
 /// The number of that lookup's refusal, 0 for none.
-pub fn lookup_refusal(image: &[u8], action: u32) -> u8 {
+pub fn lookup_refusal(image: &[u8], action: usize) -> u8 {
     match examine(image) {
-        Ok((shape, _)) if (action as usize) < shape.n => 0,
-        Ok(_) => no::NAME,
+        Ok((shape, _)) if action < shape.n => 0,
+        Ok(_) => refused::NAME,
         Err(number) => number,
     }
 }

@@ -1,6 +1,6 @@
 //! The order by urgency over 64-bit sets; refusals 8 and 9.
 
-use crate::calls::{no, Answer};
+use crate::calls::{refused, Answer};
 
 /// What the order reads, by action. Deadlines are those that count, worst times those of level 0.
 pub(super) struct Actions {
@@ -90,7 +90,7 @@ pub(super) fn arrange(actions: &Actions, n: usize) -> Answer<Arranged> {
     if by_number(actions, n) {
         // The last action ends last, and all deadlines are its own.
         let end: u32 = actions.worst[..n].iter().sum();
-        return if end > actions.deadlines[0] { Err(no::UNFIT) } else { Ok(Arranged(BY_NUMBER)) };
+        return if end > actions.deadlines[0] { Err(refused::UNFIT) } else { Ok(Arranged(BY_NUMBER)) };
     }
     by_urgency(actions, n)
 }
@@ -115,7 +115,7 @@ fn by_urgency(actions: &Actions, n: usize) -> Answer<Arranged> {
     let (mut clock, mut unfit) = (0u32, false);
     for (i, place) in order[..n].iter_mut().enumerate() {
         if ready == 0 {
-            return Err(no::LOOP);
+            return Err(refused::LOOP);
         }
         let action = by_rank[take_lowest(&mut ready)] as usize & 63;
         *place = action as u8;
@@ -137,7 +137,7 @@ fn by_urgency(actions: &Actions, n: usize) -> Answer<Arranged> {
         }
     }
     if unfit {
-        return Err(no::UNFIT);
+        return Err(refused::UNFIT);
     }
     Ok(Arranged(order))
 }

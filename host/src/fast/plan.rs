@@ -2,7 +2,7 @@
 
 use super::image::{deadline_word, examine, Pair, Shape};
 use super::order::Arranged;
-use crate::calls::{no, Answer, Counts, ABSENT, COAST};
+use crate::calls::{refused, Answer, Counts, ABSENT_BOUND, LONGEST_COAST};
 
 /// Order, limits, worst times by position and coast bounds.
 pub fn plan(
@@ -10,25 +10,25 @@ pub fn plan(
     order: &mut [u8],
     limits: &mut [i32],
     worst: &mut [u32],
-    coasts: &mut [i32],
+    bounds: &mut [i32],
 ) -> Answer<Counts> {
     let (shape, Arranged(arranged)) = examine(image)?;
     let (n, cells) = (shape.n, shape.cells());
-    if order.len() < n || limits.len() < cells || worst.len() < cells || coasts.len() < cells * COAST {
-        return Err(no::ROOM);
+    if order.len() < n || limits.len() < cells || worst.len() < cells || bounds.len() < cells * LONGEST_COAST {
+        return Err(refused::ROOM);
     }
     order[..n].copy_from_slice(&arranged[..n]);
-    rows(image, shape, &order[..n], &mut limits[..cells], &mut worst[..cells], &mut coasts[..cells * COAST]);
+    rows(image, shape, &order[..n], &mut limits[..cells], &mut worst[..cells], &mut bounds[..cells * LONGEST_COAST]);
     Ok(shape.counts())
 }
 
 /// limit(i,q) = min(min(deadline(i), limit(i+1,0)) - worst(i,q), limit(i+1,q) - average(i,q)); past the end there is no limit.
-fn rows(image: &[u8], shape: Shape, order: &[u8], limits: &mut [i32], worst: &mut [u32], coasts: &mut [i32]) {
+fn rows(image: &[u8], shape: Shape, order: &[u8], limits: &mut [i32], worst: &mut [u32], bounds: &mut [i32]) {
     let levels = shape.levels.min(8);
     let mut after = [i32::MAX; 8];
     let mut bounds_after: &[i32] = &[];
     let places = order.iter().zip(limits.chunks_exact_mut(levels)).zip(worst.chunks_exact_mut(levels));
-    for (((&action, limits), worst), bounds) in places.zip(coasts.chunks_exact_mut(levels * COAST)).rev() {
+    for (((&action, limits), worst), bounds) in places.zip(bounds.chunks_exact_mut(levels * LONGEST_COAST)).rev() {
         let record = shape.record(image, action as usize);
         let deadline = shape.deadline(deadline_word(record) >> 2) as i32;
         let latest = deadline.min(after[0]);
@@ -46,19 +46,19 @@ fn rows(image: &[u8], shape: Shape, order: &[u8], limits: &mut [i32], worst: &mu
 
 /// bound(i,q,r) = min(limit(i,q), bound(i+1,q,r-1) - worst(i,q)).
 fn coast_row(limits: &[i32], worst: &[u32], after: &[i32], bounds: &mut [i32]) {
-    let cells = bounds.chunks_exact_mut(COAST).zip(limits.iter().zip(worst));
+    let cells = bounds.chunks_exact_mut(LONGEST_COAST).zip(limits.iter().zip(worst));
     if after.is_empty() {
         for (bounds, (&limit, _)) in cells {
-            bounds.fill(ABSENT);
+            bounds.fill(ABSENT_BOUND);
             bounds[0] = limit;
         }
         return;
     }
-    for ((bounds, (&limit, &worst)), after) in cells.zip(after.chunks_exact(COAST)) {
+    for ((bounds, (&limit, &worst)), after) in cells.zip(after.chunks_exact(LONGEST_COAST)) {
         bounds[0] = limit;
-        for (bound, &next) in bounds[1..].iter_mut().zip(&after[..COAST - 1]) {
+        for (bound, &next) in bounds[1..].iter_mut().zip(&after[..LONGEST_COAST - 1]) {
             let through = limit.min(next.wrapping_sub(worst as i32));
-            *bound = if next == ABSENT { ABSENT } else { through };
+            *bound = if next == ABSENT_BOUND { ABSENT_BOUND } else { through };
         }
     }
 }

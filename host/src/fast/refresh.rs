@@ -1,7 +1,7 @@
 //! New averages from a trace.
 
 use super::image::{examine, Pair};
-use crate::calls::{no, Answer, RECORDS};
+use crate::calls::{refused, Answer, MOST_RECORDS};
 
 /// Bits of a packed sum below its count: 65,535 durations of 24 bits need 40.
 const SUM: u32 = 40;
@@ -9,8 +9,8 @@ const SUM: u32 = 40;
 /// The image with its new averages; answers its bytes.
 pub fn refresh(image: &[u8], trace: &[u8], fresh: &mut [u8]) -> Answer<usize> {
     let (shape, _) = examine(image)?;
-    if !trace.len().is_multiple_of(5) || trace.len() / 5 > RECORDS {
-        return Err(no::TRACE);
+    if !trace.len().is_multiple_of(5) || trace.len() / 5 > MOST_RECORDS {
+        return Err(refused::TRACE);
     }
     // By action and level as a record packs them: the first duration that is too long, 0 where absent.
     let mut ceilings = [0u32; 512];
@@ -25,13 +25,13 @@ pub fn refresh(image: &[u8], trace: &[u8], fresh: &mut [u8]) -> Answer<usize> {
         let key = usize::from(record[0] & 127) << 2 | (low >> 30) as usize;
         let duration = low & 0x3fff_ffff;
         if duration >= ceilings[key] {
-            return Err(if ceilings[key] == 0 { no::NAME } else { no::DURATION });
+            return Err(if ceilings[key] == 0 { refused::NAME } else { refused::DURATION });
         }
         let open = u64::from(record[0] >> 7);
         sums[key] += (open << SUM) | (u64::from(duration) * open);
     }
     if fresh.len() < image.len() {
-        return Err(no::ROOM);
+        return Err(refused::ROOM);
     }
     let fresh = &mut fresh[..image.len()];
     fresh.copy_from_slice(image);

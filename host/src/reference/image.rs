@@ -2,7 +2,7 @@
 
 use super::bits::{get, put};
 use super::profile::{counts_in_range, Profile};
-use crate::calls::{no, Answer, Counts};
+use crate::calls::{refused, Answer, Counts};
 
 const HEADER: usize = 48;
 
@@ -27,13 +27,13 @@ pub fn length(n: usize, levels: usize) -> usize {
 }
 
 fn header(image: &[u8]) -> Counts {
-    Counts { n: get(image, 4, 7) as u32, levels: get(image, 11, 4) as u32, cycle: get(image, 15, 30) as u32 }
+    Counts { n: get(image, 4, 7) as usize, levels: get(image, 11, 4) as usize, cycle: get(image, 15, 30) as u32 }
 }
 
 /// The numbers of an image whose length is right.
 fn unpack(image: &[u8]) -> Profile {
     let counts = header(image);
-    let (n, levels) = (counts.n as usize, counts.levels as usize);
+    let (n, levels) = (counts.n, counts.levels);
     let times = |offset: usize| {
         let time = |a, q| get(image, average_start(levels, a, q) + offset, 24) as i64;
         (0..n).map(|a| (0..levels).map(|q| time(a, q)).collect()).collect()
@@ -76,21 +76,21 @@ fn spare_bit_set(image: &[u8], n: usize, levels: usize) -> bool {
 /// The profile of an accepted image, or the refusal 1 to 9.
 pub fn accept(image: &[u8]) -> Answer<Profile> {
     if image.len() < 6 {
-        return Err(no::SHORT);
+        return Err(refused::SHORT);
     }
     if get(image, 0, 4) != 1 {
-        return Err(no::VERSION);
+        return Err(refused::VERSION);
     }
     let counts = header(image);
     if !counts_in_range(counts) {
-        return Err(no::COUNT);
+        return Err(refused::COUNT);
     }
-    let (n, levels) = (counts.n as usize, counts.levels as usize);
+    let (n, levels) = (counts.n, counts.levels);
     if image.len() != length(n, levels) {
-        return Err(no::LENGTH);
+        return Err(refused::LENGTH);
     }
     if spare_bit_set(image, n, levels) {
-        return Err(no::SPARE);
+        return Err(refused::SPARE);
     }
     let profile = unpack(image);
     match profile.refusal() {
@@ -115,7 +115,7 @@ pub fn read(
     let profile = accept(image)?;
     let (n, levels) = (profile.n, profile.levels);
     if masks.len() < n || deadlines.len() < n || averages.len() < n * levels || worst.len() < n * levels {
-        return Err(no::ROOM);
+        return Err(refused::ROOM);
     }
     for a in 0..n {
         masks[a] = profile.masks[a];
@@ -138,13 +138,13 @@ pub fn write(
     image: &mut [u8],
 ) -> Answer<usize> {
     if !counts_in_range(counts) {
-        return Err(no::COUNT);
+        return Err(refused::COUNT);
     }
-    let (n, levels) = (counts.n as usize, counts.levels as usize);
+    let (n, levels) = (counts.n, counts.levels);
     let bytes = length(n, levels);
     let times_short = averages.len() < n * levels || worst.len() < n * levels;
     if masks.len() < n || deadlines.len() < n || times_short || image.len() < bytes {
-        return Err(no::ROOM);
+        return Err(refused::ROOM);
     }
     let times = |table: &[u32]| -> Vec<Vec<i64>> {
         (0..n).map(|a| (0..levels).map(|q| i64::from(table[a * levels + q])).collect()).collect()
@@ -166,17 +166,17 @@ pub fn write(
 }
 
 /// The refusal of a lookup, or the place of the action's part.
-fn find(image: &[u8], action: u32) -> Answer<std::ops::Range<usize>> {
+fn find(image: &[u8], action: usize) -> Answer<std::ops::Range<usize>> {
     let profile = accept(image)?;
-    if action as usize >= profile.n {
-        return Err(no::NAME);
+    if action >= profile.n {
+        return Err(refused::NAME);
     }
-    let start = record_start(profile.levels, action as usize) / 8;
+    let start = record_start(profile.levels, action) / 8;
     Ok(start..start + record_bits(profile.levels) / 8)
 }
 
 /// The action's own part of the image, empty with a refusal.
-pub fn lookup(image: &[u8], action: u32) -> &[u8] {
+pub fn lookup(image: &[u8], action: usize) -> &[u8] {
     match find(image, action) {
         Ok(part) => &image[part],
         Err(_) => &[],
@@ -184,7 +184,7 @@ pub fn lookup(image: &[u8], action: u32) -> &[u8] {
 }
 
 /// The number of that lookup's refusal, 0 for none.
-pub fn lookup_refusal(image: &[u8], action: u32) -> u8 {
+pub fn lookup_refusal(image: &[u8], action: usize) -> u8 {
     find(image, action).err().unwrap_or(0)
 }
 

@@ -3,7 +3,7 @@
 use super::image::accept;
 use super::order::Order;
 use super::profile::Profile;
-use crate::calls::{no, Answer, Counts, ABSENT, COAST};
+use crate::calls::{refused, Answer, Counts, ABSENT_BOUND, LONGEST_COAST};
 
 /// A profile laid out by position.
 #[derive(Clone, Debug)]
@@ -63,7 +63,7 @@ impl Planned {
     /// The least, over j from i to i+r-1, of limit(j,q) minus the worst times at q of positions i to j-1.
     pub fn coast_bound(&self, limits: &[Vec<i64>], i: usize, q: usize, r: usize) -> i64 {
         if r > self.n - i {
-            return i64::from(ABSENT);
+            return i64::from(ABSENT_BOUND);
         }
         let bound = |j: usize| limits[j][q] - (i..j).map(|p| self.worst[p][q]).sum::<i64>();
         (i..i + r).map(bound).min().expect("r is at least 1")
@@ -80,13 +80,13 @@ pub fn plan(
     order: &mut [u8],
     limits: &mut [i32],
     worst: &mut [u32],
-    coasts: &mut [i32],
+    bounds: &mut [i32],
 ) -> Answer<Counts> {
     let profile = accept(image)?;
     let (n, levels) = (profile.n, profile.levels);
     let cells = n * levels;
-    if order.len() < n || limits.len() < cells || worst.len() < cells || coasts.len() < cells * COAST {
-        return Err(no::ROOM);
+    if order.len() < n || limits.len() < cells || worst.len() < cells || bounds.len() < cells * LONGEST_COAST {
+        return Err(refused::ROOM);
     }
     let planned = Planned::of(&profile);
     let all = planned.limits();
@@ -96,10 +96,10 @@ pub fn plan(
             let cell = i * levels + q;
             limits[cell] = narrow(all[i][q]);
             worst[cell] = planned.worst[i][q] as u32;
-            for r in 1..=COAST {
-                coasts[cell * COAST + r - 1] = narrow(planned.coast_bound(&all, i, q, r));
+            for r in 1..=LONGEST_COAST {
+                bounds[cell * LONGEST_COAST + r - 1] = narrow(planned.coast_bound(&all, i, q, r));
             }
         }
     }
-    Ok(Counts { n: n as u32, levels: levels as u32, cycle: profile.cycle as u32 })
+    Ok(Counts { n, levels, cycle: profile.cycle as u32 })
 }

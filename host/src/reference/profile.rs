@@ -1,7 +1,7 @@
 //! A profile as numbers, and the refusals 6 to 9 that an image and a writing share.
 
 use super::order::{Follows, Order};
-use crate::calls::{no, Counts, CLOCK, TIME};
+use crate::calls::{refused, Counts, LAST_CLOCK, LONGEST_TIME};
 
 /// Masks and deadlines by action (deadlines as written, 0 for the cycle), times by action and level.
 #[derive(Clone, Debug, PartialEq, Eq)]
@@ -17,11 +17,11 @@ pub struct Profile {
 
 /// Whether n, L and cycle are inside their ranges.
 pub fn counts_in_range(counts: Counts) -> bool {
-    shape_in_range(counts.n, counts.levels) && (1..=CLOCK).contains(&counts.cycle)
+    shape_in_range(counts.n, counts.levels) && (1..=LAST_CLOCK).contains(&counts.cycle)
 }
 
 /// Whether n and L are.
-pub fn shape_in_range(n: u32, levels: u32) -> bool {
+pub fn shape_in_range(n: usize, levels: usize) -> bool {
     (1..=64).contains(&n) && (1..=8).contains(&levels)
 }
 
@@ -42,16 +42,16 @@ impl Profile {
     /// The least of 6, 7, 8, 9 that applies.
     pub fn refusal(&self) -> Option<u8> {
         if self.out_of_range() {
-            return Some(no::RANGE);
+            return Some(refused::RANGE);
         }
         if self.breaks_table_rule() {
-            return Some(no::TABLE);
+            return Some(refused::TABLE);
         }
         if Follows::of(self).has_loop() {
-            return Some(no::LOOP);
+            return Some(refused::LOOP);
         }
         if Order::by_urgency(self).misses_a_deadline(self) {
-            return Some(no::UNFIT);
+            return Some(refused::UNFIT);
         }
         None
     }
@@ -60,7 +60,7 @@ impl Profile {
         let times = self.averages.iter().chain(&self.worst).flatten();
         self.deadlines.iter().any(|&deadline| deadline > self.cycle)
             || self.masks.iter().any(|mask| (self.n..64).any(|b| mask >> b & 1 == 1))
-            || times.into_iter().any(|&time| time > i64::from(TIME))
+            || times.into_iter().any(|&time| time > i64::from(LONGEST_TIME))
     }
 
     fn breaks_table_rule(&self) -> bool {

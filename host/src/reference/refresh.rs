@@ -2,7 +2,7 @@
 
 use super::bits::get;
 use super::image::{accept, put_average};
-use crate::calls::{no, Answer, RECORDS};
+use crate::calls::{refused, Answer, MOST_RECORDS};
 
 /// One record of a trace.
 struct Record {
@@ -35,20 +35,20 @@ fn measured(records: &[Record], action: usize, level: usize, old: i64) -> i64 {
 /// The image with its new averages; answers its bytes.
 pub fn refresh(image: &[u8], trace: &[u8], fresh: &mut [u8]) -> Answer<usize> {
     let profile = accept(image)?;
-    if !trace.len().is_multiple_of(5) || trace.len() / 5 > RECORDS {
-        return Err(no::TRACE);
+    if !trace.len().is_multiple_of(5) || trace.len() / 5 > MOST_RECORDS {
+        return Err(refused::TRACE);
     }
     let records: Vec<Record> = (0..trace.len() / 5).map(|at| record(trace, at)).collect();
     for record in &records {
         if record.action >= profile.n || record.level >= profile.levels {
-            return Err(no::NAME);
+            return Err(refused::NAME);
         }
         if record.duration > profile.worst[record.action][record.level] {
-            return Err(no::DURATION);
+            return Err(refused::DURATION);
         }
     }
     if fresh.len() < image.len() {
-        return Err(no::ROOM);
+        return Err(refused::ROOM);
     }
     fresh[..image.len()].copy_from_slice(image);
     for action in 0..profile.n {

@@ -1,7 +1,7 @@
 //! The asked manager, the grant of a coast, the run record and the dry run.
 
 use super::profile::shape_in_range;
-use crate::calls::{no, Answer, Asked, Cycle, Run, Tables, CLOCK, COAST, TIME};
+use crate::calls::{refused, Answer, Dried, Given, Run, Tables, LAST_CLOCK, LONGEST_COAST, LONGEST_TIME};
 
 /// Limits and coast bounds as lent, whoever wrote them.
 #[derive(Clone, Copy, Debug)]
@@ -9,7 +9,7 @@ pub struct Bounds<'a> {
     pub n: usize,
     pub levels: usize,
     pub limits: &'a [i32],
-    pub coasts: &'a [i32],
+    pub bounds: &'a [i32],
 }
 
 impl Bounds<'_> {
@@ -18,7 +18,7 @@ impl Bounds<'_> {
     }
 
     fn coast_bound(&self, i: usize, q: usize, r: usize) -> i64 {
-        i64::from(self.coasts[(i * self.levels + q) * COAST + r - 1])
+        i64::from(self.bounds[(i * self.levels + q) * LONGEST_COAST + r - 1])
     }
 }
 
@@ -35,7 +35,7 @@ pub fn granted(bounds: Bounds, i: usize, t: i64, q: usize) -> usize {
     let top = q + 1 == bounds.levels;
     let qualifies =
         |r: usize| t <= bounds.coast_bound(i, q, r) && (top || (i..i + r).all(|j| t > bounds.limit(j, q + 1)));
-    (1..=COAST.min(bounds.n - i)).filter(|&r| qualifies(r)).max().unwrap_or(1)
+    (1..=LONGEST_COAST.min(bounds.n - i)).filter(|&r| qualifies(r)).max().unwrap_or(1)
 }
 
 /// The names of the fields of a run record that are outside their range.
@@ -47,10 +47,10 @@ pub fn fields_out(run: Run) -> Vec<&'static str> {
         ("n", !(1..=64).contains(&run.n)),
         ("L", !(1..=8).contains(&run.levels)),
         ("position", run.position > run.n),
-        ("clock", run.clock > CLOCK),
+        ("clock", run.clock > LAST_CLOCK),
         ("running", run.running && run.position >= run.n),
         ("level", run.level >= run.levels),
-        ("coast left", run.coast_left > 15 || number(run.coast_left) > left),
+        ("coast left", run.left > 15 || number(run.left) > left),
         ("decisions", number(run.decisions) > number(run.position) + runs),
     ];
     tests.into_iter().filter(|(_, out)| *out).map(|(name, _)| name).collect()
@@ -62,64 +62,64 @@ pub fn in_range(run: Run) -> bool {
 }
 
 /// A start sets n and L, all else 0 or no; refused, it gives a record of zero actions.
-pub fn start(n: u32, levels: u32) -> (Run, u8) {
+pub fn start(n: usize, levels: usize) -> (Run, u8) {
     if !shape_in_range(n, levels) {
-        return (Run::default(), no::COUNT);
+        return (Run::default(), refused::COUNT);
     }
-    (Run { n, levels, ..Run::default() }, 0)
+    (Run { n: n as u32, levels: levels as u32, ..Run::default() }, 0)
 }
 
 /// Asks for the next action and its level.
-pub fn ask(run: Run, order: &[u8], limits: &[i32], coasts: &[i32]) -> (Run, Answer<Asked>) {
+pub fn ask(run: Run, order: &[u8], limits: &[i32], bounds: &[i32]) -> (Run, Answer<Given>) {
     if !in_range(run) {
-        return (run, Err(no::TURN));
+        return (run, Err(refused::TURN));
     }
     let (n, levels, i) = (run.n as usize, run.levels as usize, run.position as usize);
-    if order.len() < n || limits.len() < n * levels || coasts.len() < n * levels * COAST {
-        return (run, Err(no::ROOM));
+    if order.len() < n || limits.len() < n * levels || bounds.len() < n * levels * LONGEST_COAST {
+        return (run, Err(refused::ROOM));
     }
     if run.running {
-        return (run, Err(no::TURN));
+        return (run, Err(refused::TURN));
     }
     if i == n {
-        return (run, Err(no::FINISHED));
+        return (run, Err(refused::FINISHED));
     }
     let action = u32::from(order[i]);
-    if run.coast_left > 0 {
-        let next = Run { running: true, coast_left: run.coast_left - 1, ..run };
-        return (next, Ok(Asked { action, level: run.level, decided: false, late: false }));
+    if run.left > 0 {
+        let next = Run { running: true, left: run.left - 1, ..run };
+        return (next, Ok(Given { action, level: run.level, decided: false, late: false }));
     }
-    let bounds = Bounds { n, levels, limits, coasts };
+    let bounds = Bounds { n, levels, limits, bounds };
     let t = i64::from(run.clock);
     let (level, late) = asked(bounds, i, t);
     let next = Run {
         running: true,
         level: level as u32,
-        coast_left: granted(bounds, i, t, level) as u32 - 1,
+        left: granted(bounds, i, t, level) as u32 - 1,
         decisions: run.decisions + 1,
         late: run.late || late,
         ..run
     };
-    (next, Ok(Asked { action, level: level as u32, decided: true, late }))
+    (next, Ok(Given { action, level: level as u32, decided: true, late }))
 }
 
 /// Reports the end of the running action by the clock since the cycle began.
 pub fn report(run: Run, clock: u32, worst: &[u32]) -> (Run, u8) {
     if !in_range(run) {
-        return (run, no::TURN);
+        return (run, refused::TURN);
     }
     let (n, levels) = (run.n as usize, run.levels as usize);
     if worst.len() < n * levels {
-        return (run, no::ROOM);
+        return (run, refused::ROOM);
     }
     if !run.running {
-        return (run, no::TURN);
+        return (run, refused::TURN);
     }
     if clock < run.clock {
-        return (run, no::BACK);
+        return (run, refused::BACK);
     }
-    if clock > CLOCK {
-        return (run, no::CLOCK);
+    if clock > LAST_CLOCK {
+        return (run, refused::CLOCK);
     }
     let duration = clock - run.clock;
     let overran = duration > worst[run.position as usize * levels + run.level as usize];
@@ -127,7 +127,7 @@ pub fn report(run: Run, clock: u32, worst: &[u32]) -> (Run, u8) {
         position: run.position + 1,
         clock,
         running: false,
-        coast_left: if overran { 0 } else { run.coast_left },
+        left: if overran { 0 } else { run.left },
         overrun: run.overrun || overran,
         ..run
     };
@@ -136,37 +136,38 @@ pub fn report(run: Run, clock: u32, worst: &[u32]) -> (Run, u8) {
 
 /// A whole cycle: start, then ask and report by turns until no action remains.
 pub fn dry_run(
-    n: u32,
-    levels: u32,
+    n: usize,
+    levels: usize,
     tables: Tables,
     durations: &[u32],
     given: &mut [u8],
-    decided: &mut [u8],
-) -> Answer<Cycle> {
+    marks: &mut [u8],
+) -> Answer<Dried> {
     if !shape_in_range(n, levels) {
-        return Err(no::COUNT);
+        return Err(refused::COUNT);
     }
-    let (count, width) = (n as usize, levels as usize);
-    let cells = count * width;
-    let tables_short = tables.limits.len() < cells || tables.worst.len() < cells || tables.coasts.len() < cells * COAST;
-    if tables_short || durations.len() < cells || given.len() < count || decided.len() < count {
-        return Err(no::ROOM);
+    let cells = n * levels;
+    let tables_short = tables.limits.len() < cells
+        || tables.worst_by_position.len() < cells
+        || tables.bounds.len() < cells * LONGEST_COAST;
+    if tables_short || durations.len() < cells || given.len() < n || marks.len() < n {
+        return Err(refused::ROOM);
     }
-    if durations[..cells].iter().any(|&duration| duration > TIME) {
-        return Err(no::DURATION);
+    if durations[..cells].iter().any(|&duration| duration > LONGEST_TIME) {
+        return Err(refused::DURATION);
     }
     // The actions' names are of no account here.
-    let order = vec![0; count];
+    let order = vec![0; n];
     let (mut run, _) = start(n, levels);
-    for i in 0..count {
-        let (running, answer) = ask(run, &order, tables.limits, tables.coasts);
+    for i in 0..n {
+        let (running, answer) = ask(run, &order, tables.limits, tables.bounds);
         let answer = answer.expect("the turn is right");
         given[i] = answer.level as u8;
-        decided[i] = u8::from(answer.decided);
-        let end = running.clock + durations[i * width + answer.level as usize];
-        let (ended, number) = report(running, end, tables.worst);
+        marks[i] = u8::from(answer.decided);
+        let end = running.clock + durations[i * levels + answer.level as usize];
+        let (ended, number) = report(running, end, tables.worst_by_position);
         assert_eq!(number, 0, "64 durations stay below the clock's limit");
         run = ended;
     }
-    Ok(Cycle { decisions: run.decisions, end: run.clock, overrun: run.overrun, late: run.late })
+    Ok(Dried { decisions: run.decisions, end: run.clock, overrun: run.overrun, late: run.late })
 }

@@ -9,16 +9,13 @@ use nyokazerubi_host::product::Product;
 use nyokazerubi_host::reference::Profile;
 use std::path::{Path, PathBuf};
 
-/// The folder of the outside vectors of a kind (`cases`, `traces` or `readings`): NYOKAZERUBI_VECTORS, or the data of the crate that runs them under the
-/// gate, or `../shared/vectors` from the repository's root.
+/// The folder of the outside vectors that a crate runs under the gate (`test_cases`, `test_traces` or `test_readings`): NYOKAZERUBI_VECTORS, or the data
+/// of that crate.
 pub fn vectors(kind: &str) -> PathBuf {
-    let root = Path::new(env!("CARGO_MANIFEST_DIR")).join("..");
-    let folders = match std::env::var_os("NYOKAZERUBI_VECTORS") {
-        Some(folder) => vec![PathBuf::from(folder)],
-        None => vec![root.join("crates").join(kind).join("data"), root.join("../shared/vectors")],
-    };
-    let found = folders.iter().find(|folder| folder.is_dir());
-    found.cloned().unwrap_or_else(|| panic!("no vectors in {folders:?}: set NYOKAZERUBI_VECTORS to their folder"))
+    let data = || Path::new(env!("CARGO_MANIFEST_DIR")).join("../crates").join(kind).join("data");
+    let folder = std::env::var_os("NYOKAZERUBI_VECTORS").map_or_else(data, PathBuf::from);
+    assert!(folder.is_dir(), "no vectors in {}: set NYOKAZERUBI_VECTORS to their folder", folder.display());
+    folder
 }
 
 /// All implementations, the definitions first. Another one is added here.
@@ -60,7 +57,7 @@ pub fn profile(sketch: &Sketch) -> Profile {
     }
 }
 
-/// The document's Three, with any cycle.
+/// The rules' Three, with any cycle.
 pub fn three(cycle: u32) -> Vec<u8> {
     Sketch {
         n: 3,
@@ -75,7 +72,7 @@ pub fn three(cycle: u32) -> Vec<u8> {
     .image()
 }
 
-/// The document's case 8.
+/// The rules' case 8.
 pub fn case_8() -> Vec<u8> {
     Sketch {
         n: 3,
@@ -90,7 +87,7 @@ pub fn case_8() -> Vec<u8> {
     .image()
 }
 
-/// The document's encoder.
+/// The rules' encoder.
 pub fn encoder() -> Vec<u8> {
     const MOTION: [(u32, u32); 8] = [
         (215, 1000),

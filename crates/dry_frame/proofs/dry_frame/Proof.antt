@@ -6,17 +6,15 @@ use Rattle.dry_frame.proofs.dry_frame.Statement.{statement}
 use Rattle.dry_frame.proofs.dry_frame.Tie as tie
 
 planning : (c : tie.After-plan) → let last = c .plan .last in
-    Planning (c .before .before .before .before .before .before .before .before .before .before .args .image .now) (last .1 .0) (last .1 .1 .1 .0) (last .1 .1 .0) (last .1 .1 .1 .1 .0) (c .plan .result)
+    Planning (c .before .before .before .before .before .before .before .before .before .before .args .image .now)
+    (record { order = last .1 .0; limits = last .1 .1 .0; worst = last .1 .1 .1 .0; bounds = last .1 .1 .1 .1 .0 }) (c .plan .result)
 planning c =
     let lengths = c .plan .kept .1 in
     record {
-      actions₀ = _;
-      limits₀ = _;
-      worst₀ = _;
-      bounds₀ = _;
+      before = _;
       plans = c .plan .ensures;
-      sized₀ = record { actions-room = search needs; limits-room = search needs; worst-room = search needs; bounds-room = search needs };
-      sized = record { actions-room = search needs; limits-room = search needs; worst-room = search needs; bounds-room = search needs };
+      sized₀ = record { order-room = search needs; limits-room = search needs; worst-room = search needs; bounds-room = search needs };
+      sized = record { order-room = search needs; limits-room = search needs; worst-room = search needs; bounds-room = search needs };
     }
 
 returns : tie.Need-returns
@@ -38,7 +36,7 @@ copy-front-requires : tie.Need-copy-front-requires
 copy-front-requires c κs =
     let e = c .before .before .before .before .before .before .before .before .before .before .before .before .before .before .before in
     let p = planning (e .before .before .before .before .before .before .before) in
-    (omega (arith, few (sound p (e .if1 .left)) .0, n-is p (e .if1 .left), p .sized .actions-room), c .before .before .before .before .before .before .before .before .before .before .before .before .before .before .if2 .left)
+    (omega (arith, few (sound p (e .if1 .left)) .0, n-is p (e .if1 .left), p .sized .order-room), c .before .before .before .before .before .before .before .before .before .before .before .before .before .before .if2 .left)
 
 returns-4 : tie.Need-returns-4
 returns-4 c =

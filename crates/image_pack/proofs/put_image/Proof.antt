@@ -1,7 +1,7 @@
 -- Assumes nothing.
 use native.Mathlib.Omega.{arith}
 use borrow.Author.Needs.{needs}
-use Rattle.rules.specs.Image.{of-tables, header-of, record-image, level-image, image-bytes}
+use Rattle.rules.specs.Image.{ProfileTables, of-tables, header-of, record-image, level-image, image-bytes}
 use Rattle.image_pack.proofs.Images.{image-written}
 use Rattle.image_pack.proofs.put_image.Statement.{statement}
 use Rattle.image_pack.proofs.put_image.Tie as tie
@@ -14,7 +14,8 @@ returns : tie.Need-returns
 unfolding of-tables header-of record-image level-image image-bytes
 returns c =
     let x = c .before .before .before .before .before .before .before .before .before .before .before .before .before .args in
-    image-written (of-tables (x .n) (x .levels) (x .cycle) (x .masks .now) (x .deadlines .now) (x .averages .now) (x .worst .now)) _ (omega arith)
+    let T : ProfileTables = record { masks = x .masks .now; deadlines = x .deadlines .now; averages = x .averages .now; worst = x .worst .now } in
+    image-written (of-tables (x .n) (x .levels) (x .cycle) T) _ (omega arith)
     (c .before .before .before .before .before .before .put-header .ensures) (c .before .before .put-records .ensures)
 
 pub put-image-spec : {M : Type 1} → statement M

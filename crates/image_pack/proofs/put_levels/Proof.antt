@@ -16,7 +16,11 @@ use Rattle.image_pack.proofs.put_levels.Tie as tie
 
 abbrev Inv-loop : tie.InvT-loop
 Inv-loop image₀ at levels averages worst a row q₀ image q =
-    (q ≤ levels) × (length image ≡ length image₀) × (image ≡ splice image₀ at (cat (level-image (of-records levels [] [] averages worst) a) q))
+    (q ≤ levels)
+    × (length image ≡ length image₀)
+    × (image
+    ≡ splice image₀ at
+    (cat (level-image (of-records levels (record { masks = []; deadlines = []; averages = averages; worst = worst })) a) q))
 
 abbrev μ-loop : tie.MeasureT-loop
 μ-loop image₀ at levels averages worst a row q₀ image q = levels - q
@@ -29,7 +33,7 @@ unfolding of-tables level-image
 loop-again c =
     let t = c .before .before .before .before .before .before .before in
     let x = t .before .before .before .before .args in
-    let F = of-records (x .levels) [] [] (x .averages .now) (x .worst .now) in (
+    let F = of-records (x .levels) (record { masks = []; deadlines = []; averages = x .averages .now; worst = x .worst .now }) in (
       search needs,
       search needs,
       cat-more (level-image F (x .a)) 6 (length-level F (x .a)) _ _ _ _ (omega arith) refl (t .loop .inv .2) (c .before .before .put-level .ensures),

@@ -3,7 +3,7 @@ use Prim.Native.Nat.{_+_, _*_, _≤_}
 use native.Mathlib.Omega.{arith}
 use lib.ListN.{length}
 use borrow.Author.Needs.{needs}
-use Rattle.rules.specs.Image.{of-tables, level-image}
+use Rattle.rules.specs.Image.{ProfileTables, of-tables, level-image}
 use Rattle.fields.proofs.Strides.{stride-more}
 use Rattle.image_pack.specs.Packing.{of-records}
 use Rattle.image_pack.proofs.Sizes.{record-end}
@@ -45,7 +45,8 @@ returns c =
     let second = c .before .before .before .before .before .before in
     let p = first .before .before .before in
     let x = past p .args in
-    record-written (of-records (x .levels) (x .masks .now) (x .deadlines .now) (x .averages .now) (x .worst .now)) _ (x .a) _
+    let T : ProfileTables = record { masks = x .masks .now; deadlines = x .deadlines .now; averages = x .averages .now; worst = x .worst .now } in
+    record-written (of-records (x .levels) T) _ (x .a) _
     (p .record-at .ensures) (past p .pre .1 .0) (first .put64 .kept .0) (first .put64 .ensures) (second .put32 .ensures) (c .before .before .put-levels .ensures)
 
 pub put-record-spec : {M : Type 1} → statement M

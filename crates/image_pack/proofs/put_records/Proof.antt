@@ -6,7 +6,7 @@ use lib.ListN.{length}
 use borrow.Author.Needs.{needs}
 use Rattle.rules.specs.Words.{cat}
 use Rattle.rules.specs.Numbers.{header-bytes}
-use Rattle.rules.specs.Image.{of-tables, record-bytes, record-at, record-image}
+use Rattle.rules.specs.Image.{ProfileTables, of-tables, record-bytes, record-at, record-image}
 use Rattle.fields.specs.Fields.{splice}
 use Rattle.fields.proofs.Cats.{cat-none, cat-more, cat-done}
 use Rattle.image_laws.proofs.Sizes.{length-record}
@@ -19,7 +19,9 @@ abbrev Inv-loop : tie.InvT-loop
 Inv-loop image₀ n levels masks deadlines averages worst a₀ image a =
     (a ≤ n)
     × (length image ≡ length image₀)
-    × (image ≡ splice image₀ header-bytes (cat (record-image (of-records levels masks deadlines averages worst)) a))
+    × (image
+    ≡ splice image₀ header-bytes
+    (cat (record-image (of-records levels (record { masks = masks; deadlines = deadlines; averages = averages; worst = worst }))) a))
 
 abbrev μ-loop : tie.MeasureT-loop
 μ-loop image₀ n levels masks deadlines averages worst a₀ image a = n - a
@@ -41,7 +43,8 @@ loop-again c =
     let t = c .before .before .before .before .before in
     let x = t .before .before .before .before .before .before .args in
     let a = t .loop .a in
-    let F = of-records (x .levels) (x .masks .now) (x .deadlines .now) (x .averages .now) (x .worst .now) in (
+    let T : ProfileTables = record { masks = x .masks .now; deadlines = x .deadlines .now; averages = x .averages .now; worst = x .worst .now } in
+    let F = of-records (x .levels) T in (
       search needs,
       search needs,
       cat-more (record-image F) (record-bytes (x .levels)) (length-record F) _ _ _ a

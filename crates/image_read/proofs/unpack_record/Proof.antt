@@ -15,15 +15,17 @@ stored l i {v} h e = set-splice l i v h ∙ ap (λ (y : ℕ). splice l i (y ∷ 
 
 returns : tie.Need-returns
 returns c =
-    let p = c .before .before .before .before in (
-      stored _ _ (omega arith) (p .before .before .before .before .mask-at .ensures),
-      (stored _ _ (omega arith) (p .before .before .before .deadline-at .ensures), p .unpack-row .ensures),
+    let p = c .before .before .before .before in
+    let room = p .before .before .before .before .before .before .before .before .before .before .pre .1 .0 in (
+      stored _ _ (room .0) (p .before .before .before .before .mask-at .ensures),
+      (stored _ _ (room .1) (p .before .before .before .deadline-at .ensures), p .take-row .ensures),
     )
 
 pub unpack-record-spec : {M : Type 1} → statement M
 unpack-record-spec =
     tie.close
     (tie.spec
+    (λ c. search needs)
     (λ c κs. search needs)
     (λ c. search needs)
     (λ c. search needs)

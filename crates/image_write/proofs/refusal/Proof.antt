@@ -7,14 +7,13 @@ use native.Mathlib.Omega.{arith}
 use borrow.Author.Needs.{needs}
 use borrow.Author.Tests.{leb-true}
 use Rattle.rules.specs.Numbers.{refused-range, refused-table, refused-loop, refused-unfit}
-use Rattle.rules.specs.Image.{Profile, image-bytes, of-tables}
-use Rattle.rules.specs.Refusals.{_when_, First, Count, Range, TimeOut, Table, Looped, Unfit, Tight, write-call}
-use Rattle.image_fields.proofs.Faults.{denied, some-fault, no-fault}
+use Rattle.rules.specs.Image.{Profile, ProfileTables, image-bytes, of-tables}
+use Rattle.rules.specs.Refusals.{_when_, First, Count, WriteFault, WriteRange, Table, Looped, Unfit, Tight, write-call}
+use Rattle.rules.proofs.Faults.{some-fault, no-fault}
+use Rattle.image_fields.proofs.Faults.{denied}
 use Rattle.image_pack.specs.Packing.{Roomy}
-use Rattle.image_write.specs.Faults.{RangeFault}
-use Rattle.image_write.specs.Writing.{table-rooms, rooms}
+use Rattle.image_write.specs.Writing.{table-rooms, write-rooms}
 use Rattle.image_write.proofs.Answers.{tight-and}
-use Rattle.image_write.proofs.Faults.{range-faults}
 use Rattle.image_write.proofs.Accepting.{counted, roomy}
 use Rattle.image_write.proofs.Judging.{masked, timed, judged}
 use Rattle.image_write.proofs.refusal.Statement.{statement}
@@ -22,15 +21,18 @@ use Rattle.image_write.proofs.refusal.Tie as tie
 
 -- ---- the tables' profile, what is lent, and the row from 6 on
 
+abbrev T : tie.Start → ProfileTables
+T s = let x = s .args in record { masks = x .masks .now; deadlines = x .deadlines .now; averages = x .averages .now; worst = x .worst .now }
+
 abbrev F : tie.Start → Profile
 F s =
     let x = s .args in
-    of-tables (x .n) (x .levels) (x .cycle) (x .masks .now) (x .deadlines .now) (x .averages .now) (x .worst .now)
+    of-tables (x .n) (x .levels) (x .cycle) (T s)
 
 abbrev Tables : tie.Start → List (ℕ × ℕ)
 Tables s =
     let x = s .args in
-    table-rooms (x .n) (x .levels) (x .masks .now) (x .deadlines .now) (x .averages .now) (x .worst .now)
+    table-rooms (x .n) (x .levels) (T s)
 
 abbrev Short : tie.Start → Type 0
 Short s = s .args .room < image-bytes (s .args .n) (s .args .levels)
@@ -38,10 +40,10 @@ Short s = s .args .room < image-bytes (s .args .n) (s .args .levels)
 abbrev Rooms : tie.Start → List (ℕ × ℕ)
 Rooms s =
     let x = s .args in
-    rooms (x .n) (x .levels) (x .masks .now) (x .deadlines .now) (x .averages .now) (x .worst .now) (x .room)
+    write-rooms (x .n) (x .levels) (T s) (x .room)
 
 abbrev Rest : tie.Start → ℕ → Type 0
-Rest s k = First (refused-range when (Range (F s) ⊎ TimeOut (F s)) ∷ refused-table when Table (F s) ∷ refused-loop when Looped (F s) ∷ refused-unfit when Unfit (F s) ∷ []) k
+Rest s k = First (refused-range when WriteRange (F s) ∷ refused-table when Table (F s) ∷ refused-loop when Looped (F s) ∷ refused-unfit when Unfit (F s) ∷ []) k
 
 -- a table is too short, or the image
 tight-says : (s : tie.Start) → (Tight (Tables s) ⊎ Short s) ↔ Tight (Rooms s)
@@ -70,14 +72,13 @@ not-17 c t =
     let fits : Short (past-17 c) → ⊥ = λ l. omega (arith, c .before .image-bytes .ensures) in
     ⊎-elim (tables-fit (c .before .before)) fits (tight-says (past-17 c) .1 t)
 
-in-range : (c : tie.Else4) (a : ℕ) → a < past-6 c .args .n → RangeFault (F (past-6 c)) a → ⊥
-in-range c a h f = no-fault (some-fault (c .before .range .ensures)) (c .if4 .left) (a, h, f)
-
-not-6 : (c : tie.Else4) → Range (F (past-6 c)) ⊎ TimeOut (F (past-6 c)) → ⊥
+not-6 : (c : tie.Else4) → WriteRange (F (past-6 c)) → ⊥
 unfolding of-tables
-not-6 c f =
-    let w = range-faults (F (past-6 c)) .1 f in
-    in-range c (w .0) (w .1) (w .2)
+not-6 c = no-fault (some-fault (c .before .range .ensures)) (c .if4 .left)
+
+in-range : (c : tie.Else4) (a : ℕ) → a < past-6 c .args .n → WriteFault (F (past-6 c)) a → ⊥
+unfolding of-tables
+in-range c a h f = not-6 c (a, h, f)
 
 not-7 : (c : tie.Else5) → Table (F (past-6 (c .before))) → ⊥
 unfolding of-tables
@@ -90,10 +91,10 @@ counts : (c : tie.Else1) → let x = past-3 c .args in (x .n ≤ 64) × (1 ≤ x
 unfolding of-tables
 counts c = counted _ _ _ (not-3 c)
 
-room : (c : tie.Else3) → let x = past-17 c .args in Roomy (x .n) (x .levels) (x .masks .now) (x .deadlines .now) (x .averages .now) (x .worst .now)
+room : (c : tie.Else3) → let x = past-17 c .args in Roomy (x .n) (x .levels) (T (past-17 c))
 room c =
     let k = counts (c .before .before .before .before) in
-    roomy _ _ _ _ _ _ (past-17 c .args .room) (not-17 c) (k .0) (k .2)
+    roomy _ _ _ (past-17 c .args .room) (not-17 c) (k .0) (k .2)
 
 -- ---- the needs
 
@@ -132,7 +133,7 @@ returns-4 : tie.Need-returns-4
 unfolding of-tables
 returns-4 c =
     let e = c .before .before .before in
-    rest e 6 (inl (range-faults (F (past-17 e)) .0 (some-fault (c .before .range .ensures) .0 (c .if4 .taken)), refl))
+    rest e 6 (inl (some-fault (c .before .range .ensures) .0 (c .if4 .taken), refl))
 
 returns-5 : tie.Need-returns-5
 unfolding of-tables
@@ -144,14 +145,14 @@ judge-requires : tie.Need-judge-requires
 judge-requires c κs =
     let e = c .before .before .before .before in
     let l = counts (e .before .before .before .before) .1 in
-    (masked _ _ _ _ _ _ _ (room e) (in-range (c .before)), timed _ _ _ _ _ _ _ (room e) (in-range (c .before)) l)
+    (masked _ _ _ _ (room e) (in-range (c .before)), timed _ _ _ _ (room e) (in-range (c .before)) l)
 
 returns-6 : tie.Need-returns-6
 unfolding of-tables
 returns-6 c =
     let e = c .before .before .before .before .before in
     let x = past-17 e .args in
-    let verdict = judged (x .n) (x .levels) (x .cycle) (x .masks .now) (x .deadlines .now) (x .averages .now) (x .worst .now) (c .judge .ensures) in
+    let verdict = judged (x .n) (x .levels) (x .cycle) (T (past-17 e)) (c .judge .ensures) in
     rest e _ (inr (not-6 (c .before .before), inr (not-7 (c .before), verdict .number)))
 
 pub refusal-spec : {M : Type 1} → statement M

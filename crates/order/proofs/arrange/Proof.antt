@@ -5,7 +5,7 @@ use borrow.Author.Needs.{needs}
 use lib.ListN.{getD}
 use Rattle.sets.proofs.Members.{members-le}
 use Rattle.order.specs.Arranged.{Parted}
-use Rattle.order.proofs.Waiting.{parted-start, parted-done}
+use Rattle.order.proofs.Waiting.{none-yet, parted-start, parted-done}
 use Rattle.order.proofs.Placing.{Placing, placing-start, counted, placing-more, placing-stuck, placing-whole}
 use Rattle.order.proofs.arrange.Statement.{statement}
 use Rattle.order.proofs.arrange.Tie as tie
@@ -45,7 +45,7 @@ release-requires c κs =
 loop-holds : tie.Need-loop-holds Inv-loop μ-loop
 loop-holds c =
     let start = c .before .before .before .before in
-    placing-start _ _ _ refl (c .release .ensures _ (start .pre) (parted-start _ _ (c .before .before .all-below .ensures)))
+    placing-start _ _ _ refl (λ j h. none-yet 64 j) (c .release .ensures _ (start .pre) (parted-start _ _ (c .before .before .all-below .ensures)))
 
 returns : tie.Need-returns Inv-loop μ-loop
 returns c =

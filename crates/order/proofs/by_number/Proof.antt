@@ -5,20 +5,20 @@ use native.Mathlib.Omega.{arith}
 use borrow.Author.Needs.{needs}
 use lib.Bits.{xor-lt}
 use Rattle.rules.specs.Image.{Profile, due}
-use Rattle.order.specs.Lent.{lent}
+use Rattle.order.specs.Lent.{lent-profile}
 use Rattle.order.proofs.Numbering.{Tested, tested-none, tested-more, by-number-none, by-number-end}
 use Rattle.order.proofs.by_number.Statement.{statement}
 use Rattle.order.proofs.by_number.Tie as tie
 
 abbrev Inv-loop : tie.InvT-loop
-Inv-loop masks deadlines cycle n first odd₀ a₀ odd a = (a ≤ n) × Tested (lent n cycle masks deadlines [] 0) first a odd
+Inv-loop masks deadlines cycle n first odd₀ a₀ odd a = (a ≤ n) × Tested (lent-profile n cycle masks deadlines [] 0) first a odd
 
 abbrev μ-loop : tie.MeasureT-loop
 μ-loop masks deadlines cycle n first odd₀ a₀ odd a = n - a
 
 -- the profile that the slices say
 abbrev said : tie.Start Inv-loop μ-loop → Profile
-said c = lent (c .args .n) (c .args .cycle) (c .args .masks .now) (c .args .deadlines .now) [] 0
+said c = lent-profile (c .args .n) (c .args .cycle) (c .args .masks .now) (c .args .deadlines .now) [] 0
 
 returns : tie.Need-returns Inv-loop μ-loop
 returns c = by-number-none (said (c .before .before .before)) (c .if1 .taken)

@@ -5,14 +5,14 @@ use native.Mathlib.Omega.{arith}
 use borrow.Author.Needs.{needs, scaled-fits}
 use lib.ListN.{length, getD}
 use Rattle.rules.specs.Image.{Profile, due}
-use Rattle.order.specs.Lent.{lent}
+use Rattle.order.specs.Lent.{lent-profile}
 use Rattle.order.proofs.Ending.{time-there, Ending, ending-start, ending-more, tells-yes, tells-no}
 use Rattle.order.proofs.fit.Statement.{statement}
 use Rattle.order.proofs.fit.Tie as tie
 
 abbrev Inv-loop : tie.InvT-loop
 Inv-loop order deadlines cycle worst stride n end₀ k₀ end k =
-    (k ≤ n) × Ending (due (lent n cycle [] deadlines [] 0)) (λ a. getD worst (a * stride) 0) order k end
+    (k ≤ n) × Ending (due (lent-profile n cycle [] deadlines [] 0)) (λ a. getD worst (a * stride) 0) order k end
 
 abbrev μ-loop : tie.MeasureT-loop
 μ-loop order deadlines cycle worst stride n end₀ k₀ end k = n - k
@@ -22,7 +22,7 @@ loop-holds c = (omega arith, ending-start _ _ _)
 
 -- the profile that the slices say, with any masks
 abbrev said : tie.Start Inv-loop μ-loop → List ℕ → Profile
-said c masks = lent (c .args .n) (c .args .cycle) masks (c .args .deadlines .now) (c .args .worst .now) (c .args .stride)
+said c masks = lent-profile (c .args .n) (c .args .cycle) masks (c .args .deadlines .now) (c .args .worst .now) (c .args .stride)
 
 -- the action at the position is one of the n, and its worst time stands in the slice
 present : (c : tie.In-loop Inv-loop μ-loop)

@@ -1,6 +1,6 @@
 use borrow.Author.Needs.{needs}
 use Rattle.rules.specs.Image.{Profile}
-use Rattle.order.specs.Lent.{lent}
+use Rattle.order.specs.Lent.{lent-profile}
 use Rattle.order.specs.Judged.{Ordered}
 use Rattle.order.proofs.Judging.{ordered-timed, verdict-loop, listed-below, verdict-fit, verdict-unfit}
 use Rattle.order.proofs.judge.Statement.{statement}
@@ -8,7 +8,7 @@ use Rattle.order.proofs.judge.Tie as tie
 
 -- the profile that the slices say
 abbrev said : tie.Start → Profile
-said c = lent (c .args .n) (c .args .cycle) (c .args .masks .now) (c .args .deadlines .now) (c .args .worst .now) (c .args .stride)
+said c = lent-profile (c .args .n) (c .args .cycle) (c .args .masks .now) (c .args .deadlines .now) (c .args .worst .now) (c .args .stride)
 
 known : (c : tie.After-ordered) → Ordered (said (c .before .before .before .before)) (c .ordered .result .placed) (c .ordered .result .order)
 known c =

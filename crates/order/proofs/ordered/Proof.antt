@@ -1,4 +1,3 @@
-use native.Mathlib.Omega.{arith}
 use borrow.Author.Needs.{needs}
 use Rattle.order.proofs.Judging.{ordered-placed}
 use Rattle.order.proofs.Numbering.{ordered-numbers}
@@ -7,9 +6,7 @@ use Rattle.order.proofs.ordered.Tie as tie
 
 returns : tie.Need-returns
 returns c =
-    let told = c .before .before in
-    let few = told .before .before .before .pre .0 .few in
-    ordered-numbers (told .by-number .ensures .0 (c .before .if1 .taken)) (λ k l. c .numbers .ensures k (omega arith))
+    ordered-numbers (c .before .before .by-number .ensures .0 (c .before .if1 .taken)) (c .numbers .ensures .0) (c .numbers .ensures .1)
 
 returns-2 : tie.Need-returns-2
 returns-2 c =

@@ -1,23 +1,23 @@
 use mathlib.Core.Path.{sym, _∙_}
-use Prim.Native.Nat.{ℕ, _-_, _≤_, _<_}
-use native.Mathlib.Nat.{le-refl, lt-irrefl}
+use Prim.Native.Nat.{_-_, _≤_}
 use native.Mathlib.Omega.{arith}
-use borrow.Author.Count.{below-more}
+use borrow.Author.Count.{below-none, below-more}
 use borrow.Author.Needs.{needs}
-use Rattle.rules.specs.Order.{MustFollow}
-use Rattle.sets.specs.Sets.{before}
+use Rattle.rules.specs.Order.{OnLoop}
+use Rattle.rules.proofs.Faults.{Faultless, lowest-here, lowest-none}
+use Rattle.sets.specs.Sets.{comes-before}
 use Rattle.order_loops.proofs.Closing.{looped-yes, looped-no}
 use Rattle.order_loops.proofs.first_looped.Statement.{statement}
 use Rattle.order_loops.proofs.first_looped.Tie as tie
 
 abbrev Inv-loop : tie.InvT-loop
-Inv-loop masks n all a₀ a = (a ≤ n) × ((j : ℕ) → j < a → MustFollow n (before masks) j j → ⊥)
+Inv-loop masks n all a₀ a = (a ≤ n) × Faultless (OnLoop n (comes-before masks)) a
 
 abbrev μ-loop : tie.MeasureT-loop
 μ-loop masks n all a₀ a = n - a
 
 loop-holds : tie.Need-loop-holds Inv-loop μ-loop
-loop-holds c = (omega arith, λ j l. absurd (omega arith))
+loop-holds c = (omega arith, below-none _)
 
 mul-member : tie.Need-mul-member Inv-loop μ-loop
 mul-member c = record { fits = omega arith }
@@ -25,11 +25,8 @@ mul-member c = record { fits = omega arith }
 returns : tie.Need-returns Inv-loop μ-loop
 returns c =
     let at = c .before .before .before in
-    record {
-      most = at .loop .inv .0;
-      loops = λ l. looped-yes _ (at .before .closed .ensures) l (sym (c .before .member .ensures) ∙ c .if1 .taken);
-      lowest = at .loop .inv .1;
-    }
+    let l = c .before .before .loop-test .taken in
+    lowest-here l (at .loop .inv .1) (looped-yes _ (at .before .closed .ensures) l (sym (c .before .member .ensures) ∙ c .if1 .taken))
 
 loop-again : tie.Need-loop-again Inv-loop μ-loop
 loop-again c =
@@ -40,7 +37,7 @@ loop-again c =
     )
 
 returns-2 : tie.Need-returns-2 Inv-loop μ-loop
-returns-2 c = record { most = le-refl _; loops = λ l. absurd (lt-irrefl _ l); lowest = λ a l. c .before .loop .inv .1 a (omega arith) }
+returns-2 c = lowest-none (omega arith) (c .before .loop .inv .1)
 
 pub first-looped-spec : {M : Type 1} → statement M
 first-looped-spec =

@@ -5,13 +5,13 @@ use native.Mathlib.Omega.{arith}
 use borrow.Author.Needs.{needs}
 use lib.ListN.{length, length-set}
 use Rattle.rules.specs.Image.{due}
-use Rattle.order_urgency.specs.Lent.{lent}
+use Rattle.order_urgency.specs.Lent.{lent-profile}
 use Rattle.sets.proofs.Lists.{Filled, filled-more}
 use Rattle.order_urgency.proofs.dues.Statement.{statement}
 use Rattle.order_urgency.proofs.dues.Tie as tie
 
 abbrev Inv-loop : tie.InvT-loop
-Inv-loop deadlines cycle n u₀ a₀ u a = (a ≤ n) × (length u ≡ 64) × Filled (due (lent n cycle [] deadlines [] 0)) a u
+Inv-loop deadlines cycle n u₀ a₀ u a = (a ≤ n) × (length u ≡ 64) × Filled (due (lent-profile n cycle [] deadlines [] 0)) a u
 
 abbrev μ-loop : tie.MeasureT-loop
 μ-loop deadlines cycle n u₀ a₀ u a = n - a

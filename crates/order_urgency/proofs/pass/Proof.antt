@@ -3,13 +3,13 @@ use Prim.Native.Nat.{_≤_}
 use native.Mathlib.Nat.{le-refl}
 use native.Mathlib.Omega.{arith}
 use borrow.Author.Needs.{needs}
-use Rattle.order_urgency.specs.Spread.{Passed}
+use Rattle.order_urgency.specs.Spread.{PassedDown}
 use Rattle.order_urgency.proofs.Spread.{passed-none, passed-late, passed-early}
 use Rattle.order_urgency.proofs.pass.Statement.{statement}
 use Rattle.order_urgency.proofs.pass.Tie as tie
 
 abbrev Inv-loop : tie.InvT-loop
-Inv-loop masks n u₀ again₀ a₀ u again a = (a ≤ n) × Passed n a masks u₀ u again
+Inv-loop masks n u₀ again₀ a₀ u again a = (a ≤ n) × PassedDown n a masks u₀ u again
 
 abbrev μ-loop : tie.MeasureT-loop
 μ-loop masks n u₀ again₀ a₀ u again a = a

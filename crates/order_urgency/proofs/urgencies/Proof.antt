@@ -4,14 +4,14 @@ use Prim.Native.Nat.{_+_}
 use native.Mathlib.Omega.{arith}
 use Rattle.rules.specs.Words.{one-if}
 use Rattle.rules.specs.Image.{due}
-use Rattle.order_urgency.specs.Lent.{lent}
+use Rattle.order_urgency.specs.Lent.{lent-profile}
 use Rattle.order_urgency.specs.Spread.{total}
 use Rattle.order_urgency.proofs.Spread.{Spreading, spreading-start, spreading-more, spreading-end, passed-falls}
 use Rattle.order_urgency.proofs.urgencies.Statement.{statement}
 use Rattle.order_urgency.proofs.urgencies.Tie as tie
 
 abbrev Inv-loop : tie.InvT-loop
-Inv-loop masks deadlines cycle n u₀ again₀ u again = Spreading n masks (due (lent n cycle masks deadlines [] 0)) u again
+Inv-loop masks deadlines cycle n u₀ again₀ u again = Spreading n masks (due (lent-profile n cycle masks deadlines [] 0)) u again
 
 abbrev μ-loop : tie.MeasureT-loop
 μ-loop masks deadlines cycle n u₀ again₀ u again = total u + one-if again

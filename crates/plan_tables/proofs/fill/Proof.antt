@@ -1,7 +1,8 @@
 -- Assumes nothing.
+use native.Mathlib.Omega.{arith}
 use borrow.Author.Needs.{needs}
 use Rattle.plan_tables.proofs.Working.{records}
-use Rattle.plan_tables.proofs.Filling.{filled-written}
+use Rattle.plan_tables.proofs.Filling.{all-filled}
 use Rattle.plan_tables.proofs.fill.Statement.{statement}
 use Rattle.plan_tables.proofs.fill.Tie as tie
 
@@ -9,13 +10,13 @@ copy-front-requires : tie.Need-copy-front-requires
 copy-front-requires c κs =
     let start = c .before .before .before .before .before in
     let few = records (start .pre .0 .1) .few-actions in
-    (search needs, start .pre .1 .0 .0)
+    (search needs, omega (arith, start .pre .1 .0))
 
 returns : tie.Need-returns
 returns c o g =
     let worked = c .before .before .before .before in
     let stored = worked .before .before .before .before .before .before in
-    filled-written g _ _ _ _ (stored .copy-front .ensures) (worked .work .ensures o g)
+    all-filled g _ _ (stored .copy-front .ensures) (worked .work .ensures o g)
 
 pub fill-spec : {M : Type 1} → statement M
 fill-spec =

@@ -1,5 +1,6 @@
 -- Before a turn the positions from i on are worked, by whichever order the actions are in. Assumes nothing.
 use mathlib.Core.Path.{_≡_, _∙_}
+use mathlib.Core.List.{[]}
 use Prim.Native.Nat.{_-_, _*_, _+_, _≤_}
 use native.Mathlib.Nat.{mul-le-mul}
 use native.Mathlib.Omega.{arith}
@@ -13,7 +14,7 @@ use Rattle.fields.proofs.Strides.{stride-fits}
 use Rattle.image_fields.specs.Reading.{HasRecord}
 use Rattle.plan_entry.proofs.Limits.{row-small}
 use Rattle.plan_entry.proofs.Sixteens.{sixteen-spares}
-use Rattle.plan_tables.specs.Filling.{Given}
+use Rattle.plan_tables.specs.Filling.{PlanInput}
 use Rattle.plan_tables.proofs.Working.{Back, records, lawful, present, position, back-none, back-more, back-done}
 use Rattle.plan_tables.proofs.work.Statement.{statement}
 use Rattle.plan_tables.proofs.work.Tie as tie
@@ -24,8 +25,9 @@ Inv-loop image n levels cycle actions limits₀ worst₀ bounds₀ entries next�
     × (length limits ≡ length limits₀)
     × (length worst ≡ length worst₀)
     × (length bounds ≡ length bounds₀)
-    × ((o : Order (profile image .n)) → Given image n levels cycle actions o
-    → Back (tables (profile image) o) n levels limits₀ worst₀ bounds₀ i next limits worst bounds)
+    × ((o : Order (profile image .n)) → PlanInput image n levels cycle actions o
+    → Back (tables (profile image) o) n levels (record { order = []; limits = limits₀; worst = worst₀; bounds = bounds₀ }) i next
+    (record { order = []; limits = limits; worst = worst; bounds = bounds }))
 
 abbrev μ-loop : tie.MeasureT-loop
 μ-loop image n levels cycle actions limits₀ worst₀ bounds₀ entries next₀ i₀ limits worst bounds next i = i
@@ -51,7 +53,7 @@ mul-entries c =
     omega (arith, mul-le-mul (has .few-actions) (has .few-levels))
 
 loop-holds : tie.Need-loop-holds Inv-loop μ-loop
-loop-holds c = (search needs, search needs, search needs, search needs, λ o g. back-none (lawful g (bytes c)) _ _ _ (c .after-last .ensures))
+loop-holds c = (search needs, search needs, search needs, search needs, λ o g. back-none (lawful g (bytes c)) _ (c .after-last .ensures))
 
 element-copy-out-a : tie.Need-element-copy-out-a Inv-loop μ-loop
 element-copy-out-a c = omega (arith, records (c .before .before .before .before .before .pre .0 .1) .few-actions)
@@ -81,11 +83,13 @@ work-row-requires c κs =
     record {
       present = action in-loop;
       small = row-small S (i - 1) i (omega arith) (t .loop .inv .0) (was .worked .row) at;
-      spares = λ q k c. sixteen-spares S (s .args .bounds .now) (room .2) (i - 1) i (omega arith) (t .loop .inv .0) (was .bounded) q c (at .worsts q c) k;
+      spares = λ q k c. sixteen-spares S (s .args .bounds .now) (room .bounds-room) (i - 1) i (omega arith) (t .loop .inv .0) (was .bounded) q c (at .worsts q c) k;
       inside = inside in-loop;
-      limits-room = omega (arith, room .0, t .loop .inv .1);
-      worst-room = omega (arith, room .1, t .loop .inv .2);
-      bounds-room = omega (arith, room .2, t .loop .inv .3);
+      room = record {
+        limits-room = omega (arith, room .limits-room, t .loop .inv .1);
+        worst-room = omega (arith, room .worst-room, t .loop .inv .2);
+        bounds-room = omega (arith, room .bounds-room, t .loop .inv .3);
+      };
     }
 
 loop-again : tie.Need-loop-again Inv-loop μ-loop
@@ -99,14 +103,14 @@ loop-again c =
       done .kept .1 .1 .1 .1 .1 .1 .1 .0 ∙ t .loop .inv .1,
       done .kept .1 .1 .1 .1 .1 .1 .1 .1 .0 ∙ t .loop .inv .2,
       done .kept .1 .1 .1 .1 .1 .1 .1 .1 .1 .0 ∙ t .loop .inv .3,
-      λ o g. back-more (lawful g (bytes (t .before))) _ _ _ (i - 1) i (omega arith) (t .loop .inv .0) (room .0) (room .1) (room .2) (t .loop .inv .4 o g)
+      λ o g. back-more (lawful g (bytes (t .before))) _ (i - 1) i (omega arith) (t .loop .inv .0) room (t .loop .inv .4 o g)
           (position g (i - 1) (omega arith) due) (done .ensures),
     )
 
 returns : tie.Need-returns Inv-loop μ-loop
 returns c o g =
     let t = c .before in
-    back-done (lawful g (bytes (t .before))) _ _ _ (t .loop .i) (omega arith) (t .loop .inv .4 o g)
+    back-done o _ (t .loop .i) (omega arith) (lawful g (bytes (t .before))) (t .loop .inv .4 o g)
 
 pub work-spec : {M : Type 1} → statement M
 work-spec =

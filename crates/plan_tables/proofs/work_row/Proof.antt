@@ -13,7 +13,7 @@ use Rattle.rules.specs.Image.{average-of, worst-of}
 use Rattle.fields.specs.Fields.{splice}
 use Rattle.fields.proofs.Cats.{cat-none, cat-more, cat-done, length-cat}
 use Rattle.fields.proofs.Tabs.{tab-more, length-tab}
-use Rattle.plan_entry.specs.Rows.{limits-of, eight}
+use Rattle.plan_entry.specs.Rows.{limits-of, row-of-eight}
 use Rattle.plan_entry.specs.Bounds.{bounds-by, bound-in, Spares}
 use Rattle.plan_entry.proofs.Signed.{as-is}
 use Rattle.plan_entry.proofs.Coast.{bounds-stored}
@@ -52,7 +52,7 @@ kept c =
     let done = length-cat (sixteens (a .image .now) (a .levels) (a .a) (a .due) (a .t5) (a .from) (a .entries) (a .bounds .now)) 16
     (λ p. ap suc (length-tab _ 15)) (t .q) in
     bound-kept (a .bounds .now) _ (a .from * 16) (a .entries) (a .from + t .q + a .levels)
-    (omega (arith, done, s .pre .inside, s .pre .bounds-room)) (omega (arith, done)) (t .inv .8)
+    (omega (arith, done, s .pre .inside, s .pre .room .bounds-room)) (omega (arith, done)) (t .inv .8)
 
 loop-holds : tie.Need-loop-holds Inv-loop μ-loop
 loop-holds c =
@@ -75,7 +75,7 @@ bounds-of-requires c κs =
     let s = in-loop .before .before .before .before in
     let t = in-loop .before .loop in
     let longest = c .before .before .before .before .worst-at .ensures in (
-      (omega (arith, s .pre .inside), s .pre .present .few-levels, omega (arith, s .pre .bounds-room, t .inv .4)),
+      (omega (arith, s .pre .inside), s .pre .present .few-levels, omega (arith, s .pre .room .bounds-room, t .inv .4)),
       (λ k h. rw (kept in-loop k) (subst (λ (w : ℕ). Spares w (bound-in (s .args .bounds .now) (s .args .entries) (s .args .from + t .q + s .args .levels) k))
           (sym longest) (s .pre .spares (t .q) k (omega arith) h))),
     )
@@ -103,22 +103,22 @@ loop-again c =
     let done = c .before .bounds-of in
     let few = s .pre .present .few-levels in
     let inside = s .pre .inside in
-    let room = s .pre .bounds-room in (
+    let room = s .pre .room in (
       search needs,
       search needs,
       search needs,
       search needs,
       done .kept .1 .1 .1 .1 .1 .0 ∙ t .inv .4,
       tab-more _ _ 0 (t .q) (t .q) (omega arith) (omega arith) (t .inv .1) limit (t .inv .5),
-      tab-more _ _ (a .from) (a .from + t .q) (t .q) (omega (arith, s .pre .limits-room)) (omega arith) (t .inv .2) limit (t .inv .6),
-      tab-more _ _ (a .from) (a .from + t .q) (t .q) (omega (arith, s .pre .worst-room)) (omega arith) (t .inv .3) longest (t .inv .7),
+      tab-more _ _ (a .from) (a .from + t .q) (t .q) (omega (arith, room .limits-room)) (omega arith) (t .inv .2) limit (t .inv .6),
+      tab-more _ _ (a .from) (a .from + t .q) (t .q) (omega (arith, room .worst-room)) (omega arith) (t .inv .3) longest (t .inv .7),
       cat-more (sixteens (a .image .now) (a .levels) (a .a) (a .due) (a .t5) (a .from) (a .entries) (a .bounds .now)) 16
           (λ p. ap suc (length-tab _ 15)) (a .bounds .now) (a .from * 16) ((a .from + t .q) * 16) (t .q) (omega arith) (omega arith) (t .inv .8)
           (bounds-stored (t .bounds) ((a .from + t .q) * 16) limit longest (λ k h. kept in-loop k) (done .ensures)),
     )
 
 returns : tie.Need-returns Inv-loop μ-loop
-unfolding eight
+unfolding row-of-eight
 returns c =
     let a = c .before .before .before .before .args in
     let t = c .before .loop in

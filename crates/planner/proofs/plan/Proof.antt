@@ -1,6 +1,6 @@
 -- Assumes nothing.
 use borrow.Author.Needs.{needs}
-use Rattle.planner.proofs.Answers.{refused-plans, some-given, has-room, all-written}
+use Rattle.planner.proofs.Answers.{refused-plans, some-input, has-room, all-written}
 use Rattle.planner.proofs.plan.Statement.{statement}
 use Rattle.planner.proofs.plan.Tie as tie
 
@@ -15,7 +15,7 @@ fill-requires c κs =
     let admits = else1 .before .before .before .with-room .ensures in
     let none = else1 .if1 .left in
     let room = has-room admits none in
-    (some-given admits none, ((room .order-room, room .limits-room), (room .worst-room, room .bounds-room)))
+    (some-input admits none, (room .order-room, room .entries-room))
 
 returns-2 : tie.Need-returns-2
 returns-2 c =

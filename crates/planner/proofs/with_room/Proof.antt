@@ -6,7 +6,7 @@ use Rattle.planner.proofs.with_room.Statement.{statement}
 use Rattle.planner.proofs.with_room.Tie as tie
 
 returns : tie.Need-returns
-returns c = image-refused (c .before .before .checked .ensures) _ _ _ _ (c .if1 .taken)
+returns c = image-refused (c .before .before .checked .ensures) _ (c .if1 .taken)
 
 tight-requires : tie.Need-tight-requires
 tight-requires c κs =
@@ -16,7 +16,7 @@ tight-requires c κs =
 returns-2 : tie.Need-returns-2
 returns-2 c =
     let else1 = c .before in
-    room-judged (else1 .before .before .checked .ensures) _ _ _ _ (else1 .if1 .left) (c .tight .ensures)
+    room-judged (else1 .before .before .checked .ensures) _ (else1 .if1 .left) (c .tight .ensures)
 
 pub with-room-spec : {M : Type 1} → statement M
 with-room-spec = tie.close (tie.spec (λ c κs. search needs) returns tight-requires returns-2)

@@ -1,9 +1,10 @@
 -- Assumes nothing.
-use mathlib.Core.Path.{_≡_}
-use Prim.Native.Nat.{_+_, _-_, _≤_}
+use mathlib.Core.Path.{_≡_, ap, _∙_}
+use Prim.Native.Nat.{ℕ, _+_, _-_, _≤_}
 use lib.ListN.{length}
+use native.Mathlib.Nat.{add-comm}
 use native.Mathlib.Omega.{arith}
-use denote.Ref.{now}
+use denote.Ref.{ptr, now}
 use borrow.Author.Needs.{needs}
 use Rattle.profile.proofs.Parts.{placed-within, placed-part}
 use Rattle.profile.proofs.lookup.Statement.{statement}
@@ -29,8 +30,13 @@ part-result-end c =
 returns : tie.Need-returns
 returns c =
     let at = c .before .before .lookup-place in
-    let size : at .result .start + at .result .length - at .result .start ≡ at .result .length = omega arith in
-    record { refusal = at .result .refusal .number; given = at .ensures .given; is = rw size (placed-part _ _ (at .ensures)) }
+    let whole = ptr (c .before .before .before .before .args .image) in
+    let size : at .result .start + at .result .length - at .result .start ≡ at .result .length = omega arith in record {
+      refusal = at .result .refusal .number;
+      given = at .ensures .given;
+      is = rw size (placed-part _ _ (at .ensures));
+      lies = ap (λ (offset : ℕ). (whole .0, offset)) (add-comm _ _ ∙ ap (λ (from : ℕ). whole .1 + from) (at .ensures .start));
+    }
 
 pub lookup-spec : {M : Type 1} → statement M
 lookup-spec = tie.close (tie.spec (λ c κs. search needs) add-end (λ c. search needs) (λ c. search needs) part-result-end returns)

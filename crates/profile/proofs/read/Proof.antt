@@ -6,13 +6,13 @@ use native.Mathlib.Omega.{arith}
 use denote.Ref.{now}
 use borrow.Author.Needs.{needs}
 use Rattle.rules.specs.Numbers.{refused-room}
-use Rattle.rules.specs.Image.{profile}
+use Rattle.rules.specs.Image.{ProfileTables, profile}
 use Rattle.rules.specs.Refusals.{Ground, _when_, First, Tight, Accepted, image-call}
 use Rattle.image_check.specs.Checks.{Found}
 use Rattle.image_fields.specs.Reading.{HasRecords}
 use Rattle.image_check.proofs.Answers.{accepted-records}
 use Rattle.image_fields.proofs.Faults.{denied}
-use Rattle.profile.specs.Calls.{rooms}
+use Rattle.image_write.specs.Writing.{table-rooms}
 use Rattle.profile.proofs.Answers.{image-refusal, own-refusal, no-refusal, judged-accepted, found-rooms, has-room, refused-reads, accepted-reads}
 use Rattle.profile.proofs.read.Statement.{statement}
 use Rattle.profile.proofs.read.Tie as tie
@@ -22,13 +22,15 @@ use Rattle.profile.proofs.read.Tie as tie
 abbrev start : tie.After-checked → tie.Start
 start c = c .before .before .before .before .before .before
 
+abbrev T : tie.Start → ProfileTables
+T s = let x = s .args in record { masks = x .masks .now; deadlines = x .deadlines .now; averages = x .averages .now; worst = x .worst .now }
+
 abbrev image : tie.After-checked → List ℕ
 image c = now (start c .args .image)
 
 abbrev Short : tie.After-checked → ℕ → ℕ → Type 0
 Short c n L =
-    let x = start c .args in
-    Tight (rooms n L (x .masks .now) (x .deadlines .now) (x .averages .now) (x .worst .now))
+    Tight (table-rooms n L (T (start c)))
 
 abbrev room : tie.After-checked → Ground
 room c = refused-room when Short c (profile (image c) .n) (profile (image c) .levels)
@@ -50,8 +52,7 @@ records c = accepted-records (past c .checked .ensures) (c .if1 .left)
 -- a slice is too short by the counts that the check answered exactly if it is by the profile's
 says : (c : tie.Else1) → let x = past c .checked .result in Short (past c) (x .n) (x .levels) ↔ room (past c) .holds
 says c =
-    let x = start (past c) .args in
-    found-rooms (x .masks .now) (x .deadlines .now) (x .averages .now) (x .worst .now) (found c)
+    found-rooms (T (start (past c))) (found c)
 
 -- ---- past the test for 17
 
@@ -63,9 +64,8 @@ not-tight c = denied (c .before .tight .ensures) (c .if2 .left)
 
 given : (c : tie.Else2)
     → let p = past (one (c .before)) in
-    let x = start p .args in
     let F = profile (image p) in
-    First (image-call (image p) (rooms (F .n) (F .levels) (x .masks .now) (x .deadlines .now) (x .averages .now) (x .worst .now))) 0
+    First (image-call (image p) (table-rooms (F .n) (F .levels) (T (start p)))) 0
 given c =
     let e = one (c .before) in
     no-refusal (image (past e)) (room (past e)) (accepted e) (λ h. not-tight c (says e .1 h))
@@ -94,9 +94,8 @@ unpack-requires : tie.Need-unpack-requires
 unpack-requires c κs =
     let two = c .before .before .before .before in
     let p = past (one (two .before)) in
-    let x = start p .args in
     let r = p .checked .result in
-    let h = has-room (r .n) (r .levels) (x .masks .now) (x .deadlines .now) (x .averages .now) (x .worst .now) (not-tight two) in
+    let h = has-room (r .n) (r .levels) (T (start p)) (not-tight two) in
     (records (one (two .before)), ((h .masks, h .deadlines), (h .averages, h .worst)))
 
 returns-3 : tie.Need-returns-3

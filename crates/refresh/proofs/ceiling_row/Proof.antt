@@ -4,6 +4,7 @@ use mathlib.Core.Path.{_≡_, ap}
 use native.Mathlib.Omega.{arith}
 use lib.ListN.{length, length-set}
 use borrow.Author.Needs.{needs}
+use Rattle.rules.specs.Numbers.{most-levels}
 use Rattle.rules.specs.Words.{tab}
 use Rattle.rules.specs.Image.{worst-of}
 use Rattle.fields.specs.Fields.{splice}
@@ -16,7 +17,7 @@ use Rattle.refresh.proofs.ceiling_row.Tie as tie
 
 abbrev Inv-loop : tie.InvT-loop
 Inv-loop image levels a ceilings₀ q₀ ceilings q =
-    (q ≤ levels) × (length ceilings ≡ length ceilings₀) × (ceilings ≡ splice ceilings₀ (a * 8) (tab (λ q. worst-of image a q + 1) q))
+    (q ≤ levels) × (length ceilings ≡ length ceilings₀) × (ceilings ≡ splice ceilings₀ (a * most-levels) (tab (λ q. worst-of image a q + 1) q))
 
 abbrev μ-loop : tie.MeasureT-loop
 μ-loop image levels a ceilings₀ q₀ ceilings q = levels - q

@@ -10,7 +10,7 @@ use Rattle.rules.specs.Image.{levels, record-bytes, record-at, profile, level-i
 use Rattle.rules.specs.Refresh.{measured, new-average, refreshed}
 use Rattle.fields.specs.Fields.{splice}
 use Rattle.fields.proofs.Cats.{cat-none, cat-done}
-use Rattle.trace.specs.Measure.{Weighs, raised-below}
+use Rattle.trace.specs.Trace.{Weighs, raised-below}
 use Rattle.trace.proofs.Averages.{raised-next}
 use Rattle.refresh.specs.Refresh.{Copied}
 use Rattle.refresh.proofs.Records.{held, level-more, levels-all}

@@ -6,7 +6,7 @@ use borrow.Author.Tests.{ne-eqb}
 use Rattle.rules.specs.Image.{profile}
 use Rattle.rules.specs.Refusals.{image-checks}
 use Rattle.rules.proofs.Refusals.{first-stops}
-use Rattle.refresh.specs.Refresh.{own}
+use Rattle.refresh.specs.Refresh.{own-grounds}
 use Rattle.refresh.proofs.refresh.Statement.{statement}
 use Rattle.refresh.proofs.refresh.Tie as tie
 
@@ -14,7 +14,7 @@ returns : tie.Need-returns
 returns c =
     let x = c .before .before .before .before .before .before .before .args in
     let s = now (x .image) in
-    let rest = own (profile s) (now (x .trace)) (length s) (length (now (x .out))) in
+    let rest = own-grounds (profile s) (now (x .trace)) (length s) (length (now (x .out))) in
     let r = c .before .before .before .checked in
     let some = ne-eqb (r .result .refusal .number) 0 (c .if1 .taken) in
     record { given = first-stops (image-checks s) rest _ (r .ensures .number) (c .if1 .taken); written = rw some; count = rw some }

@@ -12,7 +12,7 @@ use Rattle.rules.specs.Refresh.{refreshed}
 use Rattle.fields.specs.Fields.{splice}
 use Rattle.fields.proofs.Cats.{cat-none, cat-done}
 use Rattle.image_fields.proofs.Reading.{has-record}
-use Rattle.trace.specs.Measure.{Weighs}
+use Rattle.trace.specs.Trace.{Weighs}
 use Rattle.refresh.specs.Refresh.{Copied}
 use Rattle.refresh.proofs.Records.{record-more}
 use Rattle.refresh.proofs.renew.Statement.{statement}

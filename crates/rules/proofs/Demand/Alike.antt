@@ -46,7 +46,7 @@ module _ {cap : ℕ} {P Q : Plan} (A : Alike cap P Q) (some : 0 < P .levels) whe
   unfolding level-given
   level-low t i = last-is (λ q. leZ (pos t) (P .limit i q)) (P .levels) .below some
 
-  fits-alike : (t i : ℕ) → i < P .n → fits P t i ≡ fits Q t i
+  pub fits-alike : (t i : ℕ) → i < P .n → fits P t i ≡ fits Q t i
   unfolding fits
   fits-alike t i l =
       ap (leZ (pos t)) (A .limit i (level-given P t i) l (level-low t i)) ∙ ap (λ (q : ℕ). leZ (pos t) (Q .limit i q)) (level-alike t i l)
@@ -101,7 +101,7 @@ module _ {cap : ℕ} {P Q : Plan} (A : Alike cap P Q) (some : 0 < P .levels) whe
         late = r .late || not f;
       }
 
-  given-alike : (r : Run) → r .position < P .n → given cap P r ≡ given cap Q r
+  pub given-alike : (r : Run) → r .position < P .n → given cap P r ≡ given cap Q r
   unfolding given
   given-alike r l = ap (λ (s : Run). cond (decides r) s (coast r)) (decide-alike r l)
 

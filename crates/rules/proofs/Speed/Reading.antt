@@ -17,11 +17,12 @@ use Rattle.rules.specs.Numbers.{last-clock, longest-time}
 use Rattle.rules.specs.Image.{Profile, due, be, levels, record-at, average-of, worst-of, profile}
 use Rattle.rules.specs.Order.{Order}
 use Rattle.rules.specs.Limits.{Tables, tables, average, margin, mixed}
-use Rattle.rules.specs.Refusals.{Count, Range, TimeOut}
+use Rattle.rules.specs.Refusals.{Count, Range}
 use Rattle.rules.specs.Speed.{ratio, spent, quotient, room, reading-by, reading, at-most-one}
 use Rattle.rules.proofs.Differences.{not-below, below, take-both, not-above, same-leb, at-most-difference}
 use Rattle.rules.proofs.Terms.{sum-within}
 use Rattle.rules.proofs.Refusals.{Sound}
+use Rattle.rules.proofs.Faults.{TimeOut}
 use Rattle.rules.proofs.Speed.Quotient.{ratio-test}
 
 -- ---- spent, or a ratio

@@ -46,4 +46,6 @@ returns-2 c =
     sym (c .before .loop .inv .1 ∙ rw e)
 
 pub last-within-spec : {M : Type 1} → statement M
-last-within-spec = tie.close (tie.spec Inv-loop μ-loop loop-holds (λ c. search needs) (λ c. search needs) (λ c κs. search needs) returns (λ c. search needs) loop-again returns-2)
+last-within-spec =
+    tie.close
+    (tie.spec Inv-loop μ-loop loop-holds (λ c. search needs) (λ c. search needs) (λ c κs. search needs) returns (λ c. search needs) loop-again returns-2)

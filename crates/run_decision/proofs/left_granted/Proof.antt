@@ -1,6 +1,7 @@
 -- At the top level from the last bound down; else from below: the coasts of up to x actions are tried. Assumes nothing.
 use Prim.Native.Nat.{_+_, _-_, _*_, _≤_, _<_, min}
 use mathlib.Core.Path.{_≡_, sym, _∙_}
+use mathlib.Core.List.{[]}
 use mathlib.Core.Logic.{⊎-elim}
 use native.Mathlib.Nat.{mul-le-mul-right}
 use native.Mathlib.Numerals.{add-one}
@@ -16,7 +17,8 @@ use Rattle.run_decision.proofs.left_granted.Statement.{statement}
 use Rattle.run_decision.proofs.left_granted.Tie as tie
 
 abbrev Inv-loop : tie.InvT-loop
-Inv-loop limits bounds n levels position level t end from above left₀ x₀ left x = (x ≤ end) × Going n levels limits bounds t position level x left
+Inv-loop limits bounds n levels position level t end from above left₀ x₀ left x =
+    (x ≤ end) × Going n levels (record { order = []; limits = limits; worst = []; bounds = bounds }) t position level x left
 
 abbrev μ-loop : tie.MeasureT-loop
 μ-loop limits bounds n levels position level t end from above left₀ x₀ left x = end - x
@@ -36,18 +38,19 @@ last-within-requires c κs = omega (arith, placed (c .before .before .pre .0), c
 cast-result : tie.Need-cast-result Inv-loop μ-loop
 cast-result c =
     let a = c .before .before .before .args in
-    omega (arith, last-low (λ k. leZ (pos (a .t)) (getD (a .bounds .now) ((a .position * a .levels + a .level) * 16 + k) (pos 0))) (c .before .before .most .result))
+    let from = (a .position * a .levels + a .level) * 16 in
+    omega (arith, last-low (λ k. leZ (pos (a .t)) (getD (a .bounds .now) (from + k) (pos 0))) (c .before .before .most .result))
 
 returns : tie.Need-returns Inv-loop μ-loop
 returns c =
     let a = c .before .before .before .args in
-    going-done (a .n) (a .levels) (a .limits .now) (a .bounds .now) (a .t) (a .position) (a .level) _
-    (top-granted _ _ _ _ _ _ _ _ _ (omega arith) (rw (c .before .before .most .ensures) at (c .last-within .ensures)))
+    going-done (a .n) (a .levels) _ (a .t) (a .position) (a .level) _
+    (top-granted _ _ _ _ _ _ _ _ (omega arith) (rw (c .before .before .most .ensures) at (c .last-within .ensures)))
 
 loop-holds : tie.Need-loop-holds Inv-loop μ-loop
 loop-holds c =
     let pre = c .before .before .pre in
-    (omega (arith, pre .0), going-one _ _ _ _ _ _ _ (pre .1 (omega (arith, pre .0))))
+    (omega (arith, pre .0), going-one _ _ _ _ _ _ (pre .1 (omega (arith, pre .0))))
 
 -- the row x positions on ends within the table
 row-on : (c : tie.In-loop Inv-loop μ-loop) → let a = c .before .before .before .before .args in
@@ -71,8 +74,8 @@ returns-2 c =
     let start = c .before .before .before .before .before .before in
     let a = start .args in
     let l = c .before .before .before .loop in
-    going-done (a .n) (a .levels) (a .limits .now) (a .bounds .now) (a .t) (a .position) (a .level) _
-    (going-stops _ _ _ _ _ _ _ (l .x) _ _ (l .inv .1) (omega (arith, start .pre .0))
+    going-done (a .n) (a .levels) _ (a .t) (a .position) (a .level) _
+    (going-stops _ _ _ _ _ _ (l .x) _ _ (l .inv .1) (omega (arith, start .pre .0))
     (rw (add-one (a .level)) at (sym (c .before .within .ensures) ∙ c .if2 .taken)) (omega arith))
 
 add-within-3 : tie.Need-add-within-3 Inv-loop μ-loop
@@ -87,7 +90,7 @@ loop-again c =
     let l = c .before .before .before .before .before .loop in
     let e = sym (c .before .within2 .ensures) in (
       search needs,
-      going-more _ _ _ _ _ _ _ (l .x) _ _ (l .inv .1)
+      going-more _ _ _ _ _ _ (l .x) _ _ (l .inv .1)
           (rw (add-one (a .level)) at (sym (c .before .before .before .within .ensures) ∙ c .before .before .if2 .left))
           (⊎-elim (λ w. into _ _ _ (e ∙ w .0 .taken) (w .1)) (λ w. past _ _ _ (e ∙ w .0 .left) (w .1)) (c .if3 .came)),
     )
@@ -97,7 +100,7 @@ returns-3 c =
     let a = c .before .before .before .before .args in
     let l = c .before .loop in
     let e : l .x ≡ min 16 (a .n - a .position) = omega arith in
-    going-done (a .n) (a .levels) (a .limits .now) (a .bounds .now) (a .t) (a .position) (a .level) _ (rw e at (l .inv .1 .found))
+    going-done (a .n) (a .levels) _ (a .t) (a .position) (a .level) _ (rw e at (l .inv .1 .found))
 
 pub left-granted-spec : {M : Type 1} → statement M
 left-granted-spec =

@@ -9,21 +9,21 @@ use Rattle.speed.proofs.speed_reading.Statement.{statement}
 use Rattle.speed.proofs.speed_reading.Tie as tie
 
 returns : tie.Need-returns
-returns c = image-refused _ _ _ _ _ (c .before .checked .ensures .number) (c .if1 .taken)
+returns c = image-refused _ _ _ _ _ (c .before .before .before .checked .ensures .number) (c .if1 .taken)
 
 returns-2 : tie.Need-returns-2
 returns-2 c =
-    let p = c .before .before in
-    refused-reads (own-given (p .before .checked .ensures) (p .if1 .left) _ _ _ _ _ (c .before .own-refusal .ensures)) (c .if2 .taken)
+    let p = c .before .before .before in
+    refused-reads (own-given (p .before .before .before .checked .ensures) (p .if1 .left) _ _ _ _ _ (c .before .before .own-refusal .ensures)) (c .if2 .taken)
 
 -- neither 18 nor 13 is given
-none : (c : tie.Else2) → let k = c .before .before .before in let a = k .before .before .args in
+none : (c : tie.Else2) → let k = c .before .before .before .before .before .before in let a = k .before .before .args in
     First (own-checks (k .checked .result .n) (k .checked .result .levels) (a .first) (a .last) (a .level) (a .t)) 0
-none c = rw (c .if2 .left) at (c .before .own-refusal .ensures)
+none c = rw (c .if2 .left) at (c .before .before .own-refusal .ensures)
 
-can-read : (c : tie.Else2) → let k = c .before .before .before in let a = k .before .before .args in
+can-read : (c : tie.Else2) → let k = c .before .before .before .before .before .before in let a = k .before .before .args in
     Readable (now (a .image)) (k .checked .result .levels) (k .checked .result .order) (a .first) (a .last) (a .level)
-can-read c = let p = c .before .before in readable (p .before .checked .ensures) (p .if1 .left) (none c)
+can-read c = let p = c .before .before .before in readable (p .before .before .before .checked .ensures) (p .if1 .left) (none c)
 
 stretch-requires : tie.Need-stretch-requires
 stretch-requires c κs = can-read (c .before .before)
@@ -34,21 +34,21 @@ array-read-due-at c = let r = can-read (c .before .before .before) in omega (ari
 due-at-requires : tie.Need-due-at-requires
 due-at-requires c κs =
     let e = c .before .before .before in
-    let p = e .before .before in
-    (can-read e .present _ (omega (arith, can-read e .ordered)), p .before .checked .ensures .accepted (p .if1 .left) .cycle)
+    let p = e .before .before .before in
+    (can-read e .present _ (omega (arith, can-read e .ordered)), p .before .before .before .checked .ensures .accepted (p .if1 .left) .cycle)
 
 read-requires : tie.Need-read-requires
 read-requires c κs =
     let e = c .before .before .before .before in
-    let p = e .before .before in
-    omega (arith, c .before .stretch .ensures .1 .margin, range (p .before .checked .ensures) (p .if1 .left) (none e) .clock)
+    let p = e .before .before .before in
+    omega (arith, c .before .stretch .ensures .1 .margin, range (p .before .before .before .checked .ensures) (p .if1 .left) (none e) .clock)
 
 returns-3 : tie.Need-returns-3
 returns-3 c =
     let d = c .before in
     let e = d .before .before .before .before in
-    let p = e .before .before in
-    read-reads (p .before .checked .ensures) (p .if1 .left) (none e) _ _ _ (d .before .stretch .ensures .0) (d .due-at .ensures) (c .read .ensures)
+    let p = e .before .before .before in
+    read-reads (p .before .before .before .checked .ensures) (p .if1 .left) (none e) _ _ _ (d .before .stretch .ensures .0) (d .due-at .ensures) (c .read .ensures)
 
 pub speed-reading-spec : {M : Type 1} → statement M
 speed-reading-spec =

@@ -6,7 +6,7 @@ use borrow.Author.Needs.{needs}
 use lib.ListN.{getD}
 use Rattle.rules.specs.Image.{profile}
 use Rattle.image_fields.specs.Reading.{HasRecord}
-use Rattle.speed_stretch.specs.Stretch.{Of, Small}
+use Rattle.speed_stretch.specs.Stretch.{StretchOf, SmallStretch}
 use Rattle.speed_stretch.proofs.Stretches.{Times, from-nothing, small}
 use Rattle.speed.specs.Speed.{listed}
 use Rattle.speed.proofs.Listed.{listed-times}
@@ -14,7 +14,7 @@ use Rattle.speed.proofs.stretch.Statement.{statement}
 use Rattle.speed.proofs.stretch.Tie as tie
 
 abbrev Inv-loop : tie.InvT-loop
-Inv-loop image levels actions first last level s₀ j₀ s j = (first ≤ j) × (j ≤ last + 1) × Of (listed image actions) j last level s
+Inv-loop image levels actions first last level s₀ j₀ s j = (first ≤ j) × (j ≤ last + 1) × StretchOf (listed image actions) j last level s
 
 abbrev μ-loop : tie.MeasureT-loop
 μ-loop image levels actions first last level s₀ j₀ s j = j
@@ -30,7 +30,7 @@ times c =
     let a = c .before .before .before .args in
     listed-times (a .image .now) (a .actions .now) (a .last) (a .level) (λ k. c .before .before .shared-slice-known .given k .fits)
 
-short : (c : tie.At-loop Inv-loop μ-loop) → Small (c .loop .s)
+short : (c : tie.At-loop Inv-loop μ-loop) → SmallStretch (c .loop .s)
 short c =
     let start = c .before .before .before in
     small _ (c .loop .j) _ _ (start .pre .few) (times c) _ (omega arith) (c .loop .inv .2)

@@ -6,7 +6,7 @@ use borrow.Author.Needs.{needs}
 use borrow.Author.Tests.{lt-ltb, le-ltb}
 use Rattle.rules.specs.Speed.{ratio}
 use Rattle.rules.proofs.Speed.Reading.{reading-unsigned}
-use Rattle.speed_stretch.specs.Ratio.{gives}
+use Rattle.speed_stretch.specs.Answer.{gives}
 use Rattle.speed_stretch.proofs.read.Statement.{statement}
 use Rattle.speed_stretch.proofs.read.Tie as tie
 

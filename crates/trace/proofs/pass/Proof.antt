@@ -10,7 +10,7 @@ use borrow.Author.Needs.{needs}
 use Rattle.rules.specs.Numbers.{most-records}
 use Rattle.rules.specs.Image.{Profile}
 use Rattle.rules.specs.Refresh.{records, Fault}
-use Rattle.trace.specs.Measure.{Ceilings, Tallied}
+use Rattle.trace.specs.Trace.{Ceilings, Tallied}
 use Rattle.trace.proofs.Entries.{cell-lt}
 use Rattle.trace.proofs.Faults.{stops, goes-on, passed}
 use Rattle.trace.proofs.Tallies.{room, weighs}
@@ -41,21 +41,21 @@ fault-requires c κs = cell-lt (c .record-at .ensures)
 returns : tie.Need-returns Inv-loop μ-loop
 unfolding records
 returns c =
-    let turn = c .before .before .before in
+    let turn = c .before .before .before .before in
     let was = turn .before .loop in
     record {
       number = λ F has.
           stops F _ (was .r) (was .inv .sound F has) (turn .loop-test .taken) _ (c .if1 .taken)
-          (c .before .fault .ensures F _ (was .r) has (c .before .before .record-at .ensures));
+          (c .before .before .fault .ensures F _ (was .r) has (c .before .before .before .record-at .ensures));
       weighs = λ none. absurd (c .if1 .taken none);
     }
 
 add-requires : tie.Need-add-requires Inv-loop μ-loop
 add-requires c κs =
-    let turn = c .before .before .before .before in
+    let turn = c .before .before .before .before .before in
     let was = turn .before .loop in
     let few : was .r ≤ most-records = omega (arith, was .inv .within, turn .before .before .before .pre .0) in
-    room _ (was .r) _ (c .before .before .before .record-at .ensures) _ few (was .inv .tallied)
+    room _ (was .r) _ (c .before .before .before .before .record-at .ensures) _ few (was .inv .tallied)
 
 loop-less : tie.Need-loop-less Inv-loop μ-loop
 unfolding records
@@ -64,13 +64,13 @@ loop-less c = omega arith
 loop-again : tie.Need-loop-again Inv-loop μ-loop
 unfolding records
 loop-again c =
-    let turn = c .before .before .before .before .before in
+    let turn = c .before .before .before .before .before .before in
     let was = turn .before .loop in
     let checked = c .before .before in
-    let is = checked .before .before .record-at .ensures in
+    let is = checked .before .before .before .record-at .ensures in
     record {
       within = omega (arith, turn .loop-test .taken);
-      sound = λ F has. goes-on F _ (was .r) (was .inv .sound F has) _ (checked .if1 .left) (checked .before .fault .ensures F _ (was .r) has is);
+      sound = λ F has. goes-on F _ (was .r) (was .inv .sound F has) _ (checked .if1 .left) (checked .before .before .fault .ensures F _ (was .r) has is);
       tallied = rw add-one (c .add .ensures _ (was .r) is (was .inv .tallied));
     }
 

@@ -5,7 +5,7 @@ use denote.Ref.{now}
 use borrow.Author.Needs.{needs}
 use Rattle.rules.specs.Image.{profile}
 use Rattle.rules.specs.Refusals.{Spare, Range, Table}
-use Rattle.image_fields.proofs.Faults.{no-fault}
+use Rattle.rules.proofs.Faults.{no-fault}
 use Rattle.image_check.proofs.Checks.{spare-says, range-says, table-says}
 use Rattle.image_check.proofs.whole.record_refusal.Statement.{statement}
 use Rattle.image_check.proofs.whole.record_refusal.Tie as tie

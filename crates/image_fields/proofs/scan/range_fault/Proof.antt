@@ -3,8 +3,9 @@ use native.Mathlib.Omega.{arith}
 use lib.ListN.{getD}
 use borrow.Author.Needs.{needs}
 use borrow.Author.Count.{below-none, below-more}
-use Rattle.image_fields.specs.Faults.{OutOfRange}
-use Rattle.image_fields.proofs.Faults.{denied, Faultless, lowest-here, lowest-none}
+use Rattle.rules.specs.Refusals.{OutOfRange}
+use Rattle.rules.proofs.Faults.{Faultless, lowest-here, lowest-none}
+use Rattle.image_fields.proofs.Faults.{denied}
 use Rattle.image_fields.proofs.scan.range_fault.Statement.{statement}
 use Rattle.image_fields.proofs.scan.range_fault.Tie as tie
 

@@ -2,49 +2,48 @@ use mathlib.Core.Path.{_≡_, refl}
 use mathlib.Core.Bool.{true}
 use mathlib.Core.Logic.{_↔_}
 use denote.Ref.{now}
-use Prim.Native.Nat.{_≤_, _-_}
+use Prim.Native.Nat.{_-_, _≤_}
 use native.Mathlib.Omega.{arith}
 use borrow.Author.Needs.{needs}
 use borrow.Author.Count.{below-none, below-more}
-use Rattle.rules.specs.Image.{average-of, worst-of}
-use Rattle.image_fields.proofs.Faults.{said-yes, said-no, denied, Faultless, before, before-next, Breaks, level-row, row-level, level-says}
+use Rattle.rules.proofs.Faults.{Faultless}
+use Rattle.image_fields.specs.Faults.{row}
+use Rattle.image_fields.proofs.Faults.{said-yes, said-no, denied, before, before-next, Breaks, level-row, row-level, level-says}
 use Rattle.image_fields.proofs.scan.row_breaks.Statement.{statement}
 use Rattle.image_fields.proofs.scan.row_breaks.Tie as tie
 
 abbrev Inv-loop : tie.InvT-loop
-Inv-loop image levels a average-before₀ worst-before₀ q₀ average-before worst-before q =
+Inv-loop averages worst from levels average-before₀ worst-before₀ q₀ average-before worst-before q =
     (q ≤ levels)
-    × (average-before ≡ before (average-of image a) q)
-    × (worst-before ≡ before (worst-of image a) q)
-    × Faultless (Breaks (average-of image a) (worst-of image a)) q
+    × (average-before ≡ before (row averages from) q)
+    × (worst-before ≡ before (row worst from) q)
+    × Faultless (Breaks (row averages from) (row worst from)) q
 
 abbrev μ-loop : tie.MeasureT-loop
-μ-loop image levels a average-before₀ worst-before₀ q₀ average-before worst-before q = levels - q
+μ-loop averages worst from levels average-before₀ worst-before₀ q₀ average-before worst-before q = levels - q
 
 loop-holds : tie.Need-loop-holds Inv-loop μ-loop
 loop-holds c = (search needs, refl, refl, below-none _)
 
--- the test of a level, by what the image says
+-- the test of a level, by what the tables say
 says : (c : tie.After-level-breaks Inv-loop μ-loop)
-    → let x = c .before .before .before .before .before .before .args in
-    let s = now (x .image) in
-    (c .level-breaks .result ≡ true) ↔ Breaks (average-of s (x .a)) (worst-of s (x .a)) (c .before .before .before .before .loop .q)
-says c =
-    let p = c .before .before .before .before .loop in
-    level-says _ _ (p .q) (c .before .before .average-at .ensures) (c .before .worst-at .ensures) (p .inv .1) (p .inv .2) (c .level-breaks .ensures)
+    → let t = c .before .before .before .before in
+    let x = t .before .before .before .args in
+    (c .level-breaks .result ≡ true)
+    ↔ Breaks (row (now (x .averages)) (x .from)) (row (now (x .worst)) (x .from)) (t .loop .q)
+says c = let t = c .before .before .before .before .loop in level-says _ _ (t .q) refl refl (t .inv .1) (t .inv .2) (c .level-breaks .ensures)
 
 returns : tie.Need-returns Inv-loop μ-loop
 returns c = said-yes (level-row _ _ _ _ (omega arith) (says (c .before) .0 (c .if1 .taken)))
 
 loop-again : tie.Need-loop-again Inv-loop μ-loop
 loop-again c =
-    let p = c .before .before .before .before .before in
-    let x = p .before .before .args in
-    let s = now (x .image) in (
+    let t = c .before .before .before .before .before in
+    let x = t .before .before .before .args in (
       search needs,
-      before-next (average-of s (x .a)) (p .loop .q) (c .before .before .before .average-at .ensures),
-      before-next (worst-of s (x .a)) (p .loop .q) (c .before .before .worst-at .ensures),
-      below-more _ _ (p .loop .inv .3) (denied (says (c .before)) (c .if1 .left)),
+      before-next (row (now (x .averages)) (x .from)) (t .loop .q) refl,
+      before-next (row (now (x .worst)) (x .from)) (t .loop .q) refl,
+      below-more _ _ (t .loop .inv .3) (denied (says (c .before)) (c .if1 .left)),
     )
 
 returns-2 : tie.Need-returns-2 Inv-loop μ-loop
@@ -57,8 +56,12 @@ row-breaks-spec =
     Inv-loop
     μ-loop
     loop-holds
-    (λ c κs. search needs)
-    (λ c κs. search needs)
+    (λ c. search needs)
+    (λ c. search needs)
+    (λ c. search needs)
+    (λ c. search needs)
+    (λ c. search needs)
+    (λ c. search needs)
     (λ c κs. search needs)
     returns
     (λ c. search needs)

@@ -3,14 +3,14 @@ use Prim.Native.Nat.{_≤_, _-_}
 use native.Mathlib.Omega.{arith}
 use borrow.Author.Needs.{needs}
 use borrow.Author.Count.{below-none, below-more}
-use Rattle.image_fields.specs.Faults.{SpareSet}
+use Rattle.rules.specs.Refusals.{SpareFault}
+use Rattle.rules.proofs.Faults.{Faultless, lowest-here, lowest-none}
 use Rattle.image_fields.proofs.Reading.{has-record}
-use Rattle.image_fields.proofs.Faults.{Faultless, lowest-here, lowest-none}
 use Rattle.image_fields.proofs.scan.spare_fault.Statement.{statement}
 use Rattle.image_fields.proofs.scan.spare_fault.Tie as tie
 
 abbrev Inv-loop : tie.InvT-loop
-Inv-loop image levels n a₀ a = (a ≤ n) × Faultless (SpareSet image) a
+Inv-loop image levels n a₀ a = (a ≤ n) × Faultless (SpareFault image) a
 
 abbrev μ-loop : tie.MeasureT-loop
 μ-loop image levels n a₀ a = n - a

@@ -3,9 +3,10 @@ use native.Mathlib.Omega.{arith}
 use borrow.Author.Needs.{needs}
 use borrow.Author.Count.{below-none, below-more}
 use Rattle.rules.specs.Image.{average-of, worst-of}
-use Rattle.image_fields.specs.Faults.{RowBreaks}
+use Rattle.rules.specs.Refusals.{RowBreaks}
+use Rattle.rules.proofs.Faults.{Faultless, lowest-here, lowest-none}
 use Rattle.image_fields.proofs.Reading.{has-record}
-use Rattle.image_fields.proofs.Faults.{denied, Faultless, lowest-here, lowest-none}
+use Rattle.image_fields.proofs.Faults.{denied}
 use Rattle.image_fields.proofs.scan.table_fault.Statement.{statement}
 use Rattle.image_fields.proofs.scan.table_fault.Tie as tie
 
@@ -18,17 +19,17 @@ abbrev μ-loop : tie.MeasureT-loop
 loop-holds : tie.Need-loop-holds Inv-loop μ-loop
 loop-holds c = (search needs, below-none _)
 
-row-breaks-requires : tie.Need-row-breaks-requires Inv-loop μ-loop
-row-breaks-requires c κs = has-record _ (c .before .before .before .pre) (omega arith)
+record-breaks-requires : tie.Need-record-breaks-requires Inv-loop μ-loop
+record-breaks-requires c κs = has-record _ (c .before .before .before .pre) (omega arith)
 
 returns : tie.Need-returns Inv-loop μ-loop
 returns c =
-    lowest-here (omega arith) (c .before .before .before .loop .inv .1) (c .before .row-breaks .ensures .0 (c .if1 .taken))
+    lowest-here (omega arith) (c .before .before .before .loop .inv .1) (c .before .record-breaks .ensures .0 (c .if1 .taken))
 
 loop-again : tie.Need-loop-again Inv-loop μ-loop
 loop-again c = (
   search needs,
-  below-more _ _ (c .before .before .before .loop .inv .1) (denied (c .before .row-breaks .ensures) (c .if1 .left)),
+  below-more _ _ (c .before .before .before .loop .inv .1) (denied (c .before .record-breaks .ensures) (c .if1 .left)),
 )
 
 returns-2 : tie.Need-returns-2 Inv-loop μ-loop
@@ -41,7 +42,7 @@ table-fault-spec =
     Inv-loop
     μ-loop
     loop-holds
-    row-breaks-requires
+    record-breaks-requires
     returns
     (λ c. search needs)
     (λ c. search needs)

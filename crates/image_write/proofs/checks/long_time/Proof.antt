@@ -4,8 +4,9 @@ use mathlib.Core.Logic.{inl, inr, ⊎-elim}
 use native.Mathlib.Omega.{arith}
 use borrow.Author.Needs.{needs}
 use borrow.Author.Count.{below-none, below-more}
-use Rattle.image_fields.proofs.Faults.{said-yes, said-no, Faultless}
-use Rattle.image_write.specs.Faults.{times}
+use Rattle.rules.specs.Image.{time-at}
+use Rattle.rules.proofs.Faults.{Faultless}
+use Rattle.image_fields.proofs.Faults.{said-yes, said-no}
 use Rattle.image_write.proofs.Answers.{less-says}
 use Rattle.image_write.proofs.Levels.{LongAt, longest-top}
 use Rattle.image_write.proofs.checks.long_time.Statement.{statement}
@@ -13,7 +14,7 @@ use Rattle.image_write.proofs.checks.long_time.Tie as tie
 
 abbrev Inv-loop : tie.InvT-loop
 Inv-loop averages worst levels a ordered row q₀ q =
-    (q ≤ levels) × Faultless (LongAt (times levels averages a) (times levels worst a)) q
+    (q ≤ levels) × Faultless (LongAt (time-at levels averages a) (time-at levels worst a)) q
 
 abbrev μ-loop : tie.MeasureT-loop
 μ-loop averages worst levels a ordered row q₀ q = levels - q
@@ -22,7 +23,7 @@ returns : tie.Need-returns Inv-loop μ-loop
 returns c =
     let start = c .before .before in
     let x = start .args in
-    let says = longest-top (times (x .levels) (x .averages .now) (x .a)) (times (x .levels) (x .worst .now) (x .a)) (x .levels) (start .pre .1 .0)
+    let says = longest-top (time-at (x .levels) (x .averages .now) (x .a)) (time-at (x .levels) (x .worst .now) (x .a)) (x .levels) (start .pre .1 .0)
     (start .pre .1 .1 (c .before .if1 .taken)) in
     ((λ e. says .0 (less-says _ _ .0 e)), (λ f. less-says _ _ .1 (says .1 f)))
 

@@ -33,18 +33,18 @@ left-granted-requires c κs =
       none-above _ _ _ e,
     )
 
-cast-t14 : tie.Need-cast-t14
-cast-t14 c =
+cast-run : tie.Need-cast-run
+cast-run c =
     let o = c .before .before .before .before .before .before .pre in
     omega (arith, opened o .ranges .few-levels, level-low o _ _ (c .before .before .last-within .ensures))
 
-add-t15 : tie.Need-add-t15
-add-t15 c = let o = c .before .before .before .before .before .before .before .pre in omega (arith, opened o .counted, opened o .ranges)
+add-run : tie.Need-add-run
+add-run c = let o = c .before .before .before .before .before .before .before .pre in omega (arith, opened o .counted, opened o .ranges)
 
 returns : tie.Need-returns
 returns c =
     let left = c .before .before in
-    decided-is _ _ (run-of (left .before .before .before .before .before .before .args .self)) _ _ _ (left .before .before .last-within .ensures)
+    decided-is _ (run-of (left .before .before .before .before .before .before .args .self)) _ _ _ (left .before .before .last-within .ensures)
     (left .before .within .ensures) (left .left-granted .ensures)
 
 pub decided-spec : {M : Type 1} → statement M
@@ -59,6 +59,6 @@ decided-spec =
     add-within
     within-requires
     left-granted-requires
-    cast-t14
-    add-t15
+    cast-run
+    add-run
     returns)

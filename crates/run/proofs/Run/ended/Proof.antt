@@ -1,4 +1,5 @@
 -- The record at its end, field by field. Assumes nothing.
+use mathlib.Core.Bool.{or-true, or-false}
 use native.Mathlib.Numerals.{add-one}
 use borrow.Author.Needs.{needs}
 use Rattle.rules.specs.Run.{ended}
@@ -7,7 +8,11 @@ use Rattle.run.proofs.Run.ended.Tie as tie
 
 returns : tie.Need-returns
 unfolding ended
-returns c = rw (c .before .unless .ensures, add-one)
+returns c = rw (c .if1 .taken, add-one, or-true (c .before .before .before .args .self .overrun))
+
+returns-2 : tie.Need-returns-2
+unfolding ended
+returns-2 c = rw (c .if1 .left, add-one, or-false (c .before .before .before .args .self .overrun))
 
 pub ended-spec : {M : Type 1} → statement M
-ended-spec = tie.close (tie.spec (λ c. search needs) (λ c. search needs) (λ c κs. search needs) returns)
+ended-spec = tie.close (tie.spec (λ c. search needs) (λ c. search needs) returns returns-2)

@@ -1,8 +1,8 @@
 -- Refused or ended. Assumes nothing.
-use mathlib.Core.Path.{_≡_, sym, ap, _∙_}
+use mathlib.Core.Path.{_≡_, sym, _∙_}
 use native.Mathlib.Omega.{arith}
 use borrow.Author.Needs.{needs}
-use Rattle.rules.specs.Run.{Run, report-refusal}
+use Rattle.rules.specs.Run.{report-refusal}
 use Rattle.run.specs.Calls.{run-of}
 use Rattle.run.proofs.Refusing.{Reportable, reportable}
 use Rattle.run.proofs.Turns.{report-refuses, report-ends}
@@ -17,10 +17,7 @@ ready : (c : tie.Else1) → let a = c .before .before .before .args in Reportabl
 ready c = reportable _ _ _ (none c)
 
 returns : tie.Need-returns
-returns c =
-    let d = c .before .before in
-    ap (λ (s : Run). record { number = d .report-refusal .result; run = s }) (c .kept .ensures)
-    ∙ report-refuses _ _ _ _ (d .report-refusal .ensures) (c .before .if1 .taken)
+returns c = report-refuses _ _ _ _ (c .before .report-refusal .ensures) (c .if1 .taken)
 
 mul-at : tie.Need-mul-at
 mul-at c = omega (arith, ready (c .before))
@@ -47,7 +44,6 @@ pub report-spec : {M : Type 1} → statement M
 report-spec =
     tie.close
     (tie.spec
-    (λ c κs. search needs)
     (λ c κs. search needs)
     returns
     mul-at

@@ -44,14 +44,16 @@ unfolding report-refusal first
 returns-5 c =
     let turn = c .before .before .before in
     let room = turn .before .before in
-    rw (ranged (room .before .before .before), le-ltb _ _ (room .if2 .left), turn .if3 .left, le-ltb _ _ (c .before .if4 .left), lt-ltb _ _ (c .if5 .taken))
+    let onward = le-ltb _ _ (c .before .if4 .left) in
+    rw (ranged (room .before .before .before), le-ltb _ _ (room .if2 .left), turn .if3 .left, onward, lt-ltb _ _ (c .if5 .taken))
 
 returns-6 : tie.Need-returns-6
 unfolding report-refusal first
 returns-6 c =
     let turn = c .before .before .before in
     let room = turn .before .before in
-    rw (ranged (room .before .before .before), le-ltb _ _ (room .if2 .left), turn .if3 .left, le-ltb _ _ (c .before .if4 .left), le-ltb _ _ (c .if5 .left))
+    let onward = le-ltb _ _ (c .before .if4 .left) in
+    rw (ranged (room .before .before .before), le-ltb _ _ (room .if2 .left), turn .if3 .left, onward, le-ltb _ _ (c .if5 .left))
 
 pub report-refusal-spec : {M : Type 1} → statement M
 report-refusal-spec =

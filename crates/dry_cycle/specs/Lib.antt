@@ -1,2 +1,0 @@
-pub mod Dry
-pub mod Cycle

@@ -1,0 +1,8 @@
+pub mod Replies
+pub mod Accepting
+pub mod Marks
+pub mod Cycle
+pub mod Demand
+pub mod Planning
+pub mod Camera
+pub mod Worked

@@ -1,0 +1,93 @@
+/* How much stack the deepest calls really take: each is made on a painted stack, and what it left unpainted is counted, less what a thread that does
+ * nothing leaves. Prints NAME BYTES for host/check, which holds them to what it finds in the archive's code and to the header. */
+#define _XOPEN_SOURCE 700 /* a thread on a stack of ours */
+#include "../../include/nyokazerubi.h"
+
+#include <pthread.h>
+#include <stdio.h>
+#include <stdlib.h>
+#include <string.h>
+
+enum { N = 64, L = 8, TABLE = N * L, BOUNDS = 16 * TABLE, IMAGE = 6 + N * (12 + 6 * L), RECORDS = 2000, ROOM = 1 << 18 };
+
+static uint8_t image[IMAGE], fresh[IMAGE], order[N], given[N], marks[N], trace[5 * RECORDS];
+static int32_t limits[TABLE], bounds[BOUNDS];
+static uint32_t worst[TABLE], averages[TABLE], deadlines[N], durations[TABLE];
+static uint64_t masks[N];
+static size_t bytes;
+
+static void hold(int is_so, const char *what) {
+    if (is_so) return;
+    fprintf(stderr, "not so: %s\n", what);
+    exit(1);
+}
+
+/* 64 actions and two levels, such that at level 1 every action that takes 9 leaves one to coast, and no more: the clock at position i is 9i, its
+ * limit 9i + 1, and a worst time of 10 twice is too much for the third. So there are 32 turns of deciding and coasting, the most there can be. */
+static void profile(void) {
+    for (uint32_t a = 0; a < N; a++) {
+        masks[a] = 0;
+        deadlines[a] = 9 * a + 11;
+        averages[2 * a] = worst[2 * a] = averages[2 * a + 1] = durations[2 * a] = durations[2 * a + 1] = 9;
+        worst[2 * a + 1] = 10;
+    }
+    bytes = nyokazerubi_write(N, 2, 9 * 63 + 11, masks, N, deadlines, N, averages, TABLE, worst, TABLE, image, IMAGE).bytes;
+    hold(bytes > 0, "a profile");
+    for (size_t at = 0; at < RECORDS; at++) trace[5 * at] = (uint8_t)(128 + 2 * (at % N));
+}
+
+static void nothing(void) {}
+static void check(void) { hold(nyokazerubi_check(image, bytes).number == 0, "check"); }
+static void plan(void) { hold(nyokazerubi_plan(image, bytes, order, N, limits, TABLE, worst, TABLE, bounds, BOUNDS).n == N, "plan"); }
+static void refresh(void) { hold(nyokazerubi_refresh(image, bytes, trace, sizeof trace, fresh, IMAGE).bytes == bytes, "refresh"); }
+static void reading(void) { hold(nyokazerubi_on_time(image, bytes, 0, 63, 0, 0), "on time"); }
+static void dry_run(void) {
+    hold(nyokazerubi_dry_run(N, 2, limits, TABLE, worst, TABLE, bounds, BOUNDS, durations, TABLE, given, N, marks, N).decisions == 32,
+         "32 decisions");
+}
+/* Each action decided by itself, 64 times. */
+static void dry_alone(void) {
+    static int32_t none[BOUNDS];
+    for (size_t at = 0; at < BOUNDS; at++) none[at] = NYOKAZERUBI_ABSENT_BOUND;
+    hold(nyokazerubi_dry_run(N, 2, limits, TABLE, worst, TABLE, none, BOUNDS, durations, TABLE, given, N, marks, N).decisions == N, "64 decisions");
+}
+static void dry_frame(void) {
+    hold(nyokazerubi_dry_frame(image, bytes, durations, TABLE, order, N, given, N, marks, N).decisions == 32, "32 decisions from the image");
+}
+
+static void *in_thread(void *job) {
+    (*(void (**)(void))job)();
+    return NULL;
+}
+
+static size_t used(void (*job)(void)) {
+    static _Alignas(4096) uint8_t room[ROOM];
+    memset(room, 0x5a, ROOM);
+    pthread_attr_t how;
+    pthread_t thread;
+    hold(pthread_attr_init(&how) == 0 && pthread_attr_setstack(&how, room, ROOM) == 0, "a stack");
+    hold(pthread_create(&thread, &how, in_thread, &job) == 0 && pthread_join(thread, NULL) == 0, "a thread");
+    pthread_attr_destroy(&how);
+    size_t untouched = 0;
+    while (untouched < ROOM && room[untouched] == 0x5a) untouched++;
+    return ROOM - untouched;
+}
+
+/* The second time: in the first the linker may look up what is called. */
+static size_t again(void (*job)(void)) {
+    used(job);
+    return used(job);
+}
+
+int main(void) {
+    profile();
+    size_t none = again(nothing);
+    static const struct {
+        const char *name;
+        void (*job)(void);
+    } jobs[] = {{"check", check}, {"plan", plan}, {"refresh", refresh}, {"on_time", reading}, {"dry_frame", dry_frame}};
+    for (size_t at = 0; at < sizeof jobs / sizeof *jobs; at++) printf("nyokazerubi_%s %zu\n", jobs[at].name, again(jobs[at].job) - none);
+    size_t turns = again(dry_run), alone = again(dry_alone);
+    printf("nyokazerubi_dry_run %zu\n", (turns < alone ? alone : turns) - none);
+    return 0;
+}

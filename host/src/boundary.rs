@@ -1,0 +1,271 @@
+//! `include/nyokazerubi.h` for a host in Rust: the same types, names, numbers and calls, in the same order. It stands on `core` alone and can be taken as
+//! it is. What a call asks of the memory that it is lent, what it answers and what it writes is said in the header.
+
+#![allow(dead_code, clippy::too_many_arguments)]
+
+/// The version of this boundary; [`nyokazerubi_boundary`] has that of the archive that is linked.
+pub const BOUNDARY: u32 = 1;
+
+pub const MOST_ACTIONS: usize = 64;
+pub const MOST_LEVELS: usize = 8;
+pub const LONGEST_COAST: usize = 16;
+pub const MOST_RECORDS: usize = 65_535;
+pub const LAST_CLOCK: u32 = 1_073_741_823;
+pub const LONGEST_TIME: u32 = 16_777_215;
+pub const ABSENT_BOUND: i32 = i32::MIN;
+
+/// The bytes of an image.
+pub const fn image_bytes(n: usize, levels: usize) -> usize {
+    6 + n * (12 + 6 * levels)
+}
+
+/// The entries of limits, durations, averages and both tables of worst times.
+pub const fn table_entries(n: usize, levels: usize) -> usize {
+    n * levels
+}
+
+/// The entries of the coast bounds.
+pub const fn bounds_entries(n: usize, levels: usize) -> usize {
+    LONGEST_COAST * table_entries(n, levels)
+}
+
+/// The bytes of a trace.
+pub const fn trace_bytes(records: usize) -> usize {
+    5 * records
+}
+
+pub const ACCEPTED: u32 = 0;
+pub const REFUSED_SHORT: u32 = 1;
+pub const REFUSED_VERSION: u32 = 2;
+pub const REFUSED_COUNT: u32 = 3;
+pub const REFUSED_LENGTH: u32 = 4;
+pub const REFUSED_SPARE: u32 = 5;
+pub const REFUSED_RANGE: u32 = 6;
+pub const REFUSED_TABLE: u32 = 7;
+pub const REFUSED_LOOP: u32 = 8;
+pub const REFUSED_UNFIT: u32 = 9;
+pub const REFUSED_FINISHED: u32 = 10;
+pub const REFUSED_TURN: u32 = 11;
+pub const REFUSED_BACK: u32 = 12;
+pub const REFUSED_CLOCK: u32 = 13;
+pub const REFUSED_TRACE: u32 = 14;
+pub const REFUSED_NAME: u32 = 15;
+pub const REFUSED_DURATION: u32 = 16;
+pub const REFUSED_ROOM: u32 = 17;
+pub const REFUSED_READING: u32 = 18;
+
+#[derive(Clone, Copy, Debug, PartialEq, Eq)]
+#[repr(C)]
+pub struct Refusal {
+    pub number: u32,
+}
+
+#[derive(Clone, Copy, Debug, PartialEq, Eq)]
+#[repr(C)]
+pub struct Unpacked {
+    pub refusal: Refusal,
+    pub n: usize,
+    pub levels: usize,
+    pub cycle: u32,
+}
+
+#[derive(Clone, Copy, Debug, PartialEq, Eq)]
+#[repr(C)]
+pub struct Written {
+    pub refusal: Refusal,
+    pub bytes: usize,
+}
+
+#[derive(Clone, Copy, Debug, PartialEq, Eq)]
+#[repr(C)]
+pub struct Place {
+    pub refusal: Refusal,
+    pub start: usize,
+    pub length: usize,
+}
+
+#[derive(Clone, Copy, Debug, PartialEq, Eq)]
+#[repr(C)]
+pub struct Planned {
+    pub refusal: Refusal,
+    pub n: usize,
+    pub levels: usize,
+    pub cycle: u32,
+}
+
+/// The run record: 32 bytes, the marks last.
+#[derive(Clone, Copy, Debug, Default, PartialEq, Eq)]
+#[repr(C)]
+pub struct Run {
+    pub n: u32,
+    pub levels: u32,
+    pub position: u32,
+    pub clock: u32,
+    pub level: u32,
+    pub left: u32,
+    pub decisions: u32,
+    pub running: bool,
+    pub overrun: bool,
+    pub late: bool,
+}
+
+#[derive(Clone, Copy, Debug, PartialEq, Eq)]
+#[repr(C)]
+pub struct Given {
+    pub refusal: Refusal,
+    pub action: u32,
+    pub level: u32,
+    pub decided: bool,
+    pub late: bool,
+}
+
+#[derive(Clone, Copy, Debug, PartialEq, Eq)]
+#[repr(C)]
+pub struct Dried {
+    pub refusal: Refusal,
+    pub decisions: u32,
+    pub end: u32,
+    pub overrun: bool,
+    pub late: bool,
+}
+
+#[derive(Clone, Copy, Debug, PartialEq, Eq)]
+#[repr(C)]
+pub struct Framed {
+    pub refusal: Refusal,
+    pub n: usize,
+    pub decisions: u32,
+    pub end: u32,
+    pub overrun: bool,
+    pub late: bool,
+}
+
+#[derive(Clone, Copy, Debug, PartialEq)]
+#[repr(C)]
+pub struct Reading {
+    pub refusal: Refusal,
+    pub spent: bool,
+    pub ratio: f64,
+}
+
+#[derive(Clone, Copy, Debug, PartialEq, Eq)]
+#[repr(C)]
+pub struct Refreshed {
+    pub refusal: Refusal,
+    pub bytes: usize,
+}
+
+extern "C" {
+    pub fn nyokazerubi_boundary() -> u32;
+    pub fn nyokazerubi_check(image: *const u8, image_length: usize) -> Refusal;
+    pub fn nyokazerubi_read(
+        image: *const u8,
+        image_length: usize,
+        masks: *mut u64,
+        masks_length: usize,
+        deadlines: *mut u32,
+        deadlines_length: usize,
+        averages: *mut u32,
+        averages_length: usize,
+        worst_by_action: *mut u32,
+        worst_by_action_length: usize,
+    ) -> Unpacked;
+    pub fn nyokazerubi_write(
+        n: usize,
+        levels: usize,
+        cycle: u32,
+        masks: *const u64,
+        masks_length: usize,
+        deadlines: *const u32,
+        deadlines_length: usize,
+        averages: *const u32,
+        averages_length: usize,
+        worst_by_action: *const u32,
+        worst_by_action_length: usize,
+        image: *mut u8,
+        image_length: usize,
+    ) -> Written;
+    pub fn nyokazerubi_write_encoder(image: *mut u8, image_length: usize) -> Written;
+    pub fn nyokazerubi_lookup(image: *const u8, image_length: usize, action: usize) -> Place;
+    pub fn nyokazerubi_lookup_refusal(image: *const u8, image_length: usize, action: usize) -> Refusal;
+    pub fn nyokazerubi_plan(
+        image: *const u8,
+        image_length: usize,
+        order: *mut u8,
+        order_length: usize,
+        limits: *mut i32,
+        limits_length: usize,
+        worst_by_position: *mut u32,
+        worst_by_position_length: usize,
+        bounds: *mut i32,
+        bounds_length: usize,
+    ) -> Planned;
+    pub fn nyokazerubi_start(run: *mut Run, n: usize, levels: usize) -> Refusal;
+    pub fn nyokazerubi_ask(
+        run: *mut Run,
+        order: *const u8,
+        order_length: usize,
+        limits: *const i32,
+        limits_length: usize,
+        bounds: *const i32,
+        bounds_length: usize,
+    ) -> Given;
+    pub fn nyokazerubi_report(
+        run: *mut Run,
+        clock: u32,
+        worst_by_position: *const u32,
+        worst_by_position_length: usize,
+    ) -> Refusal;
+    pub fn nyokazerubi_dry_run(
+        n: usize,
+        levels: usize,
+        limits: *const i32,
+        limits_length: usize,
+        worst_by_position: *const u32,
+        worst_by_position_length: usize,
+        bounds: *const i32,
+        bounds_length: usize,
+        durations: *const u32,
+        durations_length: usize,
+        given: *mut u8,
+        given_length: usize,
+        marks: *mut u8,
+        marks_length: usize,
+    ) -> Dried;
+    pub fn nyokazerubi_dry_frame(
+        image: *const u8,
+        image_length: usize,
+        durations: *const u32,
+        durations_length: usize,
+        order: *mut u8,
+        order_length: usize,
+        given: *mut u8,
+        given_length: usize,
+        marks: *mut u8,
+        marks_length: usize,
+    ) -> Framed;
+    pub fn nyokazerubi_speed_reading(
+        image: *const u8,
+        image_length: usize,
+        first: usize,
+        last: usize,
+        level: usize,
+        t: u32,
+    ) -> Reading;
+    pub fn nyokazerubi_on_time(
+        image: *const u8,
+        image_length: usize,
+        first: usize,
+        last: usize,
+        level: usize,
+        t: u32,
+    ) -> bool;
+    pub fn nyokazerubi_refresh(
+        image: *const u8,
+        image_length: usize,
+        trace: *const u8,
+        trace_length: usize,
+        out: *mut u8,
+        out_length: usize,
+    ) -> Refreshed;
+}
