@@ -22,7 +22,7 @@ pub fn tell(line: &[u8]) {
 
 // The file of an image, n and levels, and durations by position.
 fn tell_planned(line: &[u8]) {
-    let name = lines::find(line, 0, b' ');
+    let name = text::words::find(line, 0, b' ');
     let mut image = io::buffer();
     let bytes = files::read_file(&line[0..name], &mut image);
     plan_and_tell(&image[..bytes], test_kit::numbers(line));
@@ -109,13 +109,13 @@ fn tell_dry_with(row: [u32; 24], durations: &[u32]) {
 
 // The word of a case as a limit or a bound. Below 0 there is only -1.
 fn signed(line: &[u8], k: usize) -> i32 {
-    let at = lines::word(line, k);
+    let at = text::words::word(line, k);
     if at < line.len() {
         if line[at] == b'-' {
             return -1;
         }
     }
-    let n = lines::number(line, k);
+    let n = text::words::number(line, k);
     if n < 1000 { n as i32 } else { 1000 }
 }
 

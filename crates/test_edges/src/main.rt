@@ -17,7 +17,7 @@ fn tell_file(name: &[u8]) {
 fn tell_each(text: &[u8], file: u8) {
     let mut at = 0;
     while at < text.len() {
-        let end = lines::find(text, at, b'\n');
+        let end = text::words::find(text, at, b'\n');
         tell(&text[at..end], file);
         at = end + 1;
     }

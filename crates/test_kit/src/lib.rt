@@ -6,7 +6,7 @@ ghost use Prim.Native.Nat.{ℕ, _+_, _≤_, _<_, min};
 ghost use mathlib.Core.Path.{_≡_};
 ghost use lib.ListN.{length, getD};
 ghost use Rattle.io.specs.Counts.{Counts};
-ghost use Rattle.lines.specs.Words.{from-word, decimal, capped};
+ghost use Rattle.text.specs.Words.{from-word, decimal, capped};
 
 pub mod samples;
 
@@ -30,7 +30,7 @@ pub fn numbers(line: &[u8]) -> [u32; 24]
     let mut row = [0u32; 24];
     let mut k = 0;
     while k < 24 {
-        row[k] = lines::number(line, k + 1);
+        row[k] = text::words::number(line, k + 1);
         k += 1;
     }
     row
@@ -82,9 +82,9 @@ pub fn say(words: &[u8], row: &[u32]) {
     let mut from = 0;
     let mut k = 0;
     while k < row.len() {
-        let end = lines::find(words, from, b'_');
+        let end = text::words::find(words, from, b'_');
         say_number(&words[from..end], row[k]);
-        from = lines::next(words, from, b'_');
+        from = text::words::next(words, from, b'_');
         k += 1;
     }
     io::write_all(1, &words[from..]);

@@ -4,6 +4,7 @@
 // two differ it says so instead.
 use nyokazerubi::runs;
 use run::Run;
+use text::words;
 ghost use Prim.Native.Nat.{_≤_};
 
 mod through;
@@ -24,7 +25,7 @@ fn tell_each(text: &[u8], order: [u8; 3], limits: &[i32], worst: [u32; 6], bound
     let mut run = Run::start(0, 0).run;
     let mut at = 0;
     while at < text.len() {
-        let end = lines::find(text, at, b'\n');
+        let end = words::find(text, at, b'\n');
         run = tell(run, &text[at..end], order, limits, worst, bounds);
         at = end + 1;
     }
@@ -42,8 +43,8 @@ fn tell(
     if line.len() == 0 {
         return run;
     }
-    let a = lines::number(line, 1);
-    let b = lines::number(line, 2);
+    let a = words::number(line, 1);
+    let b = words::number(line, 2);
     io::write_all(1, line);
     io::write_all(1, b":");
     match line[0] {

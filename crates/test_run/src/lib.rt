@@ -157,7 +157,7 @@ fn say_record(run: Run) {
 
 fn tell_turns(line: &[u8]) {
     let mut run = Run::start(3, 2).run;
-    let mut at = lines::word(line, 1);
+    let mut at = text::words::word(line, 1);
     while at < line.len() {
         run = turn(run, line[at]);
         at += 1;

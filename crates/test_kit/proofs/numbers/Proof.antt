@@ -7,7 +7,7 @@ use lib.ListN.{length, getD, set, length-set}
 use lib.Seq.{getD-set-same, getD-set-other}
 use borrow.Author.Count.{below-none, below-more}
 use borrow.Author.Needs.{needs}
-use Rattle.lines.specs.Words.{from-word, decimal, capped}
+use Rattle.text.specs.Words.{from-word, decimal, capped}
 use Rattle.test_kit.proofs.numbers.Statement.{statement}
 use Rattle.test_kit.proofs.numbers.Tie as tie
 

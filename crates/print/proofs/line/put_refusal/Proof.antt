@@ -1,0 +1,19 @@
+-- The word with its space, and the number with the newline. Assumes nothing.
+use Prim.Native.Nat.{zero-le}
+use borrow.Author.Needs.{needs}
+use Rattle.text.specs.Digits.{line}
+use Rattle.text.proofs.Puts.{put-then}
+use Rattle.print.specs.Refused.{refused-text}
+use Rattle.print.proofs.line.put_refusal.Statement.{statement}
+use Rattle.print.proofs.line.put_refusal.Tie as tie
+
+returns : tie.Need-returns
+unfolding line refused-text
+returns c =
+    let number = c .before .before in
+    let word = number .before .before .before .before in
+    put-then zero-le (word .put-bytes .ensures) (number .put-field .ensures)
+
+pub put-refusal-spec : {M : Type 1} → statement M
+put-refusal-spec =
+    tie.close (tie.spec (λ c. search needs) (λ c κs. search needs) (λ c κs. search needs) (λ c. search needs) returns)

@@ -1,0 +1,45 @@
+-- What the dry-run program prints of an image and the bytes of its durations.
+use Prim.Native.Nat.{ℕ, suc, _*_, _/_, min}
+use mathlib.Core.Path.{_≡_}
+use mathlib.Core.Bool.{Bool}
+use mathlib.Core.List.{List, [], _∷_, _++_}
+use lib.ListN.{length}
+use Rattle.rules.specs.Numbers.{most-actions, most-levels}
+use Rattle.rules.specs.Words.{cat, tab, one-if}
+use Rattle.rules.specs.Image.{be, profile}
+use Rattle.rules.specs.Order.{Order, TheOrder}
+use Rattle.rules.specs.Refusals.{First, kept}
+use Rattle.rules.specs.Run.{decides}
+use Rattle.rules.specs.Dry.{frame-call}
+use Rattle.dry_frame.specs.Frame.{run-at}
+use Rattle.text.specs.Digits.{decimal, line}
+use Rattle.text.specs.Put.{Puts}
+use Rattle.print.specs.Refused.{refused-text}
+
+-- a line of four numbers
+unfoldable pub four-line : ℕ → ℕ → ℕ → ℕ → List ℕ
+four-line a b c d = line (decimal a ∷ decimal b ∷ decimal c ∷ decimal d ∷ [])
+
+-- Position, action, level and decided (1 or 0), a line for each position; then decisions, end, overrun, late, which the last record has.
+abbrev pub dry-text : ℕ → (ℕ → ℕ) → (ℕ → ℕ) → (ℕ → ℕ) → ℕ → ℕ → Bool → Bool → List ℕ
+dry-text n action level decided decisions end overrun late =
+    cat (λ i. four-line i (action i) (level i) (decided i)) n ++ four-line decisions end (one-if overrun) (one-if late)
+
+-- The durations that the bytes say, four bytes each, high byte first. No profile has more entries than 64 by 8: further ones are not read.
+abbrev pub durations : List ℕ → List ℕ
+durations bytes = tab (λ k. be bytes (k * 4) 4) (min (length bytes / 4) (most-actions * most-levels))
+
+-- That text of the image s and the durations d, or their refusal, is put into the buffer from its start on. Without a refusal the order is the
+-- profile's; with one o counts for nothing. Too few durations are 17.
+pub record TellsDry (s d out out′ : List ℕ) (r : ℕ) : Type 0 where
+  pub number : ℕ
+  pub refusal : First (frame-call s d ((length d, profile s .n * profile s .levels) ∷ [])) number
+  pub o : Order (profile s .n)
+  pub the-order : number ≡ 0 → TheOrder (profile s) o
+  pub text : Puts out 0
+      (kept number
+      (dry-text (profile s .n) (o .at) (λ i. run-at s d o (suc i) .level) (λ i. one-if (decides (run-at s d o i)))
+      (run-at s d o (profile s .n) .decisions) (run-at s d o (profile s .n) .clock)
+      (run-at s d o (profile s .n) .overrun) (run-at s d o (profile s .n) .late))
+      (refused-text number))
+      out′ r

@@ -1,0 +1,4 @@
+pub mod Refused
+pub mod Plan
+pub mod Dry
+pub mod Reading

@@ -1,0 +1,36 @@
+-- What the plan program prints of an image.
+use Prim.Native.Nat.{ℕ}
+use mathlib.Core.Path.{_≡_}
+use mathlib.Core.List.{List, [], _∷_, _++_}
+use lib.IntN.{ℤ}
+use Rattle.rules.specs.Words.{cat, tab}
+use Rattle.rules.specs.Image.{profile}
+use Rattle.rules.specs.Order.{Order, TheOrder}
+use Rattle.rules.specs.Limits.{tables, limit}
+use Rattle.rules.specs.Refusals.{First, kept, image-checks}
+use Rattle.text.specs.Digits.{decimal, signed, line}
+use Rattle.text.specs.Put.{Puts}
+use Rattle.print.specs.Refused.{refused-text}
+
+-- actions, levels, cycle
+unfoldable pub counts-line : ℕ → ℕ → ℕ → List ℕ
+counts-line n L cycle = line (decimal n ∷ decimal L ∷ decimal cycle ∷ [])
+
+-- position, action and limits by level
+unfoldable pub position-line : ℕ → ℕ → (ℕ → ℤ) → ℕ → List ℕ
+position-line i action limits L = line (decimal i ∷ decimal action ∷ tab (λ q. signed (limits q)) L)
+
+-- The counts, then a line for each position.
+abbrev pub plan-text : ℕ → ℕ → ℕ → (ℕ → ℕ) → (ℕ → ℕ → ℤ) → List ℕ
+plan-text n L cycle action limits = counts-line n L cycle ++ cat (λ i. position-line i (action i) (limits i) L) n
+
+-- That text of the image s, or its refusal, is put into the buffer from its start on. Without a refusal the order is the profile's; with one
+-- there need not be any, and o counts for nothing. The program's own tables have room for every profile, so that there is no 17.
+pub record TellsPlan (s out out′ : List ℕ) (r : ℕ) : Type 0 where
+  pub number : ℕ
+  pub refusal : First (image-checks s) number
+  pub o : Order (profile s .n)
+  pub the-order : number ≡ 0 → TheOrder (profile s) o
+  pub text : Puts out 0
+      (kept number (plan-text (profile s .n) (profile s .levels) (profile s .cycle) (o .at) (limit (tables (profile s) o))) (refused-text number))
+      out′ r

@@ -1,0 +1,5 @@
+mod Cases
+mod Passed
+pub mod Puts
+mod Decimal
+mod Signed
