@@ -14,7 +14,7 @@ use Rattle.rules.specs.Dry.{LongEntry, frame-call}
 use Rattle.rules.proofs.Refusals.{Sound, accepted-sound, accepted-parts, first-stops, first-goes-on, image-numbered}
 use Rattle.fields.proofs.Cats.{cat-ext}
 use Rattle.fields.proofs.Written.{tab-written}
-use Rattle.dry_frame.specs.Frame.{rooms, run-at, Frames}
+use Rattle.dry_frame.specs.Frame.{FrameLists, frame-rooms, run-at, Frames}
 use Rattle.dry_frame.specs.declared.Framed.{Framed}
 use Rattle.planner.proofs.Answers.{kept-old, kept-new}
 use Rattle.text.specs.Put.{Puts}
@@ -27,14 +27,13 @@ use Rattle.print.proofs.Plans.{few}
 abbrev pub step : List ℕ → List ℕ → List ℕ → ℕ → List ℕ
 step order given marks i = four-line i (getD order i 0) (getD given i 0) (getD marks i 0)
 
--- slices that have room for every profile
-pub record Ample (order given marks : List ℕ) : Type 0 where
-  pub order-room : 64 ≤ length order
-  pub given-room : 64 ≤ length given
-  pub marks-room : 64 ≤ length marks
+-- lists that have room for every profile
+pub record Ample (lists : FrameLists) : Type 0 where
+  pub order-room : most-actions ≤ length (lists .order)
+  pub levels-room : most-actions ≤ length (lists .levels)
+  pub decided-room : most-actions ≤ length (lists .decided)
 
-module _ {s durations order given marks order′ given′ marks′ : List ℕ} {r : Framed}
-    (f : Frames s durations order given marks order′ given′ marks′ r) where
+module _ {s durations : List ℕ} {before after : FrameLists} {r : Framed} (f : Frames s durations before after r) where
   abbrev cells : ℕ
   cells = profile s .n * profile s .levels
 
@@ -42,7 +41,7 @@ module _ {s durations order given marks order′ given′ marks′ : List ℕ} {
   long = refused-duration when LongEntry cells durations
 
   abbrev lent : List (ℕ × ℕ)
-  lent = rooms (profile s .n) cells (length durations) (length order) (length given) (length marks)
+  lent = frame-rooms (profile s .n) (profile s .levels) durations before
 
   parts : (First (image-checks s) (r .refusal .number) × (r .refusal .number ≢ 0))
       ⊎ (Sound s × First (refused-room when Tight lent ∷ long ∷ []) (r .refusal .number))
@@ -52,7 +51,7 @@ module _ {s durations order given marks order′ given′ marks′ : List ℕ} {
   positions none = rw (rw none at (f .n)) (few (⊎-elim (λ x. absurd (x .1 none)) (λ x. x .0) parts) .actions)
 
   text-is : r .refusal .number ≡ 0
-      → cat (step order′ given′ marks′) (r .n) ++ four-line (r .decisions) (r .end) (one-if (r .overrun)) (one-if (r .late))
+      → cat (step (after .order) (after .levels) (after .decided)) (r .n) ++ four-line (r .decisions) (r .end) (one-if (r .overrun)) (one-if (r .late))
       ≡ dry-text (profile s .n) (f .o .at) (λ i. run-at s durations (f .o) (suc i) .level) (λ i. one-if (decides (run-at s durations (f .o) i)))
       (run-at s durations (f .o) (profile s .n) .decisions) (run-at s durations (f .o) (profile s .n) .clock)
       (run-at s durations (f .o) (profile s .n) .overrun) (run-at s durations (f .o) (profile s .n) .late)
@@ -63,20 +62,20 @@ module _ {s durations order given marks order′ given′ marks′ : List ℕ} {
       (ap (λ (x : List ℕ). x ++ four-line (last .decisions) (last .clock) (one-if (last .overrun)) (one-if (last .late)))
       (cat-ext _ _ n
       (λ i b. rw (
-        tab-written (f .o .at) order n 0 (rw none at (f .order-is)) i b,
-        tab-written (λ j. run-at s durations (f .o) (suc j) .level) given n 0 (rw none at (f .levels)) i b,
-        tab-written (λ j. one-if (decides (run-at s durations (f .o) j))) marks n 0 (rw none at (f .decided)) i b,
+        tab-written (f .o .at) (before .order) n 0 (rw none at (f .order-is)) i b,
+        tab-written (λ j. run-at s durations (f .o) (suc j) .level) (before .levels) n 0 (rw none at (f .levels)) i b,
+        tab-written (λ j. one-if (decides (run-at s durations (f .o) j))) (before .decided) n 0 (rw none at (f .decided)) i b,
       ))))
 
-  module _ (room : Ample order given marks) where
+  module _ (room : Ample before) where
     -- only the durations can be too few
     scarce : Sound s → Tight lent → Tight ((length durations, cells) ∷ [])
     scarce h =
         let k = few h in
         ⊎-elim (λ t. inl t)
         (⊎-elim (λ t. absurd (omega (arith, k .actions, room .order-room)))
-        (⊎-elim (λ t. absurd (omega (arith, k .actions, room .given-room)))
-        (⊎-elim (λ t. absurd (omega (arith, k .actions, room .marks-room))) (λ t. absurd t))))
+        (⊎-elim (λ t. absurd (omega (arith, k .actions, room .levels-room)))
+        (⊎-elim (λ t. absurd (omega (arith, k .actions, room .decided-room))) (λ t. absurd t))))
 
     own : Sound s → First (refused-room when Tight lent ∷ long ∷ []) (r .refusal .number)
         → First (refused-room when Tight ((length durations, cells) ∷ []) ∷ long ∷ []) (r .refusal .number)
@@ -100,7 +99,7 @@ module _ {s durations order given marks order′ given′ marks′ : List ℕ} {
       }
 
       pub dry-told : r .refusal .number ≡ 0
-          → Puts out 0 (cat (step order′ given′ marks′) (r .n) ++ four-line (r .decisions) (r .end) (one-if (r .overrun)) (one-if (r .late))) out′ k
+          → Puts out 0 (cat (step (after .order) (after .levels) (after .decided)) (r .n) ++ four-line (r .decisions) (r .end) (one-if (r .overrun)) (one-if (r .late))) out′ k
           → TellsDry s durations out out′ k
       dry-told none put = record {
         number = r .refusal .number;

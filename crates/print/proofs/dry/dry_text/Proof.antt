@@ -15,7 +15,7 @@ returns c =
     let framed = refused .before .before .before .before .before .before in
     let said = framed .before .before .before .before .before .before in
     let frames = rw (said .take-durations .ensures .1) at (framed .dry-frame .ensures) in
-    dry-refused frames (record { order-room = lit≤ tt; given-room = lit≤ tt; marks-room = lit≤ tt })
+    dry-refused frames (record { order-room = lit≤ tt; levels-room = lit≤ tt; decided-room = lit≤ tt })
     (refused .if1 .taken) (put .put-refusal .ensures)
 
 put-steps-requires : tie.Need-put-steps-requires
@@ -34,7 +34,7 @@ returns-2 c =
     let framed = accepted .before .before .before .before .before .before in
     let said = framed .before .before .before .before .before .before in
     let frames = rw (said .take-durations .ensures .1) at (framed .dry-frame .ensures) in
-    dry-told frames (record { order-room = lit≤ tt; given-room = lit≤ tt; marks-room = lit≤ tt })
+    dry-told frames (record { order-room = lit≤ tt; levels-room = lit≤ tt; decided-room = lit≤ tt })
     (accepted .if1 .left) (put-then zero-le (steps .put-steps .ensures) (end .put-end .ensures))
 
 pub dry-text-spec : {M : Type 1} → statement M
