@@ -18,7 +18,7 @@ use Rattle.run.specs.Calls.{run-of, with-run}
 use Rattle.nyokazerubi.specs.declared.runs.Given as flat
 use Rattle.nyokazerubi.specs.Flat.{Asks}
 use Rattle.run_histories.specs.Demand.{WithinAnswered}
-use Rattle.run_histories.specs.Camera.{Answers, Traced, CameraCycle, CameraKeeps}
+use Rattle.run_histories.specs.Camera.{AnswersCall, Traced, CameraCycle, CameraKeeps}
 use Rattle.run_histories.proofs.Camera.{camera-keeps, camera-unmarked}
 use Rattle.host_histories.specs.Host.{HostMade, host-asked, host-reported, answer-from, by-value, HostAnswers, HostTraced, host-askings, host-clocks, HostCycle}
 
@@ -48,7 +48,7 @@ back (rules.gives action level decided late s) r g some a =
 
 -- ---- each call, and the calls one after another
 
-answers-by-value : (m : HostMade) (r : Run) → HostAnswers m r → Answers (by-value m) r
+answers-by-value : (m : HostMade) (r : Run) → HostAnswers m r → AnswersCall (by-value m) r
 answers-by-value (host-asked T g r′) r a = back (rules.ask T (run-of r)) r′ g (ask-numbered T (run-of r)) a
 answers-by-value (host-reported worst t a) r e = e
 

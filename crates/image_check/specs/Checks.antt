@@ -4,7 +4,7 @@ use mathlib.Core.Path.{_≡_}
 use mathlib.Core.Logic.{_≢_}
 use mathlib.Core.List.{List, [], _∷_, _++_}
 use lib.ListN.{replicate}
-use Rattle.rules.specs.Numbers.{refused-version, refused-count, refused-length, refused-spare, refused-range, refused-table, refused-loop, refused-unfit}
+use Rattle.rules.specs.Numbers.{most-actions, refused-version, refused-count, refused-length, refused-spare, refused-range, refused-table, refused-loop, refused-unfit}
 use Rattle.rules.specs.Image.{profile}
 use Rattle.rules.specs.Order.{Order, TheOrder}
 use Rattle.rules.specs.Refusals.{Ground, _when_, First, Count, Range, Table, Looped, Unfit, Version, Length, Spare, image-checks}
@@ -29,7 +29,7 @@ pub record Blank (r : Checked) : Type 0 where
   pub n : r .n ≡ 0
   pub levels : r .levels ≡ 0
   pub cycle : r .cycle ≡ 0
-  pub order : r .order ≡ replicate 64 0
+  pub order : r .order ≡ replicate most-actions 0
 
 -- without one: the profile's n, levels and cycle, and its actions in order, then 0
 pub record Found (s : List ℕ) (r : Checked) : Type 0 where

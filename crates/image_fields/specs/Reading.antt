@@ -3,6 +3,7 @@ use Prim.Native.Nat.{ℕ, _+_, _≤_, _<_}
 use mathlib.Core.Path.{_≡_}
 use mathlib.Core.List.{List}
 use lib.ListN.{length, getD}
+use Rattle.rules.specs.Numbers.{most-actions, most-levels}
 use Rattle.rules.specs.Image.{version, actions, levels, cycle, header-spare, record-bytes, record-at, image-bytes, mask-of, deadline-of, worst-of}
 use Rattle.image_fields.specs.declared.Header.{Header}
 
@@ -17,16 +18,16 @@ pub record HeaderOf (s : List ℕ) (r : Header) : Type 0 where
 -- s has the record of action a, with L levels
 pub record HasRecord (s : List ℕ) (L a : ℕ) : Type 0 where
   pub said : L ≡ levels s
-  pub few-levels : L ≤ 8
-  pub few-actions : a < 64
+  pub few-levels : L ≤ most-levels
+  pub few-actions : a < most-actions
   pub within : record-at L a + record-bytes L ≤ length s
 
 -- s has the records of n actions with L levels, and nothing after them
 pub record HasRecords (s : List ℕ) (L n : ℕ) : Type 0 where
   pub said : L ≡ levels s
   pub some-level : 1 ≤ L
-  pub few-levels : L ≤ 8
-  pub few-actions : n ≤ 64
+  pub few-levels : L ≤ most-levels
+  pub few-actions : n ≤ most-actions
   pub long : length s ≡ image-bytes n L
 
 -- h is the header of s, whose records are there

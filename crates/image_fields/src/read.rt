@@ -3,6 +3,7 @@ use crate::Header;
 ghost use mathlib.Core.Path.{_≡_};
 ghost use Prim.Native.Nat.{_≤_, _<_};
 ghost use lib.ListN.{length};
+ghost use Rattle.rules.specs.Numbers.{most-actions, most-levels};
 ghost use Rattle.rules.specs.Image.{due, profile, record-at, mask-of, deadline-of, spare-of, average-of, worst-of};
 ghost use Rattle.image_fields.specs.Reading.{HeaderOf, HasRecord};
 
@@ -22,7 +23,7 @@ pub fn header(image: &[u8]) -> Header
 
 // Where the record of an action starts; that of action n would start where the image ends.
 pub fn record_at(levels: usize, a: usize) -> usize
-    requires { ⌜ (levels ≤ 8) × (a ≤ 64) ⌝ }
+    requires { ⌜ (levels ≤ most-levels) × (a ≤ most-actions) ⌝ }
     ensures { λ r. ⌜ r ≡ record-at levels a ⌝ }
 {
     rules::HEADER_BYTES + a * (rules::HEAD_BYTES + rules::LEVEL_BYTES * levels)

@@ -6,6 +6,7 @@ ghost use mathlib.Core.Bool.{true};
 ghost use mathlib.Core.Logic.{_↔_};
 ghost use Prim.Native.Nat.{_+_, _≤_, _<_};
 ghost use lib.ListN.{length, getD};
+ghost use Rattle.rules.specs.Numbers.{most-actions};
 ghost use Rattle.rules.specs.Image.{average-of, worst-of};
 ghost use Rattle.rules.specs.Refusals.{LowestFault, CountOut, SpareFault, OutOfRange, RowBreaks};
 ghost use Rattle.image_fields.specs.Reading.{HasRecord, HasRecords};
@@ -53,7 +54,7 @@ pub fn spare_fault(image: &[u8], levels: usize, n: usize) -> usize
 
 // 6, of one action: its deadline is above the cycle, or its mask names action n or more.
 pub fn out_of_range(mask: u64, deadline: u32, cycle: u32, n: usize) -> bool
-    requires { ⌜ n ≤ 64 ⌝ }
+    requires { ⌜ n ≤ most-actions ⌝ }
     ensures { λ r. ⌜ (r ≡ true) ↔ OutOfRange n cycle mask deadline ⌝ }
 {
     if cycle < deadline {
@@ -63,7 +64,7 @@ pub fn out_of_range(mask: u64, deadline: u32, cycle: u32, n: usize) -> bool
 }
 
 pub fn range_fault(masks: &[u64], deadlines: &[u32], cycle: u32, n: usize) -> usize
-    requires { ⌜ (n ≤ 64) × (n ≤ length (now masks)) × (n ≤ length (now deadlines)) ⌝ }
+    requires { ⌜ (n ≤ most-actions) × (n ≤ length (now masks)) × (n ≤ length (now deadlines)) ⌝ }
     ensures { λ r. ⌜ LowestFault (λ a. OutOfRange n cycle (getD (now (masks .entry)) a 0) (getD (now (deadlines .entry)) a 0)) n r ⌝ }
 {
     let mut a = 0;

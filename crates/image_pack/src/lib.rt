@@ -5,14 +5,14 @@ ghost use mathlib.Core.List.{[], _++_};
 ghost use Prim.Native.Nat.{ℕ, _+_, _*_, _^_, _≤_, _<_};
 ghost use lib.ListN.{length, getD};
 ghost use Rattle.rules.specs.Words.{cat};
-ghost use Rattle.rules.specs.Numbers.{header-bytes};
+ghost use Rattle.rules.specs.Numbers.{most-actions, most-levels, header-bytes};
 ghost use Rattle.rules.specs.Image.{bytes, record-at, image-bytes, of-tables, header-of, level-image, record-image, image as image-of};
 ghost use Rattle.fields.specs.Fields.{splice};
 ghost use Rattle.image_pack.specs.Packing.{Roomy, of-records};
 
 // An image ends where a record after its last one would start.
 pub fn image_bytes(n: usize, levels: usize) -> usize
-    requires { ⌜ (n ≤ 64) × (levels ≤ 8) ⌝ }
+    requires { ⌜ (n ≤ most-actions) × (levels ≤ most-levels) ⌝ }
     ensures { λ r. ⌜ r ≡ image-bytes n levels ⌝ }
 {
     record_at(levels, n)
@@ -102,7 +102,7 @@ fn put_records(
 
 // The header: version 4 (value 1), actions 7, levels 4, cycle 30, spare 3.
 fn put_header(image: &mut [u8], n: usize, levels: usize, cycle: u32)
-    requires { ⌜ (n ≤ 64) × (levels ≤ 8) × (cycle < 2 ^ 30) × (header-bytes ≤ length (now image)) ⌝ }
+    requires { ⌜ (n ≤ most-actions) × (levels ≤ most-levels) × (cycle < 2 ^ 30) × (header-bytes ≤ length (now image)) ⌝ }
     ensures { λ r. ⌜ now (image .exit) ≡ splice (now (image .entry)) 0 (bytes 6 (header-of (of-tables n levels cycle
         (record { masks = []; deadlines = []; averages = []; worst = [] })))) ⌝ }
 {

@@ -5,6 +5,7 @@ ghost use mathlib.Core.Bool.{true};
 ghost use mathlib.Core.Logic.{_↔_};
 ghost use Prim.Native.Nat.{ℕ, _+_, _*_, _≤_, _<_};
 ghost use lib.ListN.{length};
+ghost use Rattle.rules.specs.Numbers.{most-actions, most-levels};
 ghost use Rattle.rules.specs.Image.{time-at, of-tables};
 ghost use Rattle.rules.specs.Refusals.{LowestFault, LongTime, WriteFault, RowBreaks, Tight};
 ghost use Rattle.image_pack.specs.Packing.{Roomy};
@@ -20,7 +21,7 @@ pub fn tight(
     averages: &[u32],
     worst: &[u32],
 ) -> bool
-    requires { ⌜ (n ≤ 64) × (levels ≤ 8) ⌝ }
+    requires { ⌜ (n ≤ most-actions) × (levels ≤ most-levels) ⌝ }
     ensures { λ r. ⌜ (r ≡ true)
         ↔ Tight (table-rooms n levels
         (record { masks = now (masks .entry); deadlines = now (deadlines .entry); averages = now (averages .entry); worst = now (worst .entry) })) ⌝ }

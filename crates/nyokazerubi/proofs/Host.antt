@@ -15,12 +15,12 @@ use Rattle.speed_stretch.specs.Answer.{reading-of}
 use Rattle.speed.proofs.Answers.{reads-settled}
 use Rattle.nyokazerubi.specs.declared.runs.Given.{Given}
 use Rattle.nyokazerubi.specs.declared.readings.Read.{Read}
-use Rattle.nyokazerubi.specs.Flat.{next-of, given-of, next-run, Asks, read-of, ReadsFlat}
+use Rattle.nyokazerubi.specs.Flat.{next-flat, given-of, next-run, Asks, read-of, ReadsFlat}
 
 -- ---- start and report
 
 -- the rules' answer settles the record and the refusal
-pub next-one : {r s : Run} {k m : Refusal} {x : rules.Next} → next-of r k ≡ x → next-of s m ≡ x → (r ≡ s) × (k ≡ m)
+pub next-one : {r s : Run} {k m : Refusal} {x : rules.Next} → next-flat r k ≡ x → next-flat s m ≡ x → (r ≡ s) × (k ≡ m)
 next-one {r} {s} e f = (
   run-of-one r s (ap (λ (x : rules.Next). x .run) (e ∙ sym f)),
   ap (λ (x : rules.Next). record { number = x .number })
@@ -28,10 +28,10 @@ next-one {r} {s} e f = (
 )
 
 -- a refused start leaves a record of zero actions
-pub start-refused : (n L : ℕ) {r : Run} {k : Refusal} → next-of r k ≡ rules.start n L → k .number ≢ 0 → run-of r ≡ rules.begun 0 0 0
+pub start-refused : (n L : ℕ) {r : Run} {k : Refusal} → next-flat r k ≡ rules.start n L → k .number ≢ 0 → run-of r ≡ rules.begun 0 0 0
 start-refused n L {r} {k} e = started-kept n L (record { run = r; refusal = k }) e .refused
 
-pub report-refused : (worst : List ℕ) (t : ℕ) (h : Run) {r : Run} {k : Refusal} → next-of r k ≡ rules.report worst t (run-of h) → k .number ≢ 0
+pub report-refused : (worst : List ℕ) (t : ℕ) (h : Run) {r : Run} {k : Refusal} → next-flat r k ≡ rules.report worst t (run-of h) → k .number ≢ 0
     → r ≡ h
 report-refused worst t h {r} {k} e = reported-kept worst t h (record { run = r; refusal = k }) e .refused
 

@@ -23,8 +23,8 @@ boundary = 1
 -- ---- starting and reporting
 
 -- The next record and the refusal, in the rules' words.
-abbrev pub next-of : Run → Refusal → rules.Next
-next-of run refusal = record { number = refusal .number; run = run-of run }
+abbrev pub next-flat : Run → Refusal → rules.Next
+next-flat run refusal = record { number = refusal .number; run = run-of run }
 
 -- ---- asking
 

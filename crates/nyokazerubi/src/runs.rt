@@ -7,7 +7,7 @@ ghost use mathlib.Core.List.{[]};
 ghost use Rattle.rules.specs.Run.{start, ask, report};
 ghost use Rattle.rules.specs.Run as rules;
 ghost use Rattle.run.specs.Calls.{run-of, with-run};
-ghost use Rattle.nyokazerubi.specs.Flat.{next-of, given-of, Asks};
+ghost use Rattle.nyokazerubi.specs.Flat.{next-flat, given-of, Asks};
 
 // The answer of asking, laid flat, since an enum does not cross to C: the refusal, and without one the action, its level, whether decided,
 // and late. With a refusal these are 0 or no.
@@ -70,7 +70,7 @@ pub fn ask_flat(run: Run, order: &[u8], limits: &[i32], bounds: &[i32]) -> Asked
 
 #[no_mangle]
 pub extern "C" fn nyokazerubi_start(run: &mut Run, n: usize, levels: usize) -> Refusal
-    ensures { λ r. ⌜ next-of (now (run .exit)) r ≡ start n levels ⌝ }
+    ensures { λ r. ⌜ next-flat (now (run .exit)) r ≡ start n levels ⌝ }
 {
     let out = Run::start(n, levels);
     *run = out.run;
@@ -98,7 +98,7 @@ pub extern "C" fn nyokazerubi_report(
     clock: u32,
     worst_by_position: &[u32],
 ) -> Refusal
-    ensures { λ r. ⌜ next-of (now (run .exit)) r ≡ report (now («worst_by_position» .entry)) clock (run-of (now (run .entry))) ⌝ }
+    ensures { λ r. ⌜ next-flat (now (run .exit)) r ≡ report (now («worst_by_position» .entry)) clock (run-of (now (run .entry))) ⌝ }
 {
     let out = Run::report(*run, clock, worst_by_position);
     *run = out.run;

@@ -5,6 +5,7 @@ use mathlib.Core.Bool.{true, false}
 use mathlib.Core.Logic.{_⊎_, _↔_}
 use mathlib.Core.List.{List}
 use lib.ListN.{length, getD}
+use Rattle.rules.specs.Numbers.{most-actions}
 use Rattle.rules.specs.Image.{has}
 use Rattle.rules.specs.Order.{Order, Loop, ByUrgency}
 use Rattle.sets.specs.Sets.{Subset, comes-before}
@@ -25,7 +26,7 @@ pub record WaitsWith (n : ℕ) (masks : List ℕ) (done b a : ℕ) : Type 0 wher
 -- The actions that are not done are in t, those still to be looked at, or in free, where all are ready, or each waits with another: w has
 -- for each action that is not done the set of those that wait with it.
 pub record Parted (n : ℕ) (masks : List ℕ) (done free t : ℕ) (w : List ℕ) : Type 0 where
-  pub long : length w ≡ 64
+  pub long : length w ≡ most-actions
   pub left : (a : ℕ) → has t a ≡ true → (a < n) × (has done a ≡ false)
   pub ready : (a : ℕ) → has free a ≡ true → ReadyIn n masks done a
   pub waiting : (b a : ℕ) → has done b ≡ false → has (getD w b 0) a ≡ true → WaitsWith n masks done b a

@@ -5,7 +5,7 @@ use mathlib.Core.Bool.{Bool, true}
 use mathlib.Core.Logic.{_↔_, _≢_}
 use mathlib.Core.List.{List, [], _∷_}
 use lib.ListN.{replicate}
-use Rattle.rules.specs.Numbers.{refused-loop, refused-unfit}
+use Rattle.rules.specs.Numbers.{most-actions, refused-loop, refused-unfit}
 use Rattle.rules.specs.Image.{Profile, due}
 use Rattle.rules.specs.Order.{Order, TheOrder, Fit}
 use Rattle.rules.specs.Refusals.{_when_, First, Looped, Unfit}
@@ -32,4 +32,4 @@ pub record Verdict (F : Profile) (k : ℕ) (l : List ℕ) : Type 0 where
   pub number : First (refused-loop when Looped F ∷ refused-unfit when Unfit F ∷ []) k
   pub order : k ≢ refused-loop → (o : Order (F .n)) × TheOrder F o × Lists l o
   pub rest : ZeroFrom (F .n) l
-  pub looped : k ≡ refused-loop → l ≡ replicate 64 0
+  pub looped : k ≡ refused-loop → l ≡ replicate most-actions 0

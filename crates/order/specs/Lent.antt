@@ -2,13 +2,13 @@
 use Prim.Native.Nat.{ℕ, _*_, _≤_, _<_}
 use mathlib.Core.List.{List}
 use lib.ListN.{length, getD}
-use Rattle.rules.specs.Numbers.{longest-time}
+use Rattle.rules.specs.Numbers.{most-actions, longest-time}
 use Rattle.sets.specs.Sets.{Below}
 pub use Rattle.order_urgency.specs.Lent.{lent-profile}
 
 -- A mask of each action is lent, and names actions below n.
 pub record Masked (n : ℕ) (masks : List ℕ) : Type 0 where
-  pub few : n ≤ 64
+  pub few : n ≤ most-actions
   pub long : n ≤ length masks
   pub below : (a : ℕ) → a < n → Below (getD masks a 0) n
 

@@ -17,6 +17,7 @@ ghost use mathlib.Core.Logic.{_↔_};
 ghost use mathlib.Core.List.{List, []};
 ghost use Prim.Native.Nat.{ℕ, _≤_, _<_};
 ghost use lib.ListN.{length, getD};
+ghost use Rattle.rules.specs.Numbers.{most-actions};
 ghost use Rattle.sets.specs.Sets.{Below};
 ghost use Rattle.order.specs.Lent.{lent-profile, Masked, Timed};
 ghost use Rattle.order.specs.Arranged.{Parted, NextIn, Placed, ZeroFrom};
@@ -97,7 +98,7 @@ pub fn arrange(masks: &[u64], urgency: &[u32; 64], n: usize) -> Arranged
 
 // Whether all deadlines are one and each mask names lower numbers alone. Then the order is that of the numbers.
 fn by_number(masks: &[u64], deadlines: &[u32], cycle: u32, n: usize) -> bool
-    requires { ⌜ (n ≤ 64) × (n ≤ length (now masks)) × (n ≤ length (now deadlines)) ⌝ }
+    requires { ⌜ (n ≤ most-actions) × (n ≤ length (now masks)) × (n ≤ length (now deadlines)) ⌝ }
     ensures { λ r. ⌜ (r ≡ true) ↔ ByNumber (lent-profile n cycle (now (masks .entry)) (now (deadlines .entry)) [] 0) ⌝ }
 {
     if n == 0 {
@@ -116,7 +117,7 @@ fn by_number(masks: &[u64], deadlines: &[u32], cycle: u32, n: usize) -> bool
 
 // The numbers below n in order, and then 0.
 fn numbers(n: usize) -> [u8; 64]
-    requires { ⌜ n ≤ 64 ⌝ }
+    requires { ⌜ n ≤ most-actions ⌝ }
     ensures { λ r. ⌜ ((k : ℕ) → k < n → getD r k 0 ≡ k) ⌝ }
     ensures { λ r. ⌜ ZeroFrom n r ⌝ }
 {
@@ -153,7 +154,7 @@ pub fn fit(
     stride: usize,
     n: usize,
 ) -> bool
-    requires { ⌜ (n ≤ 64) × Timed n (now deadlines) (now worst) stride × ((k : ℕ) → k < n → getD (now order) k 0 < n) ⌝ }
+    requires { ⌜ (n ≤ most-actions) × Timed n (now deadlines) (now worst) stride × ((k : ℕ) → k < n → getD (now order) k 0 < n) ⌝ }
     ensures { λ r. ⌜ ((masks : List ℕ) → TellsFit
         (lent-profile n cycle masks (now (deadlines .entry)) (now (worst .entry)) stride) (now (order .entry)) r) ⌝ }
 {

@@ -4,6 +4,7 @@ use mathlib.Core.Path.{_≡_}
 use mathlib.Core.Bool.{true}
 use mathlib.Core.List.{List}
 use lib.ListN.{length, getD}
+use Rattle.rules.specs.Numbers.{most-actions}
 use Rattle.rules.specs.Image.{has}
 use Rattle.sets.specs.Sets.{comes-before}
 
@@ -19,5 +20,5 @@ pub record Row (masks : List ℕ) (k b set : ℕ) : Type 0 where
 
 -- all has such a set for each action.
 pub record Rows (masks : List ℕ) (n k : ℕ) (all : List ℕ) : Type 0 where
-  pub long : length all ≡ 64
+  pub long : length all ≡ most-actions
   pub row : (b : ℕ) → b < n → Row masks k b (getD all b 0)

@@ -5,6 +5,7 @@ ghost use mathlib.Core.Path.{_≡_};
 ghost use mathlib.Core.List.{List};
 ghost use Prim.Native.Nat.{ℕ, _+_, _≤_, _<_};
 ghost use lib.ListN.{length, getD};
+ghost use Rattle.rules.specs.Numbers.{most-actions};
 ghost use Rattle.rules.specs.Order.{OnLoop};
 ghost use Rattle.rules.specs.Refusals.{LowestFault};
 ghost use Rattle.sets.specs.Sets.{comes-before};
@@ -12,8 +13,8 @@ ghost use Rattle.order_loops.specs.Looped.{Rows};
 
 // The masks of the n actions.
 fn copied(masks: &[u64], n: usize) -> [u64; 64]
-    requires { ⌜ (n ≤ 64) × (n ≤ length (now masks)) ⌝ }
-    ensures long { λ r. ⌜ length r ≡ 64 ⌝ }
+    requires { ⌜ (n ≤ most-actions) × (n ≤ length (now masks)) ⌝ }
+    ensures long { λ r. ⌜ length r ≡ most-actions ⌝ }
     ensures each { λ r. ⌜ ((a : ℕ) → a < n → getD r a 0 ≡ getD (now (masks .entry)) a 0) ⌝ }
 {
     let mut all = [0u64; 64];
@@ -27,7 +28,7 @@ fn copied(masks: &[u64], n: usize) -> [u64; 64]
 
 // Where k comes before an action, so does all that comes before k.
 fn through(all: &mut [u64; 64], n: usize, k: usize)
-    requires { ⌜ (n ≤ 64) × (k < n) ⌝ }
+    requires { ⌜ (n ≤ most-actions) × (k < n) ⌝ }
     ensures { λ _. ⌜ ((masks : List ℕ) → Rows masks n k (now (all .entry)) → Rows masks n (k + 1) (now (all .exit))) ⌝ }
 {
     let far = all[k];
@@ -43,7 +44,7 @@ fn through(all: &mut [u64; 64], n: usize, k: usize)
 
 // For each action the set of those that it must follow.
 fn closed(masks: &[u64], n: usize) -> [u64; 64]
-    requires { ⌜ (n ≤ 64) × (n ≤ length (now masks)) ⌝ }
+    requires { ⌜ (n ≤ most-actions) × (n ≤ length (now masks)) ⌝ }
     ensures { λ r. ⌜ Rows (now (masks .entry)) n n r ⌝ }
 {
     let mut all = copied(masks, n);
@@ -57,7 +58,7 @@ fn closed(masks: &[u64], n: usize) -> [u64; 64]
 
 // The lowest action on a loop, n where there is none.
 pub fn first_looped(masks: &[u64], n: usize) -> usize
-    requires { ⌜ (n ≤ 64) × (n ≤ length (now masks)) ⌝ }
+    requires { ⌜ (n ≤ most-actions) × (n ≤ length (now masks)) ⌝ }
     ensures { λ r. ⌜ LowestFault (OnLoop n (comes-before (now (masks .entry)))) n r ⌝ }
 {
     let all = closed(masks, n);

@@ -9,6 +9,7 @@ ghost use mathlib.Core.List.{[]};
 ghost use Prim.Native.Nat.{ℕ, _≤_, _<_};
 ghost use lib.Dec.{eqb};
 ghost use lib.ListN.{length, getD};
+ghost use Rattle.rules.specs.Numbers.{most-actions};
 ghost use Rattle.rules.specs.Image.{has, due};
 ghost use Rattle.order_urgency.specs.Lent.{lent-profile};
 ghost use Rattle.order_urgency.specs.Spread.{HandedOn, PassedDown, Urgent};
@@ -22,8 +23,8 @@ pub fn due(deadline: u32, cycle: u32) -> u32
 
 // The deadline of each action.
 fn dues(deadlines: &[u32], cycle: u32, n: usize) -> [u32; 64]
-    requires { ⌜ (n ≤ 64) × (n ≤ length (now deadlines)) ⌝ }
-    ensures long { λ r. ⌜ length r ≡ 64 ⌝ }
+    requires { ⌜ (n ≤ most-actions) × (n ≤ length (now deadlines)) ⌝ }
+    ensures long { λ r. ⌜ length r ≡ most-actions ⌝ }
     ensures each { λ r. ⌜ ((a : ℕ) → a < n → getD r a 0 ≡ due (lent-profile n cycle [] (now (deadlines .entry)) [] 0) a) ⌝ }
 {
     let mut u = [0u32; 64];
@@ -37,7 +38,7 @@ fn dues(deadlines: &[u32], cycle: u32, n: usize) -> [u32; 64]
 
 // Makes each member of the mask of a at least as urgent as a. Answers whether one above a became more urgent.
 fn hand_on(mask: u64, a: usize, u: &mut [u32; 64]) -> bool
-    requires { ⌜ (a < 64) × (length (now u) ≡ 64) ⌝ }
+    requires { ⌜ (a < most-actions) × (length (now u) ≡ most-actions) ⌝ }
     ensures { λ r. ⌜ HandedOn (has mask) a (now (u .entry)) (now (u .exit)) r ⌝ }
 {
     let x = u[a];
@@ -59,7 +60,7 @@ fn hand_on(mask: u64, a: usize, u: &mut [u32; 64]) -> bool
 // One pass from the last action to the first. What an action got before its turn it hands on at its turn, so another pass is needed
 // only where an action became more urgent after its turn.
 fn pass(masks: &[u64], n: usize, u: &mut [u32; 64]) -> bool
-    requires { ⌜ (n ≤ 64) × (n ≤ length (now masks)) × (length (now u) ≡ 64) ⌝ }
+    requires { ⌜ (n ≤ most-actions) × (n ≤ length (now masks)) × (length (now u) ≡ most-actions) ⌝ }
     ensures { λ r. ⌜ PassedDown n 0 (now (masks .entry)) (now (u .entry)) (now (u .exit)) r ⌝ }
 {
     let mut again = false;
@@ -75,7 +76,7 @@ fn pass(masks: &[u64], n: usize, u: &mut [u32; 64]) -> bool
 
 // The urgency of each action.
 pub fn urgencies(masks: &[u64], deadlines: &[u32], cycle: u32, n: usize) -> [u32; 64]
-    requires { ⌜ (n ≤ 64) × (n ≤ length (now masks)) × (n ≤ length (now deadlines)) ⌝ }
+    requires { ⌜ (n ≤ most-actions) × (n ≤ length (now masks)) × (n ≤ length (now deadlines)) ⌝ }
     ensures { λ r. ⌜ Urgent (lent-profile n cycle (now (masks .entry)) (now (deadlines .entry)) [] 0) r ⌝ }
 {
     let mut u = dues(deadlines, cycle, n);

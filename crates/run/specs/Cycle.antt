@@ -29,7 +29,7 @@ unfoldable pub marks-on : LentTables → List ℕ → Run → ℕ → List ℕ
 marks-on T durations r k = tab (λ j. one-if (decides (onward T durations r j))) k
 
 -- A record that waits for its next action, with all the entries that the rest of its cycle reads and writes.
-pub record Ready (T : LentTables) (durations : List ℕ) (lists : DryLists) (r : Run) : Type 0 where
+pub record Waiting (T : LentTables) (durations : List ℕ) (lists : DryLists) (r : Run) : Type 0 where
   pub ranged : in-range r ≡ true
   pub waits : r .running ≡ false
   pub limited : r .n * r .levels ≤ length (T .limits)

@@ -13,7 +13,7 @@ ghost use Rattle.rules.specs.Run.{ended};
 ghost use Rattle.rules.specs.Dry.{cell, dry-call};
 ghost use Rattle.run.specs.Calls.{run-of};
 ghost use Rattle.run.specs.Dry.{dry-rooms, Dries};
-ghost use Rattle.run.specs.Cycle.{Ready, Running, Rest};
+ghost use Rattle.run.specs.Cycle.{Waiting, Running, Rest};
 
 // The refusal; the decisions made, the clock at the end, and the two marks.
 #[repr(C)]
@@ -45,7 +45,7 @@ fn decide(
     marks: &mut [u8],
     run: Run,
 ) -> Run
-    requires { ⌜ Ready (record { order = []; limits = now limits; worst = now worst; bounds = now bounds }) (now durations)
+    requires { ⌜ Waiting (record { order = []; limits = now limits; worst = now worst; bounds = now bounds }) (now durations)
         (record { levels = now given; decided = now marks }) (run-of run) ⌝ }
     requires { ⌜ (run .left ≡ 0) × (run .position < run .n) ⌝ }
     ensures { λ r. ⌜ Rest (record { order = []; limits = now (limits .entry); worst = now (worst .entry); bounds = now (bounds .entry) })
@@ -87,7 +87,7 @@ fn coast(
     marks: &mut [u8],
     run: Run,
 ) -> Run
-    requires { ⌜ Ready (record { order = []; limits = now limits; worst = now worst; bounds = now bounds }) (now durations)
+    requires { ⌜ Waiting (record { order = []; limits = now limits; worst = now worst; bounds = now bounds }) (now durations)
         (record { levels = now given; decided = now marks }) (run-of run) ⌝ }
     ensures { λ r. ⌜ Rest (record { order = []; limits = now (limits .entry); worst = now (worst .entry); bounds = now (bounds .entry) })
         (now (durations .entry)) (record { levels = now (given .entry); decided = now (marks .entry) })

@@ -11,7 +11,7 @@ use Rattle.rules.specs.Limits.{LentTables, Plan}
 use Rattle.rules.specs.Run.{Run, Next, Answer, begun, decide, coast, decides, given, ended, fits, lent, ask-refusal, ask, report-refusal, report}
 use Rattle.rules.specs.Dry.{step, before}
 use Rattle.run.proofs.Refusing.{Askable, askable, Reportable, reportable}
-use Rattle.run_histories.specs.History.{asks, reports, to-ask, reply, number, Accepted}
+use Rattle.run_histories.specs.History.{asks, reports, to-ask, reply, number, CallAccepted}
 
 -- ---- an asking
 
@@ -26,7 +26,7 @@ module _ (T : LentTables) (r : Run) where
     pub askable : Askable T r
     pub answer : ask T r ≡ gives-by T r (lent (r .n) (r .levels) T)
 
-  pub ask-taken : Accepted (asks T) r → AskTaken
+  pub ask-taken : CallAccepted (asks T) r → AskTaken
   unfolding reply number ask
   ask-taken h = by (eqb k 0) refl h
     where
@@ -47,7 +47,7 @@ module _ (worst : List ℕ) (t : ℕ) (r : Run) where
     pub reportable : Reportable worst t r
     pub answer : report worst t r ≡ record { number = 0; run = ended (getD worst (r .position * r .levels + r .level) 0) t r }
 
-  pub report-taken : Accepted (reports worst t) r → ReportTaken
+  pub report-taken : CallAccepted (reports worst t) r → ReportTaken
   unfolding reply number report
   report-taken h = by (eqb k 0) refl h
     where

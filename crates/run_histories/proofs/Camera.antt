@@ -15,16 +15,16 @@ use Rattle.run.specs.declared.Answer.{Answer}
 use Rattle.run.specs.declared.Answer.the-variants.{Refused, Given}
 use Rattle.run.specs.declared.Started.{Started}
 use Rattle.run.specs.Calls.{run-of, start-of, with-run}
-use Rattle.run_histories.specs.History.{Call, Reply, to-ask, to-report, reply, number, handed, next, after, along, EachAccepted, asking-of, asking-at, clock-of, askings, clocks}
+use Rattle.run_histories.specs.History.{Call, CallReply, to-ask, to-report, reply, number, handed, next, after, along, EachAccepted, asking-of, asking-at, clock-of, askings, clocks}
 use Rattle.run_histories.specs.Demand.{WithinAnswered}
-use Rattle.run_histories.specs.Camera.{CameraCycle, Made, asked, reported, call-of, reply-of, run-after, Answers, LentFrom, Traced, said, made-askings, made-clocks, CameraKeeps}
+use Rattle.run_histories.specs.Camera.{CameraCycle, Made, asked, reported, call-of, reply-of, run-after, AnswersCall, LentFrom, Traced, said, made-askings, made-clocks, CameraKeeps}
 use Rattle.run_histories.proofs.Cycle.{OnPlan}
 use Rattle.run_histories.proofs.Demand.{demand-of-calls, unmarked-within, actions-are}
 use Rattle.run_histories.proofs.Planning.{planned-sound, planned-policy, planned-safe, planned-on, planned-start}
 
 -- ---- calls made are a history
 
-replied : (m : Made) (r : Run) → Answers m r → reply-of m ≡ reply (call-of m) (run-of r)
+replied : (m : Made) (r : Run) → AnswersCall m r → reply-of m ≡ reply (call-of m) (run-of r)
 unfolding reply
 replied (asked T a) r h = ap to-ask h
 replied (reported worst t a) r h = ap to-report h
@@ -38,7 +38,7 @@ handed-on (asked T a) = by (a .answer)
     by (Given action level decided late) = refl
 handed-on (reported worst t a) = refl
 
-next-is : (m : Made) (r : Run) → Answers m r → next (call-of m) (run-of r) ≡ run-of (run-after m)
+next-is : (m : Made) (r : Run) → AnswersCall m r → next (call-of m) (run-of r) ≡ run-of (run-after m)
 next-is m r h = ap handed (sym (replied m r h)) ∙ handed-on m
 
 module _ {T : LentTables} where
@@ -47,12 +47,12 @@ module _ {T : LentTables} where
   traced-after Traced.none = refl
   traced-after (Traced.more {m = m} {l = l} {r = r} h on rest) = ap (after (map call-of l)) (next-is m r h) ∙ traced-after rest
 
-  pub traced-along : {A : Type 0} (f : Call → Reply → List A) {r s : Run} {l : List Made} → Traced T r l s
+  pub traced-along : {A : Type 0} (f : Call → CallReply → List A) {r s : Run} {l : List Made} → Traced T r l s
       → along f (map call-of l) (run-of r) ≡ said f l
   unfolding along said
   traced-along f Traced.none = refl
   traced-along {A} f (Traced.more {m = m} {l = l} {r = r} h on rest) =
-      ap (λ (x : Reply). f (call-of m) x ++ along f (map call-of l) (handed x)) (sym (replied m r h))
+      ap (λ (x : CallReply). f (call-of m) x ++ along f (map call-of l) (handed x)) (sym (replied m r h))
       ∙ ap (λ (r : rules.Run). f (call-of m) (reply-of m) ++ along f (map call-of l) r) (handed-on m)
       ∙ ap (λ (xs : List A). f (call-of m) (reply-of m) ++ xs) (traced-along f rest)
 

@@ -19,7 +19,7 @@ use Rattle.rules.proofs.Calls.{in-range-facts}
 use Rattle.rules.proofs.Demand.Record.{Same, given-same, n-is, levels-is, position-is}
 use Rattle.rules.proofs.Demand.Alike.{Alike, fits-alike, given-alike}
 use Rattle.fields.proofs.Tabs.{length-tab}
-use Rattle.run_histories.specs.History.{Call, asks, reports, to-ask, reply, number, handed, next, Accepted, Refused, after, along, EachAccepted, Asking, asking-of, clock-of, askings, clocks, clock-before, duration}
+use Rattle.run_histories.specs.History.{Call, asks, reports, to-ask, reply, number, handed, next, CallAccepted, CallRefused, after, along, EachAccepted, Asking, asking-of, clock-of, askings, clocks, clock-before, duration}
 use Rattle.run_histories.proofs.Replies.{refused-stays, refused-asking, refused-clock}
 use Rattle.run_histories.proofs.Accepting.{gives-by, AskTaken, ask-taken, ReportTaken, report-taken, given-runs, before-waits}
 
@@ -66,7 +66,7 @@ module _ (acts : ℕ → ℕ) (P : Plan) (w : ℕ → ℕ → ℕ) (t₀ : ℕ) 
   Stepped c ks xs r = Standing (ks ++ clock-of c (reply c r)) (xs ++ asking-of c (reply c r)) (next c r)
 
   -- a refused call changes nothing
-  stay : (c : Call) (ks : List ℕ) (xs : List Asking) (r : Run) → Refused c r → Standing ks xs r → Stepped c ks xs r
+  stay : (c : Call) (ks : List ℕ) (xs : List Asking) (r : Run) → CallRefused c r → Standing ks xs r → Stepped c ks xs r
   stay c ks xs r h (i, b, s) = (
     i,
     b,
@@ -201,19 +201,19 @@ module _ (acts : ℕ → ℕ) (P : Plan) (w : ℕ → ℕ → ℕ) (t₀ : ℕ) 
     )
 
   -- The next call, whatever it is answered; `rest` are the clocks to come.
-  stepped : (c : Call) (ks : List ℕ) (xs : List Asking) (r : Run) (rest : List ℕ) → (Accepted c r → OnPlan acts P w c)
+  stepped : (c : Call) (ks : List ℕ) (xs : List Asking) (r : Run) (rest : List ℕ) → (CallAccepted c r → OnPlan acts P w c)
       → (ks ++ clock-of c (reply c r)) ++ rest ≡ K → Standing ks xs r → Stepped c ks xs r
   unfolding clock-of
   stepped (asks T) ks xs r rest on whole now = by (ℕ-discrete (number (reply (asks T) r)) 0) now
     where
-      by : Dec (Accepted (asks T) r) → Standing ks xs r → Stepped (asks T) ks xs r
+      by : Dec (CallAccepted (asks T) r) → Standing ks xs r → Stepped (asks T) ks xs r
       by (no h) now = stay (asks T) ks xs r h now
       by (yes h) (i, true, s) =
           absurd (not-both (ap (λ (x : Run). x .running) (s .run) ∙ given-runs longest-coast P (at i)) (ask-taken T r h .askable .is-open .waits))
       by (yes h) (i, false, s) = ask-on-plan T (on h .0) (on h .1) ks xs r i s (ask-taken T r h)
   stepped (reports worst t) ks xs r rest on whole now = by (ℕ-discrete (number (reply (reports worst t) r)) 0) now
     where
-      by : Dec (Accepted (reports worst t) r) → Standing ks xs r → Stepped (reports worst t) ks xs r
+      by : Dec (CallAccepted (reports worst t) r) → Standing ks xs r → Stepped (reports worst t) ks xs r
       by (no h) now = stay (reports worst t) ks xs r h now
       by (yes h) (i, false, s) =
           absurd (not-both (report-taken worst t r h .reportable .runs)

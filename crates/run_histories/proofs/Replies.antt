@@ -7,7 +7,7 @@ use mathlib.Core.Logic.{_≢_}
 use borrow.Author.Tests.{eqb-false, ne-eqb}
 use lib.Dec.{eqb}
 use Rattle.rules.specs.Run.{Run, Next, Answer, ask, ask-refusal, report, report-refusal}
-use Rattle.run_histories.specs.History.{Call, Reply, asks, reports, to-ask, to-report, reply, number, handed, next, Refused, after, along, replies, accepted-calls, accepted-of, asking-of, clock-of}
+use Rattle.run_histories.specs.History.{Call, CallReply, asks, reports, to-ask, to-report, reply, number, handed, next, CallRefused, after, along, replies, accepted-calls, accepted-of, asking-of, clock-of}
 
 -- ---- one call
 
@@ -23,19 +23,19 @@ report-stays true x k r e h = absurd (h e)
 report-stays false x k r e h = refl
 
 -- A refused call leaves the record,
-pub refused-stays : (c : Call) (r : Run) → Refused c r → next c r ≡ r
+pub refused-stays : (c : Call) (r : Run) → CallRefused c r → next c r ≡ r
 unfolding reply number handed ask report
 refused-stays (asks T) r h = ask-stays (eqb (ask-refusal T r) 0) _ (ask-refusal T r) r refl h
 refused-stays (reports worst t) r h = report-stays (eqb (report-refusal worst t r) 0) _ (report-refusal worst t r) r refl h
 
 -- and gives neither an action nor a clock.
-pub refused-asking : (c : Call) (x : Reply) → number x ≢ 0 → asking-of c x ≡ []
+pub refused-asking : (c : Call) (x : CallReply) → number x ≢ 0 → asking-of c x ≡ []
 unfolding number asking-of
 refused-asking c (to-ask (Answer.refused k r)) h = refl
 refused-asking c (to-ask (Answer.gives action level decided late r)) h = absurd (h refl)
 refused-asking c (to-report x) h = refl
 
-pub refused-clock : (c : Call) (x : Reply) → number x ≢ 0 → clock-of c x ≡ []
+pub refused-clock : (c : Call) (x : CallReply) → number x ≢ 0 → clock-of c x ≡ []
 unfolding clock-of
 refused-clock (asks T) x h = refl
 refused-clock (reports worst t) x h = ap (λ (b : Bool). cond b (t ∷ []) []) (ne-eqb (number x) 0 h)
@@ -47,7 +47,7 @@ unfolding after
 after-append [] ds r = refl
 after-append (c ∷ cs) ds r = after-append cs ds (next c r)
 
-pub along-append : {A : Type 0} (f : Call → Reply → List A) (cs ds : List Call) (r : Run)
+pub along-append : {A : Type 0} (f : Call → CallReply → List A) (cs ds : List Call) (r : Run)
     → along f (cs ++ ds) r ≡ along f cs r ++ along f ds (after cs r)
 unfolding along after
 along-append f [] ds r = refl
@@ -57,13 +57,13 @@ along-append {A} f (c ∷ cs) ds r =
 
 -- ---- one refused call dropped
 
-module _ (cs : List Call) (c : Call) (ds : List Call) (r : Run) (h : Refused c (after cs r)) where
+module _ (cs : List Call) (c : Call) (ds : List Call) (r : Run) (h : CallRefused c (after cs r)) where
   pub drop-after : after (cs ++ c ∷ ds) r ≡ after (cs ++ ds) r
   unfolding after
   drop-after = after-append cs (c ∷ ds) r ∙ ap (after ds) (refused-stays c (after cs r) h) ∙ sym (after-append cs ds r)
 
   -- what is gathered before it and after it stays: the answers, where f is the answer
-  pub drop-along : {A : Type 0} (f : Call → Reply → List A)
+  pub drop-along : {A : Type 0} (f : Call → CallReply → List A)
       → along f (cs ++ c ∷ ds) r ≡ along f cs r ++ (f c (reply c (after cs r)) ++ along f ds (after cs r))
   unfolding along
   drop-along {A} f =
@@ -95,11 +95,11 @@ accepted-replies (c ∷ cs) r = by (eqb (number (reply c r)) 0) refl (accepted-r
   where
     by : (b : Bool) → eqb (number (reply c r)) 0 ≡ b → replies (accepted-calls cs (next c r)) (next c r) ≡ accepted-of (replies cs (next c r))
         → replies (judged c cs r b) r ≡ cond b (reply c r ∷ accepted-of (replies cs (next c r))) (accepted-of (replies cs (next c r)))
-    by true e h = ap (λ (l : List Reply). reply c r ∷ l) h
+    by true e h = ap (λ (l : List CallReply). reply c r ∷ l) h
     by false e h = ap (replies (accepted-calls cs (next c r))) (sym (refused-stays c r (eqb-false (number (reply c r)) 0 e))) ∙ h
 
 -- So does whatever is gathered from accepted calls alone.
-pub accepted-along : {A : Type 0} (f : Call → Reply → List A) → ((c : Call) (x : Reply) → number x ≢ 0 → f c x ≡ [])
+pub accepted-along : {A : Type 0} (f : Call → CallReply → List A) → ((c : Call) (x : CallReply) → number x ≢ 0 → f c x ≡ [])
     → (cs : List Call) (r : Run) → along f (accepted-calls cs r) r ≡ along f cs r
 unfolding along accepted-calls
 accepted-along f none [] r = refl

@@ -15,7 +15,7 @@ use Rattle.run.specs.declared.Asked.{Asked}
 use Rattle.run.specs.declared.Started.{Started}
 use Rattle.run.specs.declared.Reported.{Reported}
 use Rattle.run.specs.Calls.{run-of, start-of, answer-of, next-of}
-use Rattle.run_histories.specs.History.{Call, asks, reports, Reply, to-ask, to-report, number, Asking, asking-of, clock-of, asking-at}
+use Rattle.run_histories.specs.History.{Call, asks, reports, CallReply, to-ask, to-report, number, Asking, asking-of, clock-of, asking-at}
 use Rattle.run_histories.specs.Demand.{CallsKeep}
 
 -- ---- asking and reporting
@@ -29,7 +29,7 @@ abbrev pub call-of : Made → Call
 call-of (asked T a) = asks T
 call-of (reported worst t a) = reports worst t
 
-abbrev pub reply-of : Made → Reply
+abbrev pub reply-of : Made → CallReply
 reply-of (asked T a) = to-ask (answer-of a)
 reply-of (reported worst t a) = to-report (next-of a)
 
@@ -38,9 +38,9 @@ run-after (asked T a) = a .run
 run-after (reported worst t a) = a .run
 
 -- Made on the record r, it answered as its contract says: that of `ask`, and that of `report`.
-abbrev pub Answers : Made → Run → Type 0
-Answers (asked T a) r = answer-of a ≡ ask T (run-of r)
-Answers (reported worst t a) r = next-of a ≡ report worst t (run-of r)
+abbrev pub AnswersCall : Made → Run → Type 0
+AnswersCall (asked T a) r = answer-of a ≡ ask T (run-of r)
+AnswersCall (reported worst t a) r = next-of a ≡ report worst t (run-of r)
 
 -- What a call takes is what lies in the tables T.
 abbrev pub LentFrom : LentTables → Call → Type 0
@@ -51,11 +51,11 @@ LentFrom T (reports worst t) = worst ≡ T .worst
 -- then. Any of them may be refused; those accepted are lent the tables T.
 pub data Traced (T : LentTables) : Run → List Made → Run → Type 0 where
   none : {r : Run} → Traced T r [] r
-  more : {m : Made} {l : List Made} {r s : Run} → Answers m r → (number (reply-of m) ≡ 0 → LentFrom T (call-of m))
+  more : {m : Made} {l : List Made} {r s : Run} → AnswersCall m r → (number (reply-of m) ≡ 0 → LentFrom T (call-of m))
       → Traced T (run-after m) l s → Traced T r (m ∷ l) s
 
 -- what f gathers from each
-unfoldable pub said : {A : Type 0} → (Call → Reply → List A) → List Made → List A
+unfoldable pub said : {A : Type 0} → (Call → CallReply → List A) → List Made → List A
 said f [] = []
 said f (m ∷ l) = f (call-of m) (reply-of m) ++ said f l
 

@@ -16,22 +16,22 @@ pub data Call : Type 0 where
   asks : LentTables → Call
   reports : List ℕ → ℕ → Call
 
-pub data Reply : Type 0 where
-  to-ask : Answer → Reply
-  to-report : Next → Reply
+pub data CallReply : Type 0 where
+  to-ask : Answer → CallReply
+  to-report : Next → CallReply
 
-unfoldable pub reply : Call → Run → Reply
+unfoldable pub reply : Call → Run → CallReply
 reply (asks T) r = to-ask (ask T r)
 reply (reports worst t) r = to-report (report worst t r)
 
 -- the number of a refusal, 0 for none
-unfoldable pub number : Reply → ℕ
+unfoldable pub number : CallReply → ℕ
 number (to-ask (Answer.refused k r)) = k
 number (to-ask (Answer.gives action level decided late r)) = 0
 number (to-report x) = x .number
 
 -- the record handed back
-unfoldable pub handed : Reply → Run
+unfoldable pub handed : CallReply → Run
 handed (to-ask (Answer.refused k r)) = r
 handed (to-ask (Answer.gives action level decided late r)) = r
 handed (to-report x) = x .run
@@ -40,11 +40,11 @@ handed (to-report x) = x .run
 abbrev pub next : Call → Run → Run
 next c r = handed (reply c r)
 
-abbrev pub Accepted : Call → Run → Type 0
-Accepted c r = number (reply c r) ≡ 0
+abbrev pub CallAccepted : Call → Run → Type 0
+CallAccepted c r = number (reply c r) ≡ 0
 
-abbrev pub Refused : Call → Run → Type 0
-Refused c r = number (reply c r) ≢ 0
+abbrev pub CallRefused : Call → Run → Type 0
+CallRefused c r = number (reply c r) ≢ 0
 
 -- ---- a history
 
@@ -54,12 +54,12 @@ after [] r = r
 after (c ∷ cs) r = after cs (next c r)
 
 -- what f gathers from each call and its answer
-unfoldable pub along : {A : Type 0} → (Call → Reply → List A) → List Call → Run → List A
+unfoldable pub along : {A : Type 0} → (Call → CallReply → List A) → List Call → Run → List A
 along f [] r = []
 along f (c ∷ cs) r = f c (reply c r) ++ along f cs (next c r)
 
 -- the answers
-abbrev pub replies : List Call → Run → List Reply
+abbrev pub replies : List Call → Run → List CallReply
 replies cs r = along (λ c x. x ∷ []) cs r
 
 -- the history without the refused calls, and the answers without the refusals
@@ -67,14 +67,14 @@ unfoldable pub accepted-calls : List Call → Run → List Call
 accepted-calls [] r = []
 accepted-calls (c ∷ cs) r = cond (eqb (number (reply c r)) 0) (c ∷ accepted-calls cs (next c r)) (accepted-calls cs (next c r))
 
-unfoldable pub accepted-of : List Reply → List Reply
+unfoldable pub accepted-of : List CallReply → List CallReply
 accepted-of [] = []
 accepted-of (x ∷ xs) = cond (eqb (number x) 0) (x ∷ accepted-of xs) (accepted-of xs)
 
 -- C holds of every accepted call; of a refused one it may hold or not.
 pub data EachAccepted (C : Call → Type 0) : List Call → Run → Type 0 where
   none : {r : Run} → EachAccepted C [] r
-  more : {c : Call} {cs : List Call} {r : Run} → (Accepted c r → C c) → EachAccepted C cs (next c r) → EachAccepted C (c ∷ cs) r
+  more : {c : Call} {cs : List Call} {r : Run} → (CallAccepted c r → C c) → EachAccepted C cs (next c r) → EachAccepted C (c ∷ cs) r
 
 -- ---- what the accepted calls say
 
@@ -88,13 +88,13 @@ pub record Asking : Type 0 where
 abbrev pub no-asking : Asking
 no-asking = record { action = 0; level = 0; decided = false; late = false }
 
-unfoldable pub asking-of : Call → Reply → List Asking
+unfoldable pub asking-of : Call → CallReply → List Asking
 asking-of c (to-ask (Answer.refused k r)) = []
 asking-of c (to-ask (Answer.gives action level decided late r)) = record { action = action; level = level; decided = decided; late = late } ∷ []
 asking-of c (to-report x) = []
 
 -- The clock of an accepted report.
-unfoldable pub clock-of : Call → Reply → List ℕ
+unfoldable pub clock-of : Call → CallReply → List ℕ
 clock-of (asks T) x = []
 clock-of (reports worst t) x = cond (eqb (number x) 0) (t ∷ []) []
 

@@ -6,6 +6,7 @@ use lib.Bits.{bitOr}
 use mathlib.Core.List.{List}
 use lib.ListN.{getD}
 use lib.Dec.{eqb, ltb}
+use Rattle.rules.specs.Numbers.{most-actions}
 use Rattle.rules.specs.Words.{sum, one-if}
 use Rattle.rules.specs.Image.{has}
 
@@ -23,13 +24,13 @@ Below s n = (j : ℕ) → has s j ≡ true → j < n
 
 -- r is the lowest member of s
 pub record Lowest (s r : ℕ) : Type 0 where
-  pub small : r < 64
+  pub small : r < most-actions
   pub member : has s r ≡ true
   pub least : (j : ℕ) → j < r → has s j ≡ false
 
 -- r is the highest member of s
 pub record Highest (s r : ℕ) : Type 0 where
-  pub small : r < 64
+  pub small : r < most-actions
   pub member : has s r ≡ true
   pub most : (j : ℕ) → has s j ≡ true → j ≤ r
 

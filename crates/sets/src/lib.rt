@@ -4,12 +4,13 @@ ghost use mathlib.Core.Path.{_≡_};
 ghost use mathlib.Core.Bool.{true};
 ghost use mathlib.Core.Logic.{_↔_};
 ghost use Prim.Native.Nat.{ℕ, _<_, _≤_};
+ghost use Rattle.rules.specs.Numbers.{most-actions};
 ghost use Rattle.rules.specs.Image.{has};
 ghost use Rattle.sets.specs.Sets.{members, Subset, Below, Lowest, Highest, One, AllBelow, With, Without};
 
 // Whether s has b.
 pub fn member(s: u64, b: usize) -> bool
-    requires { ⌜ b < 64 ⌝ }
+    requires { ⌜ b < most-actions ⌝ }
     ensures { λ r. ⌜ r ≡ has s b ⌝ }
 {
     (s >> b) % 2 == 1
@@ -17,7 +18,7 @@ pub fn member(s: u64, b: usize) -> bool
 
 // The set of b alone.
 pub fn one(b: usize) -> u64
-    requires { ⌜ b < 64 ⌝ }
+    requires { ⌜ b < most-actions ⌝ }
     ensures { λ r. ⌜ One b r ⌝ }
 {
     1u64 << b
@@ -25,7 +26,7 @@ pub fn one(b: usize) -> u64
 
 // The set of all actions below n.
 pub fn all_below(n: usize) -> u64
-    requires { ⌜ n ≤ 64 ⌝ }
+    requires { ⌜ n ≤ most-actions ⌝ }
     ensures { λ r. ⌜ AllBelow n r ⌝ }
 {
     if n == 64 {
@@ -36,7 +37,7 @@ pub fn all_below(n: usize) -> u64
 
 // The members of s, and b.
 pub fn with(s: u64, b: usize) -> u64
-    requires { ⌜ b < 64 ⌝ }
+    requires { ⌜ b < most-actions ⌝ }
     ensures { λ r. ⌜ With s b r ⌝ }
 {
     s | one(b)
@@ -44,7 +45,7 @@ pub fn with(s: u64, b: usize) -> u64
 
 // The members of s but for b.
 pub fn without(s: u64, b: usize) -> u64
-    requires { ⌜ b < 64 ⌝ }
+    requires { ⌜ b < most-actions ⌝ }
     ensures { λ r. ⌜ Without s b r ⌝ }
 {
     s & !one(b)
@@ -76,7 +77,7 @@ pub fn above_lowest(s: u64) -> u64
 
 // How many members s has.
 pub fn count(s: u64) -> u32
-    ensures { λ r. ⌜ r ≡ members 64 s ⌝ }
+    ensures { λ r. ⌜ r ≡ members most-actions s ⌝ }
 {
     u64::count_ones(s)
 }
@@ -90,7 +91,7 @@ pub fn subset(a: u64, b: u64) -> bool
 
 // Whether each member of s is below n. Of such sets the one with all of them is the greatest number.
 pub fn below(s: u64, n: usize) -> bool
-    requires { ⌜ n ≤ 64 ⌝ }
+    requires { ⌜ n ≤ most-actions ⌝ }
     ensures { λ r. ⌜ (r ≡ true) ↔ Below s n ⌝ }
 {
     s <= all_below(n)

@@ -6,7 +6,7 @@ ghost use Prim.Native.Nat.{ℕ, _+_, _≤_, _<_, min};
 ghost use mathlib.Core.Path.{_≡_};
 ghost use lib.ListN.{length, getD};
 ghost use Rattle.io.specs.Counts.{Counts};
-ghost use Rattle.text.specs.Words.{from-word, decimal, capped};
+ghost use Rattle.text.specs.Words.{from-word, digits-say, capped};
 
 pub mod samples;
 
@@ -25,7 +25,7 @@ pub fn first(line: &[u8]) -> u8
 // The numbers that its words say, those after the first word: 0 for a word that is no number.
 pub fn numbers(line: &[u8]) -> [u32; 24]
     ensures { λ r. ⌜ 24 ≡ length r ⌝ }
-    ensures { λ r. ⌜ ((k : ℕ) → k < 24 → getD r k 0 ≡ capped (decimal 0 (from-word (k + 1) (now (line .entry))))) ⌝ }
+    ensures { λ r. ⌜ ((k : ℕ) → k < 24 → getD r k 0 ≡ capped (digits-say 0 (from-word (k + 1) (now (line .entry))))) ⌝ }
 {
     let mut row = [0u32; 24];
     let mut k = 0;

@@ -8,10 +8,10 @@ ghost use mathlib.Core.Path.{_≡_};
 ghost use mathlib.Core.List.{[]};
 ghost use Rattle.rules.specs.Run.{start, ask, report};
 ghost use Rattle.run.specs.Calls.{run-of};
-ghost use Rattle.nyokazerubi.specs.Flat.{next-of, Asks};
+ghost use Rattle.nyokazerubi.specs.Flat.{next-flat, Asks};
 
 pub fn started(run: Run, n: usize, levels: usize) -> Started
-    ensures { λ r. ⌜ next-of (r .run) (r .refusal) ≡ start n levels ⌝ }
+    ensures { λ r. ⌜ next-flat (r .run) (r .refusal) ≡ start n levels ⌝ }
 {
     let mut kept = run;
     let refusal = runs::nyokazerubi_start(&mut kept, n, levels);
@@ -28,7 +28,7 @@ pub fn asked(run: Run, order: &[u8], limits: &[i32], bounds: &[i32]) -> Asked
 }
 
 pub fn reported(run: Run, clock: u32, worst: &[u32]) -> Reported
-    ensures { λ r. ⌜ next-of (r .run) (r .refusal) ≡ report (now (worst .entry)) clock (run-of run) ⌝ }
+    ensures { λ r. ⌜ next-flat (r .run) (r .refusal) ≡ report (now (worst .entry)) clock (run-of run) ⌝ }
 {
     let mut kept = run;
     let refusal = runs::nyokazerubi_report(&mut kept, clock, worst);

@@ -9,7 +9,7 @@ use borrow.Author.Tests.{eq-eqb, ne-eqb, le-leb, leb-true}
 use lib.Dec.{leb}
 use lib.ListN.{length, drop, getD, drop-of-length-le}
 use lib.Seq.{drop-cons}
-use Rattle.text.specs.Words.{from-first, after-first, from-word, decimal, capped}
+use Rattle.text.specs.Words.{from-first, after-first, from-word, digits-say, capped}
 
 no-digit : (x : ℕ) → (48 ≤ x → x ≤ 57 → ⊥) → (leb 48 x && leb x 57) ≡ false
 no-digit x h = by (leb 48 x) (leb x 57) refl refl
@@ -36,18 +36,18 @@ module _ (s : List ℕ) (i : ℕ) where
   first-nowhere b h = rw (drop-of-length-le s h)
 
   pub digit-here : (v d : ℕ) → i < length s → 48 ≤ getD s i 0 → getD s i 0 ≤ 57 → d + 48 ≡ getD s i 0
-      → decimal v (drop i s) ≡ decimal (v * 10 + d) (drop (i + 1) s)
-  unfolding decimal
+      → digits-say v (drop i s) ≡ digits-say (v * 10 + d) (drop (i + 1) s)
+  unfolding digits-say
   digit-here v d h low high e =
       let less : getD s i 0 - 48 ≡ d = omega arith in
       rw (split h, le-leb 48 (getD s i 0) low, le-leb (getD s i 0) 57 high, less)
 
-  pub digits-end : (v : ℕ) → i < length s → (48 ≤ getD s i 0 → getD s i 0 ≤ 57 → ⊥) → decimal v (drop i s) ≡ v
-  unfolding decimal
+  pub digits-end : (v : ℕ) → i < length s → (48 ≤ getD s i 0 → getD s i 0 ≤ 57 → ⊥) → digits-say v (drop i s) ≡ v
+  unfolding digits-say
   digits-end v h n = rw (split h, no-digit (getD s i 0) n)
 
-  pub text-end : (v : ℕ) → length s ≤ i → decimal v (drop i s) ≡ v
-  unfolding decimal
+  pub text-end : (v : ℕ) → length s ≤ i → digits-say v (drop i s) ≡ v
+  unfolding digits-say
   text-end v h = rw (drop-of-length-le s h)
 
 pub word-after : (k : ℕ) (s : List ℕ) → 0 < k → from-word k s ≡ from-word (k - 1) (after-first 32 s)
@@ -56,8 +56,8 @@ word-after zero s h = absurd (omega arith)
 word-after (suc k) s h = let e : suc k - 1 ≡ k = omega arith in rw e
 
 -- the digits after v and after what it is capped to say the same, capped
-pub capped-once : (v : ℕ) (s : List ℕ) → capped (decimal (capped v) s) ≡ capped (decimal v s)
-unfolding decimal
+pub capped-once : (v : ℕ) (s : List ℕ) → capped (digits-say (capped v) s) ≡ capped (digits-say v s)
+unfolding digits-say
 capped-once v [] = omega arith
 capped-once v (x ∷ xs) =
     let more = v * 10 + (x - 48) in
@@ -65,9 +65,9 @@ capped-once v (x ∷ xs) =
     let e : capped less ≡ capped more = omega arith in
     by
     (leb 48 x && leb x 57)
-    (decimal less xs)
-    (decimal more xs)
-    (sym (capped-once less xs) ∙ ap (λ (u : ℕ). capped (decimal u xs)) e ∙ capped-once more xs)
+    (digits-say less xs)
+    (digits-say more xs)
+    (sym (capped-once less xs) ∙ ap (λ (u : ℕ). capped (digits-say u xs)) e ∙ capped-once more xs)
   where
     by : (t : Bool) (a b : ℕ) → capped a ≡ capped b → capped (cond t a (capped v)) ≡ capped (cond t b v)
     by true a b e = e

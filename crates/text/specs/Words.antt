@@ -20,9 +20,9 @@ from-word zero line = line
 from-word (suc k) line = from-word k (after-first 32 line)
 
 -- the number that the digits at the start of a text say after digits that say v: 48 is the digit 0, 57 the digit 9
-unfoldable pub decimal : ℕ → List ℕ → ℕ
-decimal v [] = v
-decimal v (x ∷ xs) = cond (leb 48 x && leb x 57) (decimal (v * 10 + (x - 48)) xs) v
+unfoldable pub digits-say : ℕ → List ℕ → ℕ
+digits-say v [] = v
+digits-say v (x ∷ xs) = cond (leb 48 x && leb x 57) (digits-say (v * 10 + (x - 48)) xs) v
 
 -- a number that is too large for 32 bits counts as the largest one that is not
 abbrev pub capped : ℕ → ℕ

@@ -3,7 +3,7 @@ ghost use Prim.Native.Nat.{_+_, _≤_, _<_};
 ghost use mathlib.Core.Path.{_≡_};
 ghost use lib.ListN.{length, drop};
 ghost use Rattle.io.specs.Counts.{Counts};
-ghost use Rattle.text.specs.Words.{from-first, after-first, from-word, decimal};
+ghost use Rattle.text.specs.Words.{from-first, after-first, from-word, digits-say};
 ghost use Rattle.text.specs.Words.{capped as Words·capped};
 
 // Where the byte stands first, from index `from` on; the length where it does not.
@@ -81,7 +81,7 @@ fn capped(value: u64) -> u32
 
 // Word k as a decimal number, read up to the first byte that is no digit: 0 where it begins with none.
 pub fn number(line: &[u8], k: usize) -> u32
-    ensures { λ r. ⌜ r ≡ Words·capped (decimal 0 (from-word k (now (line .entry)))) ⌝ }
+    ensures { λ r. ⌜ r ≡ Words·capped (digits-say 0 (from-word k (now (line .entry)))) ⌝ }
 {
     let mut value: u32 = 0;
     let mut at = word(line, k);

@@ -18,7 +18,7 @@ use Rattle.fields.proofs.Strides.{cell-fits}
 use Rattle.run.specs.Calls.{Open}
 use Rattle.run.proofs.Refusing.{read, read-alone}
 use Rattle.run.specs.Dry.{DryLists}
-use Rattle.run.specs.Cycle.{Ready, Running, Rest}
+use Rattle.run.specs.Cycle.{Waiting, Running, Rest}
 use Rattle.run.proofs.dry.Onward.{plan, stepped, set-at, Stepped, n-stays, levels-stay, step-less, rest-more}
 
 -- ---- the running action
@@ -51,13 +51,13 @@ place {r = r} a =
 
 -- From r₀ on up to r: all that the rest needs, and what the rest from r on gives is what the rest from r₀ on gives.
 pub record Going (T : LentTables) (durations : List ℕ) (lists₀ : DryLists) (r₀ : Run) (lists : DryLists) (r : Run) : Type 0 where
-  pub ready : Ready T durations lists r
+  pub ready : Waiting T durations lists r
   pub same-levels : length (lists .levels) ≡ length (lists₀ .levels)
   pub same-marks : length (lists .decided) ≡ length (lists₀ .decided)
   pub fewer : r .n - r .position ≤ r₀ .n - r₀ .position
   pub rest : {after : DryLists} {last : Run} → Rest T durations lists after r last → Rest T durations lists₀ after r₀ last
 
-pub going-none : {T : LentTables} {durations : List ℕ} {lists : DryLists} {r : Run} → Ready T durations lists r → Going T durations lists r lists r
+pub going-none : {T : LentTables} {durations : List ℕ} {lists : DryLists} {r : Run} → Waiting T durations lists r → Going T durations lists r lists r
 going-none ready = record { ready = ready; same-levels = refl; same-marks = refl; fewer = omega arith; rest = λ rest. rest }
 
 -- ---- a turn
@@ -106,7 +106,7 @@ timing T = record { order = []; limits = []; worst = T .worst; bounds = [] }
 
 module _ {T : LentTables} {durations : List ℕ} {lists₀ : DryLists} {r₀ : Run} {lists : DryLists} {r asked : Run} {mark : ℕ}
     (turn : Turn T durations lists₀ r₀ lists r asked mark) where
-  ready : Ready T durations lists r
+  ready : Waiting T durations lists r
   ready = turn .going .ready
 
   same : Same 16 (plan T r) r (given 16 (plan T r) r)
@@ -156,7 +156,7 @@ module _ {T : LentTables} {durations : List ℕ} {lists₀ : DryLists} {r₀ : R
     one-stepped level e = record { more = turn .more; is = is-stepped; level-is = e ∙ ap (λ (s : Run). s .level) (turn .is); mark-is = turn .mark-is }
 
     ready-more : (after : DryLists) → length (after .levels) ≡ length (lists .levels) → length (after .decided) ≡ length (lists .decided)
-        → Ready T durations after next
+        → Waiting T durations after next
     unfolding ended
     ready-more after same-levels same-marks = record {
       ranged = ap in-range ends

@@ -23,7 +23,7 @@ use Rattle.rules.proofs.Calls.{facts-in-range, begun-in-range}
 use Rattle.run.proofs.Ranges.{Counts}
 use Rattle.run.proofs.Refusing.{neither}
 use Rattle.run.specs.Dry.{DryLists, dry-rooms}
-use Rattle.run.specs.Cycle.{Ready}
+use Rattle.run.specs.Cycle.{Waiting}
 
 -- ---- 3
 
@@ -162,7 +162,7 @@ module _ (n L : ℕ) (T : LentTables) (durations : List ℕ) (lists : DryLists)
   pub is-counted : Counts n L
   is-counted = counts (none-of .0)
 
-  pub ready-begun : Ready T durations lists (begun n L 0)
+  pub ready-begun : Waiting T durations lists (begun n L 0)
   unfolding begun
   ready-begun =
       let c = is-counted in

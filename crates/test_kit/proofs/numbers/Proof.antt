@@ -7,12 +7,12 @@ use lib.ListN.{length, getD, set, length-set}
 use lib.Seq.{getD-set-same, getD-set-other}
 use borrow.Author.Count.{below-none, below-more}
 use borrow.Author.Needs.{needs}
-use Rattle.text.specs.Words.{from-word, decimal, capped}
+use Rattle.text.specs.Words.{from-word, digits-say, capped}
 use Rattle.test_kit.proofs.numbers.Statement.{statement}
 use Rattle.test_kit.proofs.numbers.Tie as tie
 
 abbrev Told : List ℕ → List ℕ → ℕ → Type 0
-Told line row j = getD row j 0 ≡ capped (decimal 0 (from-word (j + 1) line))
+Told line row j = getD row j 0 ≡ capped (digits-say 0 (from-word (j + 1) line))
 
 abbrev Inv-loop : tie.InvT-loop
 Inv-loop line row₀ k₀ row k = (k ≤ 24) × (24 ≡ length row) × ((j : ℕ) → j < k → Told line row j)
@@ -20,7 +20,7 @@ Inv-loop line row₀ k₀ row k = (k ≤ 24) × (24 ≡ length row) × ((j : ℕ
 abbrev μ-loop : tie.MeasureT-loop
 μ-loop line row₀ k₀ row k = 24 - k
 
-told-more : (line row : List ℕ) (k v : ℕ) → k < length row → v ≡ capped (decimal 0 (from-word (k + 1) line)) → ((j : ℕ) → j < k → Told line row j)
+told-more : (line row : List ℕ) (k v : ℕ) → k < length row → v ≡ capped (digits-say 0 (from-word (k + 1) line)) → ((j : ℕ) → j < k → Told line row j)
     → (j : ℕ) → j < k + 1 → Told line (set row k v) j
 told-more line row k v h is before =
     below-more (Told line (set row k v)) k (λ j l. getD-set-other row k j v 0 (omega arith) ∙ before j l) (getD-set-same row k v 0 h ∙ is)
