@@ -4,7 +4,7 @@ use image_write::Written;
 ghost use Prim.Native.Nat.{_<_};
 ghost use mathlib.Core.Path.{_≡_};
 ghost use Rattle.image_write.specs.Writing.{Writes};
-ghost use Rattle.encoder.specs.Times.{column, encoder-tables};
+ghost use Rattle.encoder.specs.Times.{times, column, encoder-tables};
 
 const ACTIONS: usize = 9;
 
@@ -41,6 +41,13 @@ const TIMES: [[[u32; 2]; LEVELS]; ACTIONS] = [
     [[10_000, 13_000]; LEVELS], // Reconstruct
 ];
 
+// The table, as the definition has it.
+fn times() -> [[[u32; 2]; LEVELS]; ACTIONS]
+    ensures { λ r. ⌜ r ≡ times ⌝ }
+{
+    TIMES
+}
+
 // The columns of such a table.
 const AVERAGE: usize = 0;
 
@@ -71,8 +78,9 @@ pub fn write_image(image: &mut [u8]) -> Written
 {
     let masks = MASKS;
     let deadlines = DEADLINES;
-    let averages = column(TIMES, AVERAGE);
-    let worst = column(TIMES, WORST);
+    let times = times();
+    let averages = column(times, AVERAGE);
+    let worst = column(times, WORST);
     profile::write(
         ACTIONS,
         LEVELS,
