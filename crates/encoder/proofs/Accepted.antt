@@ -8,7 +8,7 @@ use Rattle.rules.specs.Limits.{margin, mixed, limit}
 use Rattle.rules.specs.Refusals.{Accepted}
 use Rattle.rules.proofs.Order.OfProfile.{action-at}
 use Rattle.rules.proofs.Cases.{placed, named, named-is, orderly, plain, number}
-use Rattle.encoder.specs.Times.{masks, deadlines, averages, worsts, encoder}
+use Rattle.encoder.specs.Times.{masks, deadlines, times, column, encoder}
 
 abbrev chain : ℕ → ℕ
 chain k = k
@@ -16,5 +16,5 @@ chain k = k
 pub accepted : Accepted (image encoder)
 unfolding placed action-at all-pass has due plain orderly
     cat image header-of record-image level-image profile of-tables header version actions levels cycle header-spare record-bytes record-at image-bytes mask-of deadline-of spare-of average-of worst-of
-    sum greatest-of least-of margin mixed limit masks deadlines averages worsts encoder
+    sum greatest-of least-of margin mixed limit masks deadlines times column encoder
 accepted = number (image encoder) refl (named (profile (image encoder)) chain refl) (named-is (profile (image encoder)) chain refl) true refl

@@ -17,7 +17,7 @@ use Rattle.fields.proofs.Holds.{whole}
 use Rattle.image_write.specs.Writing.{writing}
 use Rattle.image_laws.proofs.RoundTrip.{ReadFrom}
 use Rattle.image_laws.proofs.Accepts.{Writable, write-sound, tables-accepted}
-use Rattle.encoder.specs.Times.{masks, deadlines, averages, worsts, encoder-tables, encoder}
+use Rattle.encoder.specs.Times.{masks, deadlines, times, column, encoder-tables, encoder}
 use Rattle.encoder.proofs.Accepted.{accepted}
 
 -- every number of a list is a byte, computed
@@ -34,16 +34,16 @@ each-byte (x ∷ xs) h (suc k) = each-byte xs (and-true (ltb x 256) (all-bytes x
 -- reading its image gives the tables back
 read : ReadFrom (image encoder) encoder-tables
 unfolding cat image header-of record-image level-image of-tables header actions levels record-bytes record-at mask-of deadline-of average-of worst-of
-    masks deadlines averages worsts encoder
+    masks deadlines times column encoder
 read = record { masks-are = whole _; deadlines-are = whole _; averages-are = whole _; worst-are = whole _ }
 
 sure : Writable encoder
 unfolding cat image header-of record-image level-image of-tables header actions levels cycle record-bytes record-at mask-of deadline-of average-of worst-of
-    masks deadlines averages worsts encoder all-bytes
+    masks deadlines times column encoder all-bytes
 sure = write-sound encoder [] .0 (tables-accepted read (each-byte (image encoder) refl) accepted [] (λ t. t)) .1
 
 pub only-room : (room k : ℕ) → First (writing 9 8 320000 encoder-tables room) k → k ≡ cond (ltb room 546) 17 0
-unfolding masks deadlines averages worsts encoder image-bytes record-bytes
+unfolding cat masks deadlines times column encoder image-bytes record-bytes
 only-room room k (inl p) = absurd (sure .not-count (p .0))
 only-room room k (inr (_, inl (inl h, e))) = absurd (omega arith)
 only-room room k (inr (_, inl (inr (inl h), e))) = absurd (omega arith)
