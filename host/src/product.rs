@@ -5,14 +5,19 @@ use crate::boundary::*;
 use crate::calls::{self, Answer, Calls, Counts, Tables};
 
 /// The answer's values, or the number of its refusal, with which every value is the first one, 0 or no.
+#[inline(always)]
 fn answer<T: PartialEq + std::fmt::Debug>(refusal: Refusal, values: T, none: T) -> Answer<T> {
-    match refusal.number {
-        ACCEPTED => Ok(values),
-        number => {
-            assert_eq!(values, none, "with refusal {number}");
-            Err(number as u8)
-        }
+    if refusal.number == ACCEPTED {
+        return Ok(values);
     }
+    refused(refusal.number, &values, &none)
+}
+
+/// Apart, so that the values of an accepted call need not lie in memory for it.
+#[cold]
+fn refused<T: PartialEq + std::fmt::Debug>(number: u32, values: &T, none: &T) -> Answer<T> {
+    assert_eq!(values, none, "with refusal {number}");
+    Err(number as u8)
 }
 
 /// The product.

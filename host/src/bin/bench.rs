@@ -64,17 +64,17 @@ fn clock() -> f64 {
     (0..1000).map(|_| sample()).fold(0.0, f64::max)
 }
 
-/// An addition that takes one cycle.
+/// An addition that takes one cycle: of two registers, since some processors add a constant without waiting.
 #[inline(always)]
 fn step(value: u64) -> u64 {
     let mut value = value;
     #[cfg(target_arch = "aarch64")]
     unsafe {
-        std::arch::asm!("add {0}, {0}, #1", inout(reg) value, options(pure, nomem, nostack));
+        std::arch::asm!("add {0}, {0}, {1}", inout(reg) value, in(reg) 1u64, options(pure, nomem, nostack));
     }
     #[cfg(target_arch = "x86_64")]
     unsafe {
-        std::arch::asm!("add {0}, 1", inout(reg) value, options(pure, nomem, nostack));
+        std::arch::asm!("add {0}, {1}", inout(reg) value, in(reg) 1u64, options(pure, nomem, nostack));
     }
     value
 }
