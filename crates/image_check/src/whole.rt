@@ -29,7 +29,7 @@ fn head_refusal(image: &[u8], head: Header) -> Refusal
     requires { ⌜ HeaderOf (now image) head ⌝ }
     ensures { λ r. ⌜ First (head-checks (now (image .entry))) (r .number) ⌝ }
 {
-    if head.version != rules::VERSION {
+    if head.version != rules::FIRST_VERSION {
         return Refusal {
             number: rules::REFUSED_VERSION,
         };

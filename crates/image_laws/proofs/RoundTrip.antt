@@ -28,7 +28,7 @@ pub record ReadFrom (s : List ℕ) (T : ProfileTables) : Type 0 where
   pub worst-are : Holds (T .worst) 0 (rows (worst-of s) (actions s) (levels s))
 
 module _ (s : List ℕ) where
-  -- what `unpack` leaves in lent slices
+  -- what reading leaves in lent slices
   pub read-lent : (m d a w : List ℕ)
       → ReadFrom s (record {
         masks = splice m 0 (tab (mask-of s) (actions s));

@@ -4,6 +4,7 @@ use mathlib.Core.Bool.{Bool, cond}
 use mathlib.Core.List.{List, [], _∷_, _++_}
 use lib.Dec.{eqb}
 use lib.ListN.{getD}
+use Rattle.rules.specs.Numbers.{first-version, version-worth, actions-worth, levels-worth, cycle-worth, actions-said, levels-said, cycle-said, deadline-worth}
 use Rattle.rules.specs.Numbers.{header-bytes, head-bytes, level-bytes, deadline-at, average-at, worst-at}
 use Rattle.rules.specs.Words.{cat}
 
@@ -48,19 +49,19 @@ unfoldable pub header : List ℕ → ℕ
 header s = be s 0 header-bytes
 
 unfoldable pub version : List ℕ → ℕ
-version s = header s / 2 ^ 44
+version s = header s / version-worth
 
 unfoldable pub actions : List ℕ → ℕ
-actions s = header s / 2 ^ 37 % 2 ^ 7
+actions s = header s / actions-worth % actions-said
 
 unfoldable pub levels : List ℕ → ℕ
-levels s = header s / 2 ^ 33 % 2 ^ 4
+levels s = header s / levels-worth % levels-said
 
 unfoldable pub cycle : List ℕ → ℕ
-cycle s = header s / 2 ^ 3 % 2 ^ 30
+cycle s = header s / cycle-worth % cycle-said
 
 unfoldable pub header-spare : List ℕ → ℕ
-header-spare s = header s % 2 ^ 3
+header-spare s = header s % cycle-worth
 
 -- ---- the records: predecessor mask 64, deadline 30, spare 2, then per level from 0: average 24, worst 24
 
@@ -79,10 +80,10 @@ unfoldable pub mask-of : List ℕ → ℕ → ℕ
 mask-of s a = be s (record-at (levels s) a) 8
 
 unfoldable pub deadline-of : List ℕ → ℕ → ℕ
-deadline-of s a = be s (record-at (levels s) a + deadline-at) 4 / 2 ^ 2
+deadline-of s a = be s (record-at (levels s) a + deadline-at) 4 / deadline-worth
 
 unfoldable pub spare-of : List ℕ → ℕ → ℕ
-spare-of s a = be s (record-at (levels s) a + deadline-at) 4 % 2 ^ 2
+spare-of s a = be s (record-at (levels s) a + deadline-at) 4 % deadline-worth
 
 unfoldable pub average-of : List ℕ → ℕ → ℕ → ℕ
 average-of s a q = be s (record-at (levels s) a + average-at + level-bytes * q) 3
@@ -129,14 +130,14 @@ of-tables n L cycle T = record {
 
 -- the header's 48 bits of version 1, spare bits zero
 unfoldable pub header-of : Profile → ℕ
-header-of F = ((1 * 2 ^ 7 + F .n) * 2 ^ 4 + F .levels) * 2 ^ 33 + F .cycle * 2 ^ 3
+header-of F = ((first-version * actions-said + F .n) * levels-said + F .levels) * levels-worth + F .cycle * cycle-worth
 
 -- the bytes of a level, and of an action's record, spare bits zero
 unfoldable pub level-image : Profile → ℕ → ℕ → List ℕ
 level-image F a q = bytes 3 (F .average a q) ++ bytes 3 (F .worst a q)
 
 unfoldable pub record-image : Profile → ℕ → List ℕ
-record-image F a = bytes 8 (F .mask a) ++ (bytes 4 (F .deadline a * 2 ^ 2) ++ cat (level-image F a) (F .levels))
+record-image F a = bytes 8 (F .mask a) ++ (bytes 4 (F .deadline a * deadline-worth) ++ cat (level-image F a) (F .levels))
 
 -- Writing packs a profile.
 unfoldable pub image : Profile → List ℕ

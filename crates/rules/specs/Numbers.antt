@@ -1,5 +1,5 @@
--- The numbers of the rules, each by its name. The code has them under the same names.
-use Prim.Native.Nat.{ℕ}
+-- The numbers of the rules, each by its name. What the code needs of them has the same name there.
+use Prim.Native.Nat.{ℕ, _^_}
 
 -- ---- ranges
 
@@ -30,6 +30,39 @@ longest-coast = 16
 -- the records of a trace: 0 to 65,535
 abbrev pub most-records : ℕ
 most-records = 65535
+
+-- ---- the image's header, 48 bits: version 4, actions 7, levels 4, cycle 30, spare 3
+
+-- the one version there is
+abbrev pub first-version : ℕ
+first-version = 1
+
+-- what the last bit of each part is worth
+abbrev pub version-worth : ℕ
+version-worth = 2 ^ 44
+
+abbrev pub actions-worth : ℕ
+actions-worth = 2 ^ 37
+
+abbrev pub levels-worth : ℕ
+levels-worth = 2 ^ 33
+
+abbrev pub cycle-worth : ℕ
+cycle-worth = 2 ^ 3
+
+-- how many numbers the bits of each part can say
+abbrev pub actions-said : ℕ
+actions-said = 2 ^ 7
+
+abbrev pub levels-said : ℕ
+levels-said = 2 ^ 4
+
+abbrev pub cycle-said : ℕ
+cycle-said = 2 ^ 30
+
+-- what the last bit of a record's deadline is worth, above two spare bits
+abbrev pub deadline-worth : ℕ
+deadline-worth = 2 ^ 2
 
 -- ---- the image, in bytes
 

@@ -6,7 +6,7 @@ use mathlib.Core.List.{List, [], _∷_, _++_}
 use mathlib.Core.Logic.{_⊎_, _≢_}
 use lib.Dec.{eqb}
 use lib.ListN.{length}
-use Rattle.rules.specs.Numbers.{most-actions, most-levels, last-clock, longest-time, header-bytes, refused-short, refused-version, refused-count, refused-length, refused-spare, refused-range, refused-table, refused-loop, refused-unfit, refused-name, refused-room}
+use Rattle.rules.specs.Numbers.{most-actions, most-levels, last-clock, longest-time, first-version, header-bytes, refused-short, refused-version, refused-count, refused-length, refused-spare, refused-range, refused-table, refused-loop, refused-unfit, refused-name, refused-room}
 use Rattle.rules.specs.Words.{Some}
 use Rattle.rules.specs.Image.{Profile, has, version, header-spare, spare-of, image-bytes, profile}
 use Rattle.rules.specs.Order.{OnLoop, Before, Fit}
@@ -111,7 +111,7 @@ abbrev pub Short : List ℕ → Type 0
 Short s = length s < header-bytes
 
 abbrev pub Version : List ℕ → Type 0
-Version s = version s ≢ 1
+Version s = version s ≢ first-version
 
 abbrev pub Length : List ℕ → Type 0
 Length s = length s ≢ image-bytes (profile s .n) (profile s .levels)

@@ -1,5 +1,5 @@
-// The numbers of the rules, each once, for every crate; specs/Numbers has them under the same names. The rules themselves are mathematics: see
-// specs/ for the definitions and proofs/ for their laws.
+// The numbers of the rules, each once, for every crate; specs/Numbers has what the definitions need of them, under the same names. The rules
+// themselves are mathematics: see specs/ for the definitions and proofs/ for their laws.
 
 // ---- ranges
 
@@ -22,7 +22,7 @@ pub const MOST_RECORDS: usize = 65_535;
 
 pub const HEADER_BYTES: usize = 6;
 
-pub const VERSION: u32 = 1;
+pub const FIRST_VERSION: u32 = 1;
 // What the last bit of each part is worth.
 pub const VERSION_WORTH: u64 = 17_592_186_044_416;
 
