@@ -79,10 +79,10 @@
  * Times, deadlines and clocks are in one unit of the host's choice. Deadlines count from the start of the cycle, and are of the action's end.
  *
  * TRACE, for new averages: records of 5 bytes, each a number e of 40 bits, high byte first:
- *   e >> 39                  open: 1 if it was measured while the platform was open, and counts; 0 if closed: it is checked, and not counted
+ *   e >> 39                  open: 1 if the platform was open; 0 if closed: the record is checked, and not counted
  *   e >> 33 & 0x3f           action
  *   e >> 30 & 7              level
- *   e & 0x3fffffff           duration
+ *   e & 0x3fffffff           duration; 0 if the action was skipped, as for want of input: the record is checked, and not counted
  *
  * MEMORY. Tables lie row by row, the last index fastest. For n actions and L levels they take, in bytes, with the encoder's (9 and 8) and the most
  * (64 and 8):
@@ -341,8 +341,8 @@ struct nyokazerubi_refreshed {
     size_t bytes; /* of the image written */
 };
 
-/* Writes to out the image with new averages by the trace: the mean of the open records of an action and level, rounded down, the old one where there
- * are none; then none falls with the level. 1 to 9, 14, record by record 15 before 16, 17. */
+/* Writes to out the image with new averages by the trace: the mean of the open records of an action and level whose duration is above 0, rounded
+ * down, the old one where there are none; then none falls with the level. 1 to 9, 14, record by record 15 before 16, 17. */
 struct nyokazerubi_refreshed nyokazerubi_refresh(
     const uint8_t *image, size_t image_length,
     const uint8_t *trace, size_t trace_length,

@@ -36,7 +36,7 @@ const INTRODUCTION: &str = "# Vectors
 Made from the definitions of the rules, by a seed.
 
 - NNN.profile (an image, any bytes), NNN.durations; NNN.plan is what the plan program prints for the image, NNN.dry what the dry-run program prints for both.
-- tNN.profile, tNN.trace; tNN.refreshed is the new image, empty with a refusal, whose number stands in the table below.
+- tNN.profile, tNN.trace; then either tNN.refreshed, the new image, or tNN.refused, the line of the refusal.
 - readings.txt: an image in hexadecimal, first position, last position, level, time, and the reading: `spent`, `refused` and the number, or the 64 bits of the ratio in hexadecimal.
 ";
 
@@ -213,7 +213,10 @@ impl Maker<'_> {
         assert_eq!(fresh, again, "{}", case.what);
         self.file(&format!("{name}.profile"), &case.image)?;
         self.file(&format!("{name}.trace"), &case.trace)?;
-        self.file(&format!("{name}.refreshed"), if answer.is_ok() { &fresh } else { &[] })?;
+        match answer {
+            Ok(_) => self.file(&format!("{name}.refreshed"), &fresh)?,
+            Err(number) => self.file(&format!("{name}.refused"), format!("refused {number}\n").as_bytes())?,
+        }
         self.written.traces += 1;
         Ok(format!("| {name} | {} | {} |\n", case.what, answer.err().unwrap_or(0)))
     }

@@ -7,13 +7,13 @@ use nyokazerubi_host::text;
 use std::fs;
 use std::path::Path;
 
-/// Names without their ending of all files that have it, sorted.
-fn cases(folder: &Path, starts: fn(char) -> bool) -> Vec<String> {
+/// Names without their ending of all files that have it, sorted; none where there is no such folder.
+fn cases(folder: &Path, ending: &str) -> Vec<String> {
     let mut names: Vec<String> = fs::read_dir(folder)
-        .expect("the folder opens")
+        .into_iter()
+        .flatten()
         .filter_map(|entry| entry.expect("an entry").file_name().into_string().ok())
-        .filter_map(|name| name.strip_suffix(".profile").map(str::to_string))
-        .filter(|name| name.starts_with(starts))
+        .filter_map(|name| name.strip_suffix(ending).map(str::to_string))
         .collect();
     names.sort();
     names
@@ -30,7 +30,7 @@ fn text(folder: &Path, name: &str, ending: &str) -> String {
 
 fn programs(calls: &dyn Calls) -> usize {
     let folder = common::vectors("test_cases");
-    let names = cases(&folder, |first| first.is_ascii_digit());
+    let names = cases(&folder, ".plan");
     for name in &names {
         let image = bytes(&folder, name, "profile");
         let durations = bytes(&folder, name, "durations");
@@ -40,26 +40,31 @@ fn programs(calls: &dyn Calls) -> usize {
     names.len()
 }
 
-/// The number in the table of README.md, where the folder has one.
-fn trace_number(folder: &Path, name: &str) -> Option<u8> {
-    let table = fs::read_to_string(folder.join("README.md")).ok()?;
-    let row = table.lines().find(|line| line.starts_with(&format!("| {name} |"))).expect("a row");
-    Some(row.trim_end_matches([' ', '|']).rsplit('|').next().expect("a cell").trim().parse().expect("a number"))
+/// What a refresh must answer: the new image, or with a refusal its number, from its line.
+fn refreshed(folder: &Path, name: &str) -> Result<Vec<u8>, u8> {
+    if !folder.join(format!("{name}.refused")).exists() {
+        return Ok(bytes(folder, name, "refreshed"));
+    }
+    let line = text(folder, name, "refused");
+    Err(line.trim_end().strip_prefix("refused ").expect("a refusal").parse().expect("a number"))
 }
 
+/// The traces of a folder, and in it those of each request.
 fn traces(calls: &dyn Calls) -> usize {
     let folder = common::vectors("test_traces");
-    let names = cases(&folder, |first| first == 't');
+    [folder.clone(), folder.join("e1")].iter().map(|folder| traces_in(calls, folder)).sum()
+}
+
+fn traces_in(calls: &dyn Calls, folder: &Path) -> usize {
+    let names = cases(folder, ".trace");
     for name in &names {
-        let image = bytes(&folder, name, "profile");
+        let image = bytes(folder, name, "profile");
         let mut fresh = vec![0xa5; image.len() + 3];
-        let answer = calls.refresh(&image, &bytes(&folder, name, "trace"), &mut fresh);
-        if let Some(number) = trace_number(&folder, name) {
-            assert_eq!(answer.err().unwrap_or(0), number, "number of {name}");
-        }
-        // With a refusal the image is empty.
-        let wanted = bytes(&folder, name, "refreshed");
-        assert_eq!(answer.unwrap_or(0), wanted.len(), "length of {name}");
+        let answer = calls.refresh(&image, &bytes(folder, name, "trace"), &mut fresh);
+        let wanted = refreshed(folder, name);
+        assert_eq!(answer, wanted.as_ref().map(Vec::len).map_err(|&number| number), "answer of {name}");
+        // With a refusal nothing is written.
+        let wanted = wanted.unwrap_or_default();
         assert_eq!(fresh[..wanted.len()], wanted, "image of {name}");
         assert!(fresh[wanted.len()..].iter().all(|&byte| byte == 0xa5), "tail of {name}");
     }
@@ -96,7 +101,7 @@ fn programs_agree() {
 #[test]
 fn traces_agree() {
     for (name, calls) in common::sides() {
-        assert!(traces(&*calls) >= 24, "{name}");
+        assert!(traces(&*calls) >= 56, "{name}");
     }
 }
 

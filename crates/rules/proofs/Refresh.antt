@@ -1,6 +1,6 @@
 -- Refreshing averages: which record is at fault, one pass over the trace, and that the new averages obey the table rule.
 use mathlib.Core.Path.{_≡_, refl, subst}
-use mathlib.Core.Bool.{Bool, true, false, cond, _&&_, false≢true}
+use mathlib.Core.Bool.{Bool, true, false, cond}
 use mathlib.Core.List.{List, [], _∷_}
 use mathlib.Core.Logic.{_↔_, _⊎_, inl, inr, ⊎-elim, Iff·rfl}
 use Prim.Native.Nat.{ℕ, zero, suc, _+_, _*_, _/_, _≤_, _<_}
@@ -9,7 +9,7 @@ use native.Mathlib.Decide.{decLe, decLt}
 use native.Mathlib.Omega.{arith}
 use borrow.Author.Count.{below-more}
 use borrow.Author.Tests.{eqb-true, ne-eqb}
-use lib.Dec.{eqb, lit<}
+use lib.Dec.{ltb, eqb, lit<, ltb→lt}
 use Rattle.rules.specs.Numbers.{last-clock, refused-trace, refused-name, refused-duration, refused-room}
 use Rattle.rules.specs.Words.{sum}
 use Rattle.rules.specs.Image.{Profile, due, profile}
@@ -17,6 +17,7 @@ use Rattle.rules.specs.Refusals.{Ground, _when_, First, Count, Range, Ta
 use Rattle.rules.specs.Refresh.{records, open-of, action-of, level-of, duration-of, measures, counted, summed, unmeasured, measured, raised, new-average, refreshed, Trace, Name, Duration, Fault, FirstFault, refresh-call}
 use Rattle.rules.proofs.Differences.{not-above}
 use Rattle.rules.proofs.Terms.{sum-within}
+use Rattle.rules.proofs.Tests.{pass, failed, and-true}
 use Rattle.rules.proofs.Refusals.{None, first-none, Sound, accepted-parts}
 use Rattle.rules.proofs.Faults.{TimeOut}
 
@@ -91,19 +92,21 @@ refresh-sound s trace rooms p = ⊎-elim (λ refused. absurd (refused .1 refl)) 
 
 -- ---- one pass over the trace
 
-all-three : (x y z : Bool) → x && (y && z) ≡ true → (x ≡ true) × (y ≡ true) × (z ≡ true)
-all-three true true true h = (refl, refl, refl)
-all-three true true false h = absurd (false≢true h)
-all-three true false z h = absurd (false≢true h)
-all-three false y z h = absurd (false≢true h)
-
 module _ (trace : List ℕ) (a q : ℕ) where
   -- A measurement of a at q is an open record of it.
   pub measures-only : (r : ℕ) → measures trace a q r ≡ true → (open-of trace r ≡ true) × (action-of trace r ≡ a) × (level-of trace r ≡ q)
   unfolding measures
   measures-only r h =
-      let (o, e, f) = all-three (open-of trace r) (eqb (action-of trace r) a) (eqb (level-of trace r) q) h in
+      let (o, rest) = and-true (open-of trace r) _ .0 h in
+      let (e, f) = and-true (eqb (action-of trace r) a) _ .0 (and-true (ltb 0 (duration-of trace r)) _ .0 rest .1) in
       (o, eqb-true (action-of trace r) a e, eqb-true (level-of trace r) q f)
+
+  -- Its duration is above 0.
+  pub measures-above : (r : ℕ) → measures trace a q r ≡ true → 0 < duration-of trace r
+  unfolding measures
+  measures-above r h =
+      let (_, rest) = and-true (open-of trace r) _ .0 h in
+      ltb→lt 0 (duration-of trace r) (pass _ (and-true (ltb 0 (duration-of trace r)) _ .0 rest .0))
 
   -- One record more.
   pub counted-step : (m : ℕ) → counted trace a q (suc m) ≡ counted trace a q m + cond (measures trace a q m) 1 0
@@ -130,6 +133,19 @@ module _ (trace : List ℕ) (a q : ℕ) where
       one : (b : Bool) (r : ℕ) → cond b (duration-of trace r) 0 ≤ last-clock
       one true r = omega arith
       one false r = omega arith
+
+  -- An action and level whose open records all are 0 counts as having none.
+  pub skipped-none : (m : ℕ)
+      → ((r : ℕ) → r < m → open-of trace r ≡ true → action-of trace r ≡ a → level-of trace r ≡ q → duration-of trace r ≡ 0)
+      → counted trace a q m ≡ 0
+  unfolding counted
+  skipped-none m skipped = omega (arith, sum-within m 0 (λ r. cond (measures trace a q r) 1 0) none)
+    where
+      none : (r : ℕ) → r < m → cond (measures trace a q r) 1 0 ≤ 0
+      none r l =
+          let not-here : measures trace a q r ≡ false =
+          failed (measures trace a q r) (λ h. let (o, action, level) = measures-only r h in omega (arith, measures-above r h, skipped r l o action level)) in
+          rw not-here (le-refl 0)
 
 -- ---- what is measured
 

@@ -3,7 +3,7 @@ use Prim.Native.Nat.{ℕ, zero, suc, _*_, _/_, _%_, _^_, _≤_, _<_, max}
 use mathlib.Core.Bool.{Bool, cond, _&&_}
 use mathlib.Core.List.{List, [], _∷_, _++_}
 use mathlib.Core.Logic.{_⊎_, _≢_}
-use lib.Dec.{eqb}
+use lib.Dec.{ltb, eqb}
 use lib.ListN.{length}
 use Rattle.rules.specs.Numbers.{most-records, entry-bytes, refused-trace, refused-name, refused-duration, refused-room}
 use Rattle.rules.specs.Words.{sum}
@@ -32,9 +32,11 @@ duration-of trace r = entry trace r % 2 ^ 30
 
 -- ---- new averages
 
--- What counts as a measurement of action a at level q: an open record of it. Closed records are checked but not counted.
+-- What counts as a measurement of action a at level q: an open record of it, of a duration above 0. An action without input takes 0: the work
+-- did not take place. Closed records and those of duration 0 are checked but not counted.
 unfoldable pub measures : List ℕ → ℕ → ℕ → ℕ → Bool
-measures trace a q r = open-of trace r && (eqb (action-of trace r) a && eqb (level-of trace r) q)
+measures trace a q r =
+    open-of trace r && (ltb 0 (duration-of trace r) && (eqb (action-of trace r) a && eqb (level-of trace r) q))
 
 -- how many measurements of a at q are among the first m records, and the sum of their durations
 unfoldable pub counted : List ℕ → ℕ → ℕ → ℕ → ℕ
@@ -43,11 +45,11 @@ counted trace a q m = sum m (λ r. cond (measures trace a q r) 1 0)
 unfoldable pub summed : List ℕ → ℕ → ℕ → ℕ → ℕ
 summed trace a q m = sum m (λ r. cond (measures trace a q r) (duration-of trace r) 0)
 
--- With no open record the old average stays.
+-- With no measurement the old average stays.
 unfoldable pub unmeasured : Profile → ℕ → ℕ → ℕ
 unmeasured F a q = F .average a q
 
--- The sum of the open durations over their count, rounded down.
+-- The sum of the measured durations over their count, rounded down.
 unfoldable pub measured : Profile → List ℕ → ℕ → ℕ → ℕ
 measured F trace a q =
     let m : ℕ = records trace in

@@ -1,4 +1,4 @@
--- A record of a trace by its fields: how large they are, how they stand in its bytes, and that open records are measurements. Assumes
+-- A record of a trace by its fields: how large they are, how they stand in its bytes, and which records are measurements. Assumes
 -- nothing.
 use Prim.Native.Nat.{ℕ, suc, _+_, _*_, _/_, _%_, _^_, _<_}
 use mathlib.Core.Path.{_≡_, refl, sym, ap, _∙_}
@@ -8,11 +8,13 @@ use native.Mathlib.Nat.{div-div-eq-div-mul}
 use native.Mathlib.Numerals.{add-one}
 use native.Mathlib.Omega.{arith}
 use borrow.Author.Tests.{eq-eqb}
-use lib.Dec.{eqb}
+use lib.Dec.{ltb, eqb, lt→ltb}
 use lib.ListN.{getD}
 use Rattle.rules.specs.Numbers.{most-actions, most-levels, duration-said}
 use Rattle.rules.specs.Image.{be}
 use Rattle.rules.specs.Refresh.{entry, open-of, action-of, level-of, duration-of, measures}
+use Rattle.rules.proofs.Tests.{passed, failed}
+use Rattle.rules.proofs.Refresh.{measures-above}
 use Rattle.fields.proofs.Bytes.{be-front}
 use Rattle.trace.specs.Trace.{cells, cell-of, IsRecord, Measures}
 use Rattle.trace.specs.declared.Entry.{Entry}
@@ -62,10 +64,19 @@ module _ (trace : List ℕ) (r first rest : ℕ) (is : first ≡ getD trace (r *
   unfolding duration-of
   lasts = omega (arith, joined)
 
-all-true : (b : Bool) → b ≡ b && (true && true)
+-- ---- which records are measurements
+
+-- One of duration 0 is none.
+pub skipped-measures : (e : Entry) → e .duration ≡ 0 → Measures e false
+skipped-measures e none trace r is = sym (failed _ (λ h. omega (arith, none, is .duration, measures-above trace _ _ r h)))
+
+all-true : (b : Bool) → b ≡ b && (true && (true && true))
 all-true true = refl
 all-true false = refl
 
-pub open-measures : (e : Entry) → Measures e (e .«open»)
+-- Any other is one if it is open.
+pub open-measures : (e : Entry) → 0 < e .duration → Measures e (e .«open»)
 unfolding measures
-open-measures e trace r is = rw (eq-eqb _ _ refl, eq-eqb _ _ refl, is .opened) (all-true (open-of trace r))
+open-measures e some trace r is =
+    let above : ltb 0 (duration-of trace r) ≡ true = passed _ (lt→ltb 0 (duration-of trace r) (omega (arith, some, is .duration))) in
+    rw (eq-eqb _ _ refl, eq-eqb _ _ refl, above, is .opened) (all-true (open-of trace r))

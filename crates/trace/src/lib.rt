@@ -79,10 +79,13 @@ pub fn fault(e: Entry, ceilings: &[u32; CELLS]) -> Refusal
     }
 }
 
-// Whether a record counts as a measurement.
+// Whether a record counts as a measurement. One of duration 0 does not, open or closed: the action was skipped.
 pub fn measures(e: Entry) -> bool
     ensures { λ b. ⌜ Measures e b ⌝ }
 {
+    if e.duration == 0 {
+        return false;
+    }
     e.open
 }
 

@@ -172,7 +172,8 @@ impl Bench {
             let (action, level) = (draw.index(self.counts.n), draw.index(self.counts.levels));
             let longest = self.worst[action * self.counts.levels + level];
             let open = u64::from(!draw.once_in(4));
-            let bits = open << 39 | (action as u64) << 33 | (level as u64) << 30 | u64::from(draw.between(0, longest));
+            let duration = if draw.once_in(8) { 0 } else { draw.between(0, longest) };
+            let bits = open << 39 | (action as u64) << 33 | (level as u64) << 30 | u64::from(duration);
             bits.to_be_bytes()[3..].to_vec()
         };
         (0..records).flat_map(record).collect()

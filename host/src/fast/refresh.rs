@@ -27,8 +27,9 @@ pub fn refresh(image: &[u8], trace: &[u8], fresh: &mut [u8]) -> Answer<usize> {
         if duration >= ceilings[key] {
             return Err(if ceilings[key] == 0 { refused::NAME } else { refused::DURATION });
         }
-        let open = u64::from(record[0] >> 7);
-        sums[key] += (open << SUM) | (u64::from(duration) * open);
+        // 0 if it is closed, as for a skipped action: what is left of 0 is not counted.
+        let open = duration & u32::from(record[0] >> 7).wrapping_neg();
+        sums[key] += u64::from(open != 0) << SUM | u64::from(open);
     }
     if fresh.len() < image.len() {
         return Err(refused::ROOM);

@@ -22,9 +22,11 @@ fn record(trace: &[u8], at: usize) -> Record {
     }
 }
 
-/// The average of the open records there, rounded down; the old one if there is none.
+/// The average of the measurements there, rounded down; the old one if there is none. A record is one if it is open and of a duration above 0: one of
+/// duration 0 is of an action that was skipped.
 fn measured(records: &[Record], action: usize, level: usize, old: i64) -> i64 {
-    let counted = |record: &&Record| record.open && record.action == action && record.level == level;
+    let counted =
+        |record: &&Record| record.open && record.duration > 0 && record.action == action && record.level == level;
     let durations: Vec<i64> = records.iter().filter(counted).map(|record| record.duration).collect();
     match durations.len() {
         0 => old,
