@@ -599,9 +599,9 @@ uint32_t fast_refresh(const uint8_t *image, size_t length, const uint8_t *trace,
         uint32_t low = get32(record + 1), duration = low & LAST_CLOCK;
         uint32_t key = (uint32_t)(record[0] & 127) << 2 | low >> 30;
         if (duration >= ceilings[key]) return ceilings[key] ? DURATION : NAME;
-        /* 0 if it is closed, as for a skipped action: what is left of 0 is not counted. */
-        uint32_t open = record[0] >> 7 ? duration : 0;
-        sums[key] += (uint64_t)(open != 0) << 40 | open;
+        /* A closed record measures 0, as one of a skipped action does, and 0 is not counted. */
+        uint32_t measured = record[0] >> 7 ? duration : 0;
+        sums[key] += (uint64_t)(measured != 0) << 40 | measured;
     }
     if (room < length) return ROOM;
     memcpy(fresh, image, length);

@@ -167,7 +167,7 @@ unfolding new-average raised
 new-rises F trace a q = le-max-left (raised (measured F trace a) q) (measured F trace a (suc q))
 
 module _ (F : Profile) (trace : List ℕ) (rule : Table F → ⊥) (sound : NoFault F trace) where
-  -- Every open duration is at most the worst time.
+  -- Every measured duration is at most the worst time.
   summed-worst : (a q m : ℕ) → m ≤ records trace → summed trace a q m ≤ counted trace a q m * F .worst a q
   unfolding summed counted sum
   summed-worst a q zero l = omega arith

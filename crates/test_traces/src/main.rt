@@ -5,6 +5,11 @@ use test_kit::sum_up;
 use test_kit::tell;
 ghost use Rattle.io.specs.Counts.{Counts};
 
+// The traces of each series.
+const OF_THE_RULES: usize = 24;
+
+const OF_SKIPPED_ACTIONS: usize = 32;
+
 // How much of a trace's file there is at the start of `out`: the file whose name is `series`, the trace in two digits, then `what`.
 fn read_trace(series: &[u8], trace: usize, what: &[u8], out: &mut [u8]) -> usize
     ensures { λ r. ⌜ Counts r (now (out .exit)) ⌝ }
@@ -53,6 +58,6 @@ fn tell_series(series: &[u8], traces: usize, what: &[u8]) {
 }
 
 fn main() {
-    tell_series(b"t", 24, b" traces");
-    tell_series(b"e1/0", 32, b" traces with skipped actions");
+    tell_series(b"t", OF_THE_RULES, b" traces");
+    tell_series(b"e1/0", OF_SKIPPED_ACTIONS, b" traces with skipped actions");
 }

@@ -27,9 +27,9 @@ pub fn refresh(image: &[u8], trace: &[u8], fresh: &mut [u8]) -> Answer<usize> {
         if duration >= ceilings[key] {
             return Err(if ceilings[key] == 0 { refused::NAME } else { refused::DURATION });
         }
-        // 0 if it is closed, as for a skipped action: what is left of 0 is not counted.
-        let open = duration & u32::from(record[0] >> 7).wrapping_neg();
-        sums[key] += u64::from(open != 0) << SUM | u64::from(open);
+        // A closed record measures 0, as one of a skipped action does, and 0 is not counted.
+        let measured = duration & u32::from(record[0] >> 7).wrapping_neg();
+        sums[key] += u64::from(measured != 0) << SUM | u64::from(measured);
     }
     if fresh.len() < image.len() {
         return Err(refused::ROOM);
