@@ -14,12 +14,13 @@
  *   - the three bools of the run record are 0 or 1 when it is lent to ask and to report. A start writes every field of the record and reads none, so
  *     it may be made over any bytes; after it, accepted or refused, they are, as long as the host does not write the record itself.
  * Nothing else is asked. Counts, positions, clocks and entries may have any value, which is refused if it does not fit. A table may be longer than
- * needed: its tail is kept. Calls may be made at any time and by several threads at once, each with a run record of its own, all over one plan.
+ * needed: its tail is kept. Calls may be made at any time and by several threads at once, each with a run record or
+ * totals of its own, all over one plan.
  *
  * REFUSALS. Every answer has a refusal (but those of on_time and of boundary, which are plain): its number is 0, accepted, or the first that applies
- * of those that stand at the call, in that order. With a number other than 0 the call has written nothing, the run record is as it was, and all else
- * in the answer is 0 or false. One exception: a refused start leaves a record of zero actions, on which ask and report answer 11 until a start is
- * accepted.
+ * of those that stand at the call, in that order. With a number other than 0 the call has written nothing, the run record and the totals are as they
+ * were, and all else in the answer is 0 or false. One exception: a refused start leaves a record of zero actions, on which ask and report answer 11
+ * until a start is accepted.
  *
  * A CYCLE, for profiles of up to 9 actions and 8 levels; encode() is the host's own. host/check compiles and runs these lines as they stand.
  *
@@ -84,6 +85,10 @@
  *   e >> 30 & 7              level
  *   e & 0x3fffffff           duration; 0 if the action was skipped, as for want of input: the record is checked, and not counted
  *
+ * RECORDING, to try a profile on frames in which every action was measured at every level: frames one after another, and nothing else. A frame is n
+ * by L durations, by position, then level, 4 bytes each, high byte first. A recording is opened by its length alone, and its frames are lent one at a
+ * time: no more than one need be in memory.
+ *
  * MEMORY. Tables lie row by row, the last index fastest. For n actions and L levels they take, in bytes, with the encoder's (9 and 8) and the most
  * (64 and 8):
  *
@@ -99,6 +104,10 @@
  *   given              uint8_t   n                    9      64   by position, from a dry run
  *   marks              uint8_t   n                    9      64   by position, from a dry run
  *   in all, to plan and dry-run a cycle            6045   42950
+ *
+ *   frame              uint8_t   4nL                288    2048   of a recording
+ *   totals             record    16                  16      16
+ *   in all, to plan and rehearse a recording       6043   42838
  *
  *   masks              uint64_t  8n                  72     512   by action, to read and write an image
  *   deadlines          uint32_t  4n                  36     256   by action
@@ -130,6 +139,7 @@ uint32_t nyokazerubi_boundary(void);
 #define NYOKAZERUBI_MOST_LEVELS 8
 #define NYOKAZERUBI_LONGEST_COAST 16
 #define NYOKAZERUBI_MOST_RECORDS 65535
+#define NYOKAZERUBI_MOST_FRAMES 4096
 #define NYOKAZERUBI_LAST_CLOCK 1073741823u   /* the longest cycle, the latest deadline, the latest clock */
 #define NYOKAZERUBI_LONGEST_TIME 16777215u   /* the longest average, worst time and duration of a dry run */
 #define NYOKAZERUBI_ABSENT_BOUND INT32_MIN   /* the coast bound where a coast would go past the last position */
@@ -142,11 +152,12 @@ uint32_t nyokazerubi_boundary(void);
 #define NYOKAZERUBI_STACK_OTHER 4096
 
 /* The bytes of an image; the entries of limits, durations, averages and both tables of worst times; the entries of the coast bounds; the bytes of
- * a trace. */
+ * a trace; the bytes of a frame of a recording. */
 #define NYOKAZERUBI_IMAGE_BYTES(n, levels) ((size_t)6 + (size_t)(n) * ((size_t)12 + (size_t)6 * (size_t)(levels)))
 #define NYOKAZERUBI_TABLE_ENTRIES(n, levels) ((size_t)(n) * (size_t)(levels))
 #define NYOKAZERUBI_BOUNDS_ENTRIES(n, levels) ((size_t)NYOKAZERUBI_LONGEST_COAST * NYOKAZERUBI_TABLE_ENTRIES(n, levels))
 #define NYOKAZERUBI_TRACE_BYTES(records) ((size_t)5 * (size_t)(records))
+#define NYOKAZERUBI_FRAME_BYTES(n, levels) ((size_t)4 * NYOKAZERUBI_TABLE_ENTRIES(n, levels))
 
 /* The numbers of refusal. */
 enum {
@@ -164,9 +175,9 @@ enum {
     NYOKAZERUBI_REFUSED_TURN = 11,     /* asked while an action runs, reported while none runs, or a record with a field outside its range */
     NYOKAZERUBI_REFUSED_BACK = 12,     /* clock below the last accepted one */
     NYOKAZERUBI_REFUSED_CLOCK = 13,    /* clock above 1073741823 */
-    NYOKAZERUBI_REFUSED_TRACE = 14,    /* length not a multiple of 5, or over 65535 records */
+    NYOKAZERUBI_REFUSED_TRACE = 14,    /* length not a multiple of 5, or over 65535 records; a recording not whole frames, or over 4096 of them */
     NYOKAZERUBI_REFUSED_NAME = 15,     /* trace record or lookup names an absent action or level */
-    NYOKAZERUBI_REFUSED_DURATION = 16, /* trace record longer than that worst time; dry run entry above 16777215 */
+    NYOKAZERUBI_REFUSED_DURATION = 16, /* trace record longer than that worst time; dry run or frame entry above 16777215 */
     NYOKAZERUBI_REFUSED_ROOM = 17,     /* a lent table shorter than needed */
     NYOKAZERUBI_REFUSED_READING = 18   /* speed reading with first position above last, or a position or level absent */
 };
@@ -317,6 +328,52 @@ struct nyokazerubi_framed nyokazerubi_dry_frame(
     uint8_t *order, size_t order_length,
     uint8_t *given, size_t given_length,
     uint8_t *marks, size_t marks_length);
+
+/* ---- recordings */
+
+struct nyokazerubi_opened {
+    struct nyokazerubi_refusal refusal;
+    size_t n;
+    size_t levels;
+    size_t frame_bytes; /* of each frame, 4nL */
+    size_t frames;      /* of the recording */
+};
+
+/* Opens a recording of so many bytes against an image, which it plans as nyokazerubi_plan does. None of the recording is lent: 14 is judged by its
+ * length, before any frame is run. No bytes are no frames, accepted. 1 to 9, 14, 17. */
+struct nyokazerubi_opened nyokazerubi_open_recording(
+    const uint8_t *image, size_t image_length, size_t bytes,
+    uint8_t *order, size_t order_length,
+    int32_t *limits, size_t limits_length,
+    uint32_t *worst_by_position, size_t worst_by_position_length,
+    int32_t *bounds, size_t bounds_length);
+
+/* The totals over the frames run. The host keeps the record, sets all of it to 0 once, and lends it with each frame. */
+struct nyokazerubi_totals {
+    uint32_t frames;
+    uint32_t decisions;
+    uint32_t overruns; /* frames in which an action took longer than its worst time */
+    uint32_t lates;    /* frames in which no level fitted at a decision */
+};
+
+struct nyokazerubi_line {
+    struct nyokazerubi_refusal refusal;
+    uint32_t decisions;
+    uint32_t lowest; /* of the levels given */
+    uint32_t end;    /* the clock at the end of the frame */
+    bool overrun;
+    bool late;
+};
+
+/* Runs a frame dry over the planned tables, from time 0, and counts it. A refused frame counts in none, and the next one may follow. If overrun is
+ * not set, no deadline was missed. 11 (a total outside its range: frames at most 4096, decisions at most 64 a frame, overruns and lates at most the
+ * frames), 14 (4096 frames are counted already), 3, 17, 16. */
+struct nyokazerubi_line nyokazerubi_rehearse(
+    struct nyokazerubi_totals *totals, size_t n, size_t levels,
+    const int32_t *limits, size_t limits_length,
+    const uint32_t *worst_by_position, size_t worst_by_position_length,
+    const int32_t *bounds, size_t bounds_length,
+    const uint8_t *frame, size_t frame_length);
 
 /* ---- the speed reading */
 

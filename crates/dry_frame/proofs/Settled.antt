@@ -6,11 +6,10 @@ use mathlib.Core.List.{List, [], _∷_}
 use mathlib.Core.Logic.{⊎-elim}
 use native.Mathlib.Nat.{le-refl}
 use native.Mathlib.Omega.{arith}
-use lib.IntN.{ℤ}
 use Rattle.rules.specs.Numbers.{refused-duration, refused-room}
 use Rattle.rules.specs.Words.{tab, one-if}
 use Rattle.rules.specs.Image.{profile}
-use Rattle.rules.specs.Limits.{tables, LentTables, planner-tables}
+use Rattle.rules.specs.Limits.{LentTables, planner-tables}
 use Rattle.rules.specs.Refusals.{_when_, Tight}
 use Rattle.rules.specs.Run.{Run, decides}
 use Rattle.rules.specs.Dry.{LongEntry, frame-call}
@@ -20,13 +19,12 @@ use Rattle.rules.proofs.Order.OfProfile.{order-settled}
 use Rattle.fields.specs.Fields.{splice}
 use Rattle.fields.proofs.Tabs.{tab-ext}
 use Rattle.planner.specs.Planning.{with-fronts}
-use Rattle.planner.proofs.Alike.{Alike, limits-alike, worst-alike, bounds-alike}
-use Rattle.planner.proofs.Settled.{settled-alike, kept-one}
+use Rattle.planner.proofs.Settled.{tables-settled, kept-one}
 use Rattle.dry_frame.specs.declared.Framed.{Framed}
 use Rattle.dry_frame.specs.Frame.{FrameLists, frame-rooms, run-at, Frames}
 use Rattle.dry_frame.proofs.Cycle.{same-run}
 
--- answers, lists and tables that are equal part by part
+-- answers and lists that are equal part by part
 abbrev made : ℕ → ℕ → ℕ → ℕ → Bool → Bool → Framed
 made number n decisions end overrun late =
     record { refusal = record { number = number }; n = n; decisions = decisions; end = end; overrun = overrun; late = late }
@@ -40,12 +38,6 @@ lists order levels decided = record { order = order; levels = levels; decided = 
 
 lists-one : {a a′ b b′ c c′ : List ℕ} → a ≡ a′ → b ≡ b′ → c ≡ c′ → lists a b c ≡ lists a′ b′ c′
 lists-one p q r = cc
-
-abbrev held : List ℕ → List ℤ → List ℕ → List ℤ → LentTables
-held order limits worst bounds = record { order = order; limits = limits; worst = worst; bounds = bounds }
-
-held-one : {a a′ c c′ : List ℕ} {b b′ d d′ : List ℤ} → a ≡ a′ → b ≡ b′ → c ≡ c′ → d ≡ d′ → held a b c d ≡ held a′ b′ c′ d′
-held-one p q r s = cc
 
 module _ {s durations : List ℕ} {before after₁ after₂ : FrameLists} {r t : Framed}
     (x : Frames s durations before after₁ r) (y : Frames s durations before after₂ t) where
@@ -72,13 +64,10 @@ module _ {s durations : List ℕ} {before after₁ after₂ : FrameLists} {r t :
       ∙ same-run s durations (y .o) none-held (ap (with-fronts none-held) tables-one) level i l
     where
       none-held : LentTables
-      none-held = held [] [] [] []
-
-      same : Alike (tables (profile s) (x .o)) (tables (profile s) (y .o)) (profile s .n) (profile s .levels)
-      same = settled-alike (sound none .not-count) (x .the-order none) (y .the-order (sym number ∙ none))
+      none-held = record { order = []; limits = []; worst = []; bounds = [] }
 
       tables-one : planner-tables (profile s) (x .o) ≡ planner-tables (profile s) (y .o)
-      tables-one = held-one (order-one none) (limits-alike same) (worst-alike same) (bounds-alike same)
+      tables-one = tables-settled (sound none .not-count) (x .the-order none) (y .the-order (sym number ∙ none))
 
   last-one : {A : Type 0} (f : Run → A) → r .refusal .number ≡ 0
       → f (run-at s durations (x .o) (profile s .n)) ≡ f (run-at s durations (y .o) (profile s .n))

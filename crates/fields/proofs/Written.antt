@@ -1,9 +1,10 @@
 -- What was written to the front of a table is read there. Assumes nothing.
 use Prim.Native.Nat.{ℕ, _+_, _*_, _<_, zero-le}
-use mathlib.Core.Path.{_≡_, _∙_}
+use mathlib.Core.Path.{_≡_, ap, _∙_}
 use mathlib.Core.List.{List}
 use native.Mathlib.Omega.{arith}
-use lib.ListN.{length, getD}
+use lib.ListN.{length, getD, take, drop}
+use lib.Seq.{take-at}
 use Rattle.rules.specs.Words.{cat, tab, rows}
 use Rattle.fields.specs.Fields.{splice}
 use Rattle.fields.proofs.Strides.{cell-fits}
@@ -30,3 +31,8 @@ module _ {A : Type 0} where
       front (cat (λ i. rows (f i) m size) n) l₀ ((i * m + q) * size + r) d e
       (omega (arith, length-blocks f m size n, cell-fits (i * m + q) (n * m) r size (cell-fits i n q m b c) h))
       ∙ getD-blocks f m size n i q r d b c h
+
+-- the table at the front of a list, where it was written
+pub tab-taken : {A : Type 0} (f : ℕ → A) (l₀ : List A) {l : List A} (k : ℕ) {n : ℕ} → l ≡ splice l₀ 0 (tab f k) → k ≡ n → take k l ≡ tab f n
+unfolding splice
+tab-taken f l₀ k is e = ap (take k) is ∙ take-at (tab f k) (drop (0 + length (tab f k)) l₀) k (length-tab f k) ∙ ap (tab f) e

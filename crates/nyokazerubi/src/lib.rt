@@ -21,6 +21,7 @@ ghost use Rattle.refresh.specs.Refresh.{Refreshes};
 ghost use Rattle.nyokazerubi.specs.Flat.{boundary};
 
 pub mod readings;
+pub mod recordings;
 pub mod runs;
 
 // The version of this boundary: of its calls, their parameters and the layout of its records. It goes up by 1 when one of them changes.

@@ -33,6 +33,11 @@ settled-alike {F} {o} counts x y =
       worst = λ k q h l. ap (λ (a : ℕ). F .worst a q) (at k h);
     }
 
+pub tables-settled : {F : Profile} {o p : Order (F .n)} → (Count F → ⊥) → TheOrder F o → TheOrder F p → planner-tables F o ≡ planner-tables F p
+tables-settled {F} {o} {p} counts x y =
+    let the-same = settled-alike counts x y in
+    same-tables (tab-ext (o .at) (p .at) (F .n) (order-settled x y)) (limits-alike the-same) (worst-alike the-same) (bounds-alike the-same)
+
 -- what is kept is the same where what is new is, if there is anything new
 pub kept-one : {A : Type 0} (k m : ℕ) {x y : A} (new new′ old : A) → k ≡ m → (k ≡ 0 → new ≡ new′) → x ≡ kept k new old → y ≡ kept m new′ old → x ≡ y
 kept-one {A} k m new new′ old e same f g = f ∙ both (ℕ-discrete k 0) ∙ sym (rw (← e) at g)
@@ -62,14 +67,8 @@ module _ {s : List ℕ} {before after₁ after₂ : LentTables} {r t : Planned} 
       let own = refused-room when Tight (plan-rooms (profile s .n) (profile s .levels) before) ∷ [] in
       ⊎-elim (λ p. absurd (p .1 none)) (λ p. p .0) (accepted-parts s own (r .refusal .number) (x .number))
 
-  alike : r .refusal .number ≡ 0 → Alike (tables (profile s) (x .o)) (tables (profile s) (y .o)) (profile s .n) (profile s .levels)
-  alike none = settled-alike (sound none .not-count) (x .the-order none) (y .the-order (sym number ∙ none))
-
   tables-one : r .refusal .number ≡ 0 → planner-tables (profile s) (x .o) ≡ planner-tables (profile s) (y .o)
-  tables-one none =
-      let the-same = alike none in
-      same-tables (tab-ext (x .o .at) (y .o .at) (profile s .n) (order-settled (x .the-order none) (y .the-order (sym number ∙ none))))
-      (limits-alike the-same) (worst-alike the-same) (bounds-alike the-same)
+  tables-one none = tables-settled (sound none .not-count) (x .the-order none) (y .the-order (sym number ∙ none))
 
   -- Two results that satisfy the contract on the same input are equal.
   pub plan-settled : (r ≡ t) × (after₁ ≡ after₂)

@@ -19,8 +19,9 @@ use Rattle.rules.specs.Image.{Profile, has, due, header, version, action
 use Rattle.rules.specs.Order.{Order, TheOrder, Fit}
 use Rattle.rules.specs.Limits.{tables, margin, mixed, limit, coast-bound, Plan, Gives, Late}
 use Rattle.rules.specs.Refusals.{_when_, First, Unfit, image-checks, Count, Falls, Table, Short, Version, Length, Spare, Range}
-use Rattle.rules.specs.Run.{level-given, fits, qualifies, left-granted, begun, decides, given, ended}
-use Rattle.rules.specs.Dry.{step, before}
+use Rattle.rules.specs.Run.{level-given, fits, qualifies, left-granted, begun, decides, given, ended, lent}
+use Rattle.rules.specs.Dry.{step, before, dry-end}
+use Rattle.rules.specs.Recording.{frame-bytes, frames, lowest-of, lowest-given, ran-of, long-entry, line, counted, with-line, totals-from}
 use Rattle.rules.specs.Speed.{quotient, room, reading-by, reading}
 use Rattle.rules.specs.Cases.{three, eight, cases, AllHold}
 use Rattle.rules.proofs.Tests.{pass, passed, failed, and-true, or-true, not-true, all-pass-each}
@@ -222,7 +223,7 @@ pub every-case : AllHold cases
 unfolding placed action-at all-pass has due plain orderly
     cat image header-of record-image level-image profile header version actions levels cycle header-spare record-bytes record-at image-bytes mask-of deadline-of spare-of average-of worst-of
     sum greatest-of least-of last-passing margin mixed limit coast-bound
-    level-given fits qualifies left-granted begun decides given ended step before quotient room reading reading-by div ofInt round
+    level-given fits qualifies left-granted begun decides given ended step before frame-bytes frames long-entry line lowest-of lowest-given dry-end lent ran-of totals-from with-line counted quotient room reading reading-by div ofInt round
 every-case = (
   refl,
   (
@@ -234,28 +235,31 @@ every-case = (
         (
           (named (three 20) chain refl, named-is (three 20) chain refl, (refl, (refl, refl))),
           (
-            (named (three 20) chain refl, named-is (three 20) chain refl, (given-is _ 6 1 1 false (omega arith) refl refl)),
+            (named (three 20) chain refl, named-is (three 20) chain refl, (refl, refl)),
             (
-              (named (three 20) chain refl, named-is (three 20) chain refl, (given-is _ 7 1 0 false (omega arith) refl refl)),
+              (named (three 20) chain refl, named-is (three 20) chain refl, (given-is _ 6 1 1 false (omega arith) refl refl)),
               (
-                (named (three 20) chain refl, named-is (three 20) chain refl, (given-is _ 12 1 0 false (omega arith) refl refl)),
+                (named (three 20) chain refl, named-is (three 20) chain refl, (given-is _ 7 1 0 false (omega arith) refl refl)),
                 (
-                  (named (three 20) chain refl, named-is (three 20) chain refl, (given-is _ 13 1 0 true (omega arith) refl refl)),
+                  (named (three 20) chain refl, named-is (three 20) chain refl, (given-is _ 12 1 0 false (omega arith) refl refl)),
                   (
-                    (named (three 20) chain refl, named-is (three 20) chain refl, refl),
+                    (named (three 20) chain refl, named-is (three 20) chain refl, (given-is _ 13 1 0 true (omega arith) refl refl)),
                     (
                       (named (three 20) chain refl, named-is (three 20) chain refl, refl),
                       (
-                        (number (image (three 20)) refl (named (profile (image (three 20))) chain refl) (named-is (profile (image (three 20))) chain refl) true refl),
+                        (named (three 20) chain refl, named-is (three 20) chain refl, refl),
                         (
-                          (number (image (three 12)) refl (named (profile (image (three 12))) chain refl) (named-is (profile (image (three 12))) chain refl) true refl),
+                          (number (image (three 20)) refl (named (profile (image (three 20))) chain refl) (named-is (profile (image (three 20))) chain refl) true refl),
                           (
-                            (number (image (three 11)) refl (named (profile (image (three 11))) chain refl) (named-is (profile (image (three 11))) chain refl) false refl),
+                            (number (image (three 12)) refl (named (profile (image (three 12))) chain refl) (named-is (profile (image (three 12))) chain refl) true refl),
                             (
-                              (named eight swapped refl, named-is eight swapped refl, refl),
+                              (number (image (three 11)) refl (named (profile (image (three 11))) chain refl) (named-is (profile (image (three 11))) chain refl) false refl),
                               (
-                                (number (image eight) refl (named (profile (image eight)) swapped refl) (named-is (profile (image eight)) swapped refl) true refl),
-                                tt,
+                                (named eight swapped refl, named-is eight swapped refl, refl),
+                                (
+                                  (number (image eight) refl (named (profile (image eight)) swapped refl) (named-is (profile (image eight)) swapped refl) true refl),
+                                  tt,
+                                ),
                               ),
                             ),
                           ),

@@ -12,4 +12,5 @@ pub mod Calls
 pub mod Accepted
 pub mod Speed
 pub mod Refresh
+pub mod Recording
 pub mod Cases

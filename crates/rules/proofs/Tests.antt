@@ -44,6 +44,10 @@ pub or-true : (a b : Bool) → (a || b ≡ true) ↔ ((a ≡ true) ⊎ (b ≡ tr
 or-true true b = ((λ h. inl refl), (λ h. refl))
 or-true false b = ((λ h. inr h), (elim [ inl h ↦ absurd (false≢true h) | inr h ↦ h ]))
 
+pub neither : (a b : Bool) → a || b ≡ false → (a ≡ false) × (b ≡ false)
+neither true b h = absurd (true≢false h)
+neither false b h = (refl, h)
+
 -- ---- the greatest number that passes
 
 pub record Last (test : ℕ → Bool) (m x : ℕ) : Type 0 where
@@ -97,6 +101,17 @@ all-pass-each test (suc m) h j l = at (and-true (all-pass test m) (test m) .0 h)
     at : (all-pass test m ≡ true) × (test m ≡ true) → Dec (j < m) → (j < m → test j ≡ true) → test j ≡ true
     at p (yes k) ih = ih k
     at p (no k) ih = let e : m ≡ j = le-antisymm (omega arith) (omega arith) in subst (λ (z : ℕ). test z ≡ true) e (p .1)
+
+-- where not all pass, one fails
+pub one-fails : (test : ℕ → Bool) (m : ℕ) → all-pass test m ≡ false → (k : ℕ) × (k < m) × (test k ≡ false)
+unfolding all-pass
+one-fails test zero h = absurd (true≢false h)
+one-fails test (suc m) h = by (all-pass test m) (test m) refl refl h (one-fails test m)
+  where
+    by : (a b : Bool) → all-pass test m ≡ a → test m ≡ b → a && b ≡ false → (all-pass test m ≡ false → (k : ℕ) × (k < m) × (test k ≡ false))
+        → (k : ℕ) × (k < suc m) × (test k ≡ false)
+    by true b p q h ih = (m, omega arith, q ∙ h)
+    by false b p q h ih = let e = ih p in (e .0, omega (arith, e .1), e .2)
 
 pub each-all-pass : (test : ℕ → Bool) (m : ℕ) → ((j : ℕ) → j < m → test j ≡ true) → all-pass test m ≡ true
 unfolding all-pass

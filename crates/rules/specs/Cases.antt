@@ -2,18 +2,19 @@
 use Prim.Native.Nat.{ℕ, zero, suc}
 use mathlib.Core.Path.{_≡_}
 use mathlib.Core.Bool.{Bool, true, false}
-use mathlib.Core.List.{List, [], _∷_}
+use mathlib.Core.List.{List, [], _∷_, _++_}
 use mathlib.Core.Logic.{_↔_}
 use lib.IntN.{ℤ, pos}
-use lib.ListN.{getD}
-use Rattle.rules.specs.Numbers.{longest-coast}
-use Rattle.rules.specs.Words.{tab, rows}
-use Rattle.rules.specs.Image.{Profile, image}
+use lib.ListN.{length, getD}
+use Rattle.rules.specs.Numbers.{longest-coast, duration-bytes}
+use Rattle.rules.specs.Words.{cat, tab, rows}
+use Rattle.rules.specs.Image.{Profile, bytes, image}
 use Rattle.rules.specs.Order.{Order, TheOrder}
-use Rattle.rules.specs.Limits.{tables, limit, planned, Gives, Late}
+use Rattle.rules.specs.Limits.{tables, limit, planned, planner-tables, Gives, Late}
 use Rattle.rules.specs.Refusals.{First, image-checks}
 use Rattle.rules.specs.Run.{Run}
 use Rattle.rules.specs.Dry.{before, level-of}
+use Rattle.rules.specs.Recording.{Line, refused, ran, lines, Totals, totals}
 use Rattle.rules.specs.Speed.{Reading, ratio, spent, one, reading}
 
 -- ---- the profiles
@@ -62,6 +63,8 @@ pub data Question : Type 0 where
   asked : ℕ → ℕ → Question
   -- the levels, decisions and end of a dry run over a duration for each position, the same at every level
   run : List ℕ → Question
+  -- the lines and the totals of a recording of such frames
+  rehearsed : List (List ℕ) → Question
   -- the speed reading of positions i to k, level q and time t
   read : ℕ → ℕ → ℕ → ℕ → Question
 
@@ -72,7 +75,13 @@ Reply ordered = List ℕ
 Reply printed = List ℤ
 Reply (asked i t) = ℕ × Bool
 Reply (run durations) = List ℕ × ℕ × ℕ
+Reply (rehearsed frames) = List Line × Totals
 Reply (read i k q t) = Reading
+
+-- frames that have a duration for each position, the same at every level, one after another
+abbrev pub recorded : ℕ → List (List ℕ) → List ℕ
+recorded L [] = []
+recorded L (f ∷ fs) = cat (λ i. cat (λ q. bytes duration-bytes (getD f i 0)) L) (length f) ++ recorded L fs
 
 abbrev pub Answers : (F : Profile) (question : Question) → Reply question → Type 0
 Answers F written reply = image F ≡ reply
@@ -87,6 +96,10 @@ Answers F (run durations) reply =
     let d : ℕ → ℕ → ℕ = λ i q. getD durations i 0 in
     let end : Run = before longest-coast (planned S) (S .worst) d 0 (S .n) in
     (tab (level-of longest-coast (planned S) (S .worst) d 0) (S .n) ≡ reply .0) × ((end .decisions ≡ reply .1) × (end .clock ≡ reply .2)))
+Answers F (rehearsed durations) reply =
+    (o : Order (F .n)) × TheOrder F o
+    × (let ls : List Line = lines (F .n) (F .levels) (planner-tables F o) (recorded (F .levels) durations) in
+    (ls ≡ reply .0) × (totals ls ≡ reply .1))
 Answers F (read i k q t) reply = (o : Order (F .n)) × TheOrder F o × (reading (tables F o) i k q t ≡ reply)
 
 pub record Case : Type 0 where
@@ -114,6 +127,15 @@ cases =
     ∷ of (three 20) (run (6 ∷ 8 ∷ 4 ∷ [])) (1 ∷ 1 ∷ 0 ∷ [], 3, 18)
     ∷ of (three 20) (run (0 ∷ 8 ∷ 8 ∷ [])) (1 ∷ 1 ∷ 1 ∷ [], 2, 16)
     ∷ of (three 20) (run (8 ∷ 4 ∷ 8 ∷ [])) (1 ∷ 0 ∷ 1 ∷ [], 3, 20)
+    -- the same as a recording, with a frame between them in which an entry is too long
+    ∷ of (three 20) (rehearsed ((6 ∷ 8 ∷ 4 ∷ []) ∷ (0 ∷ 8 ∷ 8 ∷ []) ∷ (0 ∷ 0 ∷ 16777216 ∷ []) ∷ (8 ∷ 4 ∷ 8 ∷ []) ∷ [])) (
+      ran (record { decisions = 3; lowest = 0; end = 18; overrun = false; late = false })
+          ∷ ran (record { decisions = 2; lowest = 1; end = 16; overrun = false; late = false })
+          ∷ refused 16
+          ∷ ran (record { decisions = 3; lowest = 0; end = 20; overrun = false; late = false })
+          ∷ [],
+      record { frames = 3; decisions = 8; overruns = 0; lates = 0 },
+    )
     -- 4 and 5
     ∷ of (three 20) (asked 1 6) (1, false)
     ∷ of (three 20) (asked 1 7) (0, false)

@@ -9,4 +9,5 @@ pub mod Dry
 pub mod Speed
 pub mod Refresh
 pub mod Demand
+pub mod Recording
 pub mod Cases

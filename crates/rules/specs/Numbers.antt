@@ -31,6 +31,10 @@ longest-coast = 16
 abbrev pub most-records : ℕ
 most-records = 65535
 
+-- the frames of a recording: 0 to 4,096
+abbrev pub most-frames : ℕ
+most-frames = 4096
+
 -- ---- the image's header, 48 bits: version 4, actions 7, levels 4, cycle 30, spare 3
 
 -- the one version there is
@@ -94,6 +98,12 @@ entry-bytes = 5
 -- how many numbers a duration's 30 bits can say
 abbrev pub duration-said : ℕ
 duration-said = 1073741824
+
+-- ---- the recording, in bytes
+
+-- a duration of a frame
+abbrev pub duration-bytes : ℕ
+duration-bytes = 4
 
 -- ---- numbers of refusal
 

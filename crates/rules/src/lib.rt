@@ -17,6 +17,8 @@ pub const LONGEST_COAST: usize = 16;
 pub const ABSENT: i32 = -2_147_483_648;
 // Records of a trace: 0 to this many.
 pub const MOST_RECORDS: usize = 65_535;
+// Frames of a recording: 0 to this many.
+pub const MOST_FRAMES: u32 = 4_096;
 
 // ---- the image's header, 48 bits: version 4, actions 7, levels 4, cycle 30, spare 3
 
@@ -59,6 +61,10 @@ pub const DEADLINE_WORTH: u32 = 4;
 pub const ENTRY_BYTES: usize = 5;
 // How many numbers a duration's bits can say.
 pub const DURATION_SAID: u32 = 1_073_741_824;
+
+// ---- a frame of a recording: n by L durations, by position, then level
+
+pub const DURATION_BYTES: usize = 4;
 
 // ---- refusals
 

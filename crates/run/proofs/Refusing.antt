@@ -1,7 +1,7 @@
 -- What is known where asking and reporting are not refused. Assumes nothing.
 use Prim.Native.Nat.{ℕ, _+_, _*_, _≤_, _<_}
 use mathlib.Core.Path.{_≡_, refl, ap}
-use mathlib.Core.Bool.{Bool, true, false, not, cond, _||_, true≢false}
+use mathlib.Core.Bool.{Bool, true, false, not, cond, _||_}
 use mathlib.Core.List.{List, []}
 use mathlib.Core.Logic.{_≢_}
 use native.Mathlib.Nat.{mul-le-mul, mul-le-mul-right}
@@ -14,6 +14,7 @@ use Rattle.rules.specs.Words.{one-if}
 use Rattle.rules.specs.Limits.{LentTables}
 use Rattle.rules.specs.Refusals.{first}
 use Rattle.rules.specs.Run.{Run, in-range, lent, ask-refusal, report-refusal}
+use Rattle.rules.proofs.Tests.{neither}
 use Rattle.rules.proofs.Calls.{InRange, in-range-facts}
 use Rattle.run.specs.Calls.{Open}
 
@@ -21,10 +22,6 @@ use Rattle.run.specs.Calls.{Open}
 clear : (b : Bool) (k m : ℕ) → 0 < k → 0 ≡ cond b k m → (b ≡ false) × (0 ≡ m)
 clear true k m p e = absurd (omega arith)
 clear false k m p e = (refl, e)
-
-pub neither : (a b : Bool) → a || b ≡ false → (a ≡ false) × (b ≡ false)
-neither true b h = absurd (true≢false h)
-neither false b h = (refl, h)
 
 -- ---- asking
 

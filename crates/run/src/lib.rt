@@ -63,7 +63,7 @@ struct Decided {
     late: bool,
 }
 
-fn one_if(b: bool) -> u32
+pub fn one_if(b: bool) -> u32
     ensures { λ r. ⌜ (r ≡ one-if b) × (r ≤ 1) ⌝ }
 {
     if b { 1 } else { 0 }

@@ -12,13 +12,13 @@ use Rattle.rules.specs.Limits.{Tables, Plan, Gives}
 use Rattle.rules.specs.Run.{Run, begun, decides, given, ended, fits}
 use Rattle.rules.specs.Dry.{step, before}
 use Rattle.rules.specs.Demand.{Safe, Policy, plan-of, clock, Kept, WithinWorst, DemandThree}
+use Rattle.rules.proofs.Tests.{neither}
 use Rattle.rules.proofs.Demand.Record.{demand-three, decisions-are, clock-is, late-is, given-same, no-overrun}
+use Rattle.rules.proofs.Demand.Marks.{overrun-within}
 use Rattle.rules.proofs.Demand.Along.{kept-alike}
 use Rattle.fields.proofs.Tabs.{length-tab, getD-tab}
-use Rattle.run.proofs.Refusing.{neither}
 use Rattle.run_histories.specs.History.{Call, after, EachAccepted, Asking, no-asking, asking-at, askings, clocks, clock-before, duration, decided-count}
 use Rattle.run_histories.specs.Demand.{WithinAnswered, CallsKeep}
-use Rattle.run_histories.proofs.Marks.{overrun-within}
 use Rattle.run_histories.proofs.Cycle.{OnPlan, taken, answer-by, Stands, cycle-part}
 
 -- ---- the decided ones of a table of answers

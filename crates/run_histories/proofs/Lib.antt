@@ -1,6 +1,5 @@
 pub mod Replies
 pub mod Accepting
-pub mod Marks
 pub mod Cycle
 pub mod Demand
 pub mod Planning

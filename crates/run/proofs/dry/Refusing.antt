@@ -1,7 +1,7 @@
 -- The row of refusals of the dry run, and what is known where none is given. Assumes nothing.
-use Prim.Native.Nat.{ℕ, zero, suc, _+_, _*_, _≤_, _<_}
+use Prim.Native.Nat.{ℕ, _+_, _*_, _≤_, _<_}
 use mathlib.Core.Path.{_≡_, refl, sym, _∙_}
-use mathlib.Core.Bool.{Bool, true, false, cond, _&&_, _||_, true≢false, false≢true, or-assoc, or-false}
+use mathlib.Core.Bool.{Bool, true, false, cond, _&&_, _||_, false≢true, or-assoc, or-false}
 use mathlib.Core.List.{List, [], _∷_}
 use mathlib.Core.Logic.{inl, inr, ⊎-elim}
 use native.Mathlib.Nat.{mul-le-mul}
@@ -16,12 +16,12 @@ use Rattle.rules.specs.Words.{all-pass}
 use Rattle.rules.specs.Limits.{LentTables}
 use Rattle.rules.specs.Refusals.{first, First, CountsOut, Tight}
 use Rattle.rules.specs.Run.{begun, start-refusal}
-use Rattle.rules.specs.Dry.{LongEntry, dry-call}
-use Rattle.rules.proofs.Tests.{or-true, all-pass-each}
+use Rattle.rules.specs.Dry.{dry-call}
+use Rattle.rules.specs.Recording.{short}
+use Rattle.rules.proofs.Tests.{neither, or-true}
 use Rattle.rules.proofs.Refusals.{None, first-none}
 use Rattle.rules.proofs.Calls.{facts-in-range, begun-in-range}
 use Rattle.run.proofs.Ranges.{Counts}
-use Rattle.run.proofs.Refusing.{neither}
 use Rattle.run.specs.Dry.{DryLists, dry-rooms}
 use Rattle.run.specs.Cycle.{Waiting}
 
@@ -114,9 +114,6 @@ module _ (n L : ℕ) (T : LentTables) (durations : List ℕ) (lists : DryLists) 
 
 -- ---- 16
 
-abbrev pub short : List ℕ → ℕ → Bool
-short durations k = leb (getD durations k 0) longest-time
-
 -- two numbers are short where the bits of both together are
 or-short : (a b : ℕ) → leb a longest-time && leb b longest-time ≡ leb (bitOr a b) longest-time
 or-short a b = by (leb a longest-time) (leb b longest-time) refl refl
@@ -133,24 +130,6 @@ pub all-short-more : (durations : List ℕ) (k all : ℕ) → all-pass (short du
     → all-pass (short durations) (k + 1) ≡ leb (bitOr all (getD durations k 0)) longest-time
 unfolding all-pass
 all-short-more durations k all h = rw (add-one, h) (or-short all (getD durations k 0))
-
-module _ (test : ℕ → Bool) where
-  one-fails : (m : ℕ) → all-pass test m ≡ false → (k : ℕ) × (k < m) × (test k ≡ false)
-  unfolding all-pass
-  one-fails zero h = absurd (true≢false h)
-  one-fails (suc m) h = by (all-pass test m) (test m) refl refl h (one-fails m)
-    where
-      by : (a b : Bool) → all-pass test m ≡ a → test m ≡ b → a && b ≡ false → (all-pass test m ≡ false → (k : ℕ) × (k < m) × (test k ≡ false))
-          → (k : ℕ) × (k < suc m) × (test k ≡ false)
-      by true b p q h ih = (m, omega arith, q ∙ h)
-      by false b p q h ih = let e = ih p in (e .0, omega (arith, e .1), e .2)
-
-pub one-long : (cells : ℕ) (durations : List ℕ) → all-pass (short durations) cells ≡ false → LongEntry cells durations
-one-long cells durations h = let e = one-fails (short durations) cells h in (e .0, e .1, leb-false (getD durations (e .0) 0) longest-time (e .2))
-
-pub none-long : (cells : ℕ) (durations : List ℕ) → all-pass (short durations) cells ≡ true → LongEntry cells durations → ⊥
-none-long cells durations h e =
-    omega (arith, e .2, leb-true (getD durations (e .0) 0) longest-time (all-pass-each (short durations) cells h (e .0) (e .1)))
 
 -- ---- where none is given
 

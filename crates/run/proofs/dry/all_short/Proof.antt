@@ -6,7 +6,8 @@ use lib.Dec.{leb}
 use borrow.Author.Needs.{needs}
 use Rattle.rules.specs.Numbers.{longest-time}
 use Rattle.rules.specs.Words.{all-pass}
-use Rattle.run.proofs.dry.Refusing.{short, all-short-more}
+use Rattle.rules.specs.Recording.{short}
+use Rattle.run.proofs.dry.Refusing.{all-short-more}
 use Rattle.run.proofs.dry.all_short.Statement.{statement}
 use Rattle.run.proofs.dry.all_short.Tie as tie
 

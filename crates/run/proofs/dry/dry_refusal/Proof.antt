@@ -10,7 +10,8 @@ use Rattle.rules.specs.Limits.{LentTables}
 use Rattle.rules.specs.Refusals.{Tight}
 use Rattle.run.proofs.Ranges.{Counts, fit-counts}
 use Rattle.run.specs.Dry.{DryLists, dry-rooms}
-use Rattle.run.proofs.dry.Refusing.{counts-in, unfit-counts-out, few-cells, tested-tight, tested-roomy, room, one-long, none-long}
+use Rattle.rules.proofs.Recording.{one-long, none-long}
+use Rattle.run.proofs.dry.Refusing.{counts-in, unfit-counts-out, few-cells, tested-tight, tested-roomy, room}
 use Rattle.run.proofs.dry.dry_refusal.Statement.{statement}
 use Rattle.run.proofs.dry.dry_refusal.Tie as tie
 

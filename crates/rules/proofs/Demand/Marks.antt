@@ -4,11 +4,11 @@ use mathlib.Core.Path.{_≡_, sym, _∙_}
 use mathlib.Core.Bool.{false}
 use native.Mathlib.Omega.{arith}
 use borrow.Author.Tests.{ltb-false}
 use Rattle.rules.specs.Limits.{Plan}
 use Rattle.rules.specs.Dry.{before, level-of, took}
 use Rattle.rules.proofs.Sums.{below-suc}
+use Rattle.rules.proofs.Tests.{neither}
 use Rattle.rules.proofs.Demand.Record.{overrun-is, over}
-use Rattle.run.proofs.Refusing.{neither}
 
 -- Where the overrun mark is not set at position n, nothing before it took longer than its worst time at the level got.
 pub overrun-within : (cap : ℕ) (P : Plan) (w d : ℕ → ℕ → ℕ) (t n : ℕ) → before cap P w d t n .overrun ≡ false
