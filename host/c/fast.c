@@ -27,6 +27,7 @@ enum {
 #define LAST_TIME 16777215u
 #define COAST 16u
 #define RECORDS 65535u
+#define FRAMES 4096u
 #define ABSENT INT32_MIN
 
 #if __BYTE_ORDER__ != __ORDER_LITTLE_ENDIAN__
@@ -390,24 +391,21 @@ static void last_coast_row(int32_t limit, int32_t *bounds) {
     for (uint32_t r = 1; r < COAST; r++) bounds[r] = ABSENT;
 }
 
-uint32_t fast_plan(const uint8_t *image, size_t length, uint8_t *restrict order, size_t order_room,
-                   int32_t *restrict limits, size_t limits_room, uint32_t *restrict worst, size_t worst_room,
-                   int32_t *restrict bounds, size_t bounds_room, fast_counts *counts) {
-    shape s;
-    uint8_t arranged[64];
-    uint32_t refusal = examine(image, length, &s, arranged);
-    if (refusal) return refusal;
-    uint32_t levels = s.levels;
-    size_t cells = (size_t)s.n * levels;
-    if (order_room < s.n || limits_room < cells || worst_room < cells || bounds_room < cells * COAST) return ROOM;
-    memcpy(order, arranged, s.n);
+/* The tables of an accepted image, or 17. */
+static inline uint32_t fill(const uint8_t *image, const shape *s, const uint8_t *arranged, uint8_t *restrict order,
+                            size_t order_room, int32_t *restrict limits, size_t limits_room, uint32_t *restrict worst,
+                            size_t worst_room, int32_t *restrict bounds, size_t bounds_room) {
+    uint32_t n = s->n, levels = s->levels;
+    size_t cells = (size_t)n * levels;
+    if (order_room < n || limits_room < cells || worst_room < cells || bounds_room < cells * COAST) return ROOM;
+    memcpy(order, arranged, n);
 
     /* limit(i,q) = min(min(deadline(i), limit(i+1,0)) - worst(i,q), limit(i+1,q) - average(i,q)); none past the end. */
     int32_t after[8];
     for (uint32_t q = 0; q < 8; q++) after[q] = INT32_MAX;
-    for (uint32_t i = s.n; i-- > 0;) {
-        const uint8_t *record = record_of(&s, image, arranged[i]);
-        int32_t latest = (int32_t)deadline_of(&s, get32(record + 8));
+    for (uint32_t i = n; i-- > 0;) {
+        const uint8_t *record = record_of(s, image, arranged[i]);
+        int32_t latest = (int32_t)deadline_of(s, get32(record + 8));
         if (after[0] < latest) latest = after[0];
         const uint8_t *at = record + 10;
         size_t row = (size_t)i * levels;
@@ -420,14 +418,25 @@ uint32_t fast_plan(const uint8_t *image, size_t length, uint8_t *restrict order,
             limits[row + q] = limit;
             worst[row + q] = (uint32_t)longest;
             int32_t *cell = bounds + (row + q) * COAST;
-            if (i + 1 < s.n)
+            if (i + 1 < n)
                 coast_row(limit, longest, cell + levels * COAST, cell);
             else
                 last_coast_row(limit, cell);
         }
     }
-    *counts = (fast_counts){s.n, levels, s.cycle};
     return 0;
+}
+
+uint32_t fast_plan(const uint8_t *image, size_t length, uint8_t *restrict order, size_t order_room,
+                   int32_t *restrict limits, size_t limits_room, uint32_t *restrict worst, size_t worst_room,
+                   int32_t *restrict bounds, size_t bounds_room, fast_counts *counts) {
+    shape s;
+    uint8_t arranged[64];
+    uint32_t refusal = examine(image, length, &s, arranged);
+    if (refusal) return refusal;
+    refusal = fill(image, &s, arranged, order, order_room, limits, limits_room, worst, worst_room, bounds, bounds_room);
+    if (!refusal) *counts = (fast_counts){s.n, s.levels, s.cycle};
+    return refusal;
 }
 
 /* ---- Run ---- */
@@ -548,6 +557,83 @@ uint32_t fast_dry_run(size_t n, size_t levels, const int32_t *limits, size_t lim
         }
     }
     *dried = c;
+    return 0;
+}
+
+/* ---- Recordings ---- */
+
+uint32_t fast_open_recording(const uint8_t *image, size_t length, size_t bytes, uint8_t *restrict order,
+                             size_t order_room, int32_t *restrict limits, size_t limits_room, uint32_t *restrict worst,
+                             size_t worst_room, int32_t *restrict bounds, size_t bounds_room, fast_opened *opened) {
+    shape s;
+    uint8_t arranged[64];
+    uint32_t refusal = examine(image, length, &s, arranged);
+    if (refusal) return refusal;
+    size_t frame_bytes = (size_t)4 * s.n * s.levels, frames = bytes / frame_bytes;
+    if (bytes % frame_bytes != 0 || frames > FRAMES) return TRACE;
+    refusal = fill(image, &s, arranged, order, order_room, limits, limits_room, worst, worst_room, bounds, bounds_room);
+    if (!refusal) *opened = (fast_opened){s.n, s.levels, frame_bytes, frames};
+    return refusal;
+}
+
+/* The product stays within 32 bits where the frames are within their range. */
+static inline bool totals_in_range(const fast_totals *totals) {
+    return totals->frames <= FRAMES && totals->decisions <= 64 * totals->frames &&
+           totals->overruns <= totals->frames && totals->lates <= totals->frames;
+}
+
+/* Whether an entry is too long. Entries are joined as they lie, and swapped once, at the end. */
+static inline bool too_long(const uint8_t *frame, size_t cells) {
+    uint32_t all = 0;
+    for (size_t cell = 0; cell < cells; cell++) {
+        uint32_t word;
+        memcpy(&word, frame + 4 * cell, sizeof word);
+        all |= word;
+    }
+    return __builtin_bswap32(all) > LAST_TIME;
+}
+
+/* The dry run of a frame whose entries are not too long, where it lies. A level is given at a decision and kept by its
+ * coast, so the lowest of the decisions is the lowest of all. */
+static inline fast_line run_frame(uint32_t n, uint32_t levels, const int32_t *limits, const uint32_t *worst,
+                                  const int32_t *bounds, const uint8_t *frame) {
+    fast_line line = {.lowest = UINT32_MAX};
+    for (uint32_t i = 0; i < n;) {
+        size_t row = (size_t)i * levels;
+        decision d = decide(levels, n - i, limits + row, bounds + row * COAST, line.end);
+        line.decisions++;
+        line.late |= d.late;
+        if (d.level < line.lowest) line.lowest = d.level;
+        uint32_t last = i + d.grant;
+        for (size_t cell = row + d.level; i < last; cell += levels) {
+            uint32_t duration = get32(frame + 4 * cell);
+            line.end += duration;
+            i++;
+            /* An overrun cancels the rest of the coast. */
+            if (duration > worst[cell]) {
+                line.overrun = true;
+                break;
+            }
+        }
+    }
+    return line;
+}
+
+uint32_t fast_rehearse(fast_totals *totals, size_t n, size_t levels, const int32_t *limits, size_t limits_room,
+                       const uint32_t *worst, size_t worst_room, const int32_t *bounds, size_t bounds_room,
+                       const uint8_t *frame, size_t frame_room, fast_line *line) {
+    if (!totals_in_range(totals)) return TURN;
+    if (totals->frames == FRAMES) return TRACE;
+    if (!shape_fits(n, levels)) return COUNT;
+    size_t cells = n * levels;
+    if (limits_room < cells || worst_room < cells || bounds_room < cells * COAST || frame_room < 4 * cells) return ROOM;
+    if (too_long(frame, cells)) return DURATION;
+    fast_line ran = run_frame((uint32_t)n, (uint32_t)levels, limits, worst, bounds, frame);
+    totals->frames++;
+    totals->decisions += ran.decisions;
+    totals->overruns += ran.overrun;
+    totals->lates += ran.late;
+    *line = ran;
     return 0;
 }
 

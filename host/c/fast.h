@@ -29,6 +29,19 @@ typedef struct {
     bool overrun, late;
 } fast_dried;
 
+typedef struct {
+    size_t n, levels, frame_bytes, frames;
+} fast_opened;
+
+typedef struct {
+    uint32_t frames, decisions, overruns, lates;
+} fast_totals;
+
+typedef struct {
+    uint32_t decisions, lowest, end;
+    bool overrun, late;
+} fast_line;
+
 /* What fast_speed_reading answers where the time is spent; no refusal has this number. */
 #define FAST_SPENT 255u
 
@@ -60,6 +73,14 @@ uint32_t fast_dry_run(size_t n, size_t levels, const int32_t *limits, size_t lim
                       size_t worst_room, const int32_t *bounds, size_t bounds_room, const uint32_t *durations,
                       size_t durations_room, uint8_t *given, size_t given_room, uint8_t *marks, size_t marks_room,
                       fast_dried *dried);
+
+uint32_t fast_open_recording(const uint8_t *image, size_t length, size_t bytes, uint8_t *order, size_t order_room,
+                             int32_t *limits, size_t limits_room, uint32_t *worst, size_t worst_room, int32_t *bounds,
+                             size_t bounds_room, fast_opened *opened);
+
+uint32_t fast_rehearse(fast_totals *totals, size_t n, size_t levels, const int32_t *limits, size_t limits_room,
+                       const uint32_t *worst, size_t worst_room, const int32_t *bounds, size_t bounds_room,
+                       const uint8_t *frame, size_t frame_room, fast_line *line);
 
 /* Answers 0 and the ratio, FAST_SPENT, or the number of the refusal. */
 uint32_t fast_speed_reading(const uint8_t *image, size_t length, size_t first, size_t last, size_t level,

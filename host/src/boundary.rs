@@ -10,6 +10,7 @@ pub const MOST_ACTIONS: usize = 64;
 pub const MOST_LEVELS: usize = 8;
 pub const LONGEST_COAST: usize = 16;
 pub const MOST_RECORDS: usize = 65_535;
+pub const MOST_FRAMES: usize = 4_096;
 pub const LAST_CLOCK: u32 = 1_073_741_823;
 pub const LONGEST_TIME: u32 = 16_777_215;
 pub const ABSENT_BOUND: i32 = i32::MIN;
@@ -32,6 +33,11 @@ pub const fn bounds_entries(n: usize, levels: usize) -> usize {
 /// The bytes of a trace.
 pub const fn trace_bytes(records: usize) -> usize {
     5 * records
+}
+
+/// The bytes of a frame of a recording.
+pub const fn frame_bytes(n: usize, levels: usize) -> usize {
+    4 * table_entries(n, levels)
 }
 
 pub const ACCEPTED: u32 = 0;
@@ -135,6 +141,37 @@ pub struct Framed {
     pub refusal: Refusal,
     pub n: usize,
     pub decisions: u32,
+    pub end: u32,
+    pub overrun: bool,
+    pub late: bool,
+}
+
+#[derive(Clone, Copy, Debug, PartialEq, Eq)]
+#[repr(C)]
+pub struct Opened {
+    pub refusal: Refusal,
+    pub n: usize,
+    pub levels: usize,
+    pub frame_bytes: usize,
+    pub frames: usize,
+}
+
+/// The totals over the frames run: 16 bytes. A recording begins with the default, all of them 0.
+#[derive(Clone, Copy, Debug, Default, PartialEq, Eq)]
+#[repr(C)]
+pub struct Totals {
+    pub frames: u32,
+    pub decisions: u32,
+    pub overruns: u32,
+    pub lates: u32,
+}
+
+#[derive(Clone, Copy, Debug, PartialEq, Eq)]
+#[repr(C)]
+pub struct Line {
+    pub refusal: Refusal,
+    pub decisions: u32,
+    pub lowest: u32,
     pub end: u32,
     pub overrun: bool,
     pub late: bool,
@@ -244,6 +281,32 @@ extern "C" {
         marks: *mut u8,
         marks_length: usize,
     ) -> Framed;
+    pub fn nyokazerubi_open_recording(
+        image: *const u8,
+        image_length: usize,
+        bytes: usize,
+        order: *mut u8,
+        order_length: usize,
+        limits: *mut i32,
+        limits_length: usize,
+        worst_by_position: *mut u32,
+        worst_by_position_length: usize,
+        bounds: *mut i32,
+        bounds_length: usize,
+    ) -> Opened;
+    pub fn nyokazerubi_rehearse(
+        totals: *mut Totals,
+        n: usize,
+        levels: usize,
+        limits: *const i32,
+        limits_length: usize,
+        worst_by_position: *const u32,
+        worst_by_position_length: usize,
+        bounds: *const i32,
+        bounds_length: usize,
+        frame: *const u8,
+        frame_length: usize,
+    ) -> Line;
     pub fn nyokazerubi_speed_reading(
         image: *const u8,
         image_length: usize,

@@ -1,6 +1,6 @@
 //! The calls of `c/fast.c`, from a shared library that is built and opened when asked for.
 
-use crate::calls::{Answer, Calls, Counts, Dried, Given, Reading, Run, Tables};
+use crate::calls::{Answer, Calls, Counts, Dried, Given, Line, Opened, Reading, Run, Tables, Totals};
 use std::ffi::{c_char, c_int, c_void, CStr, CString};
 use std::os::unix::ffi::OsStrExt;
 use std::path::Path;
@@ -72,6 +72,12 @@ functions! {
     dry_run: unsafe extern "C" fn(
         usize, usize, *const i32, usize, *const u32, usize, *const i32, usize, *const u32, usize, *mut u8, usize, *mut u8, usize,
         *mut Dried,
+    ) -> u32,
+    open_recording: unsafe extern "C" fn(
+        *const u8, usize, usize, *mut u8, usize, *mut i32, usize, *mut u32, usize, *mut i32, usize, *mut Opened,
+    ) -> u32,
+    rehearse: unsafe extern "C" fn(
+        *mut Totals, usize, usize, *const i32, usize, *const u32, usize, *const i32, usize, *const u8, usize, *mut Line,
     ) -> u32,
     speed_reading: unsafe extern "C" fn(*const u8, usize, usize, usize, usize, u32, *mut f64) -> u32,
     refresh: unsafe extern "C" fn(*const u8, usize, *const u8, usize, *mut u8, usize, *mut usize) -> u32,
@@ -284,6 +290,56 @@ impl Calls for C {
             )
         };
         answer(number, cycle)
+    }
+
+    fn open_recording(
+        &self,
+        image: &[u8],
+        bytes: usize,
+        order: &mut [u8],
+        limits: &mut [i32],
+        worst_by_position: &mut [u32],
+        bounds: &mut [i32],
+    ) -> Answer<Opened> {
+        let mut opened = Opened::default();
+        let number = unsafe {
+            (self.open_recording)(
+                image.as_ptr(),
+                image.len(),
+                bytes,
+                order.as_mut_ptr(),
+                order.len(),
+                limits.as_mut_ptr(),
+                limits.len(),
+                worst_by_position.as_mut_ptr(),
+                worst_by_position.len(),
+                bounds.as_mut_ptr(),
+                bounds.len(),
+                &mut opened,
+            )
+        };
+        answer(number, opened)
+    }
+
+    fn rehearse(&self, totals: &mut Totals, n: usize, levels: usize, tables: Tables, frame: &[u8]) -> Answer<Line> {
+        let mut line = Line::default();
+        let number = unsafe {
+            (self.rehearse)(
+                totals,
+                n,
+                levels,
+                tables.limits.as_ptr(),
+                tables.limits.len(),
+                tables.worst_by_position.as_ptr(),
+                tables.worst_by_position.len(),
+                tables.bounds.as_ptr(),
+                tables.bounds.len(),
+                frame.as_ptr(),
+                frame.len(),
+                &mut line,
+            )
+        };
+        answer(number, line)
     }
 
     fn speed_reading(&self, image: &[u8], first: usize, last: usize, level: usize, t: u32) -> Reading {

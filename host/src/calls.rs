@@ -4,7 +4,8 @@
 pub type Answer<T> = Result<T, u8>;
 
 pub use crate::boundary::{
-    Run, ABSENT_BOUND, LAST_CLOCK, LONGEST_COAST, LONGEST_TIME, MOST_ACTIONS, MOST_LEVELS, MOST_RECORDS,
+    Run, Totals, ABSENT_BOUND, LAST_CLOCK, LONGEST_COAST, LONGEST_TIME, MOST_ACTIONS, MOST_FRAMES, MOST_LEVELS,
+    MOST_RECORDS,
 };
 
 /// The numbers of refusal, those of the boundary by their last word.
@@ -60,6 +61,27 @@ pub struct Dried {
     pub late: bool,
 }
 
+/// What opening a recording answers.
+#[derive(Clone, Copy, Debug, Default, PartialEq, Eq)]
+#[repr(C)]
+pub struct Opened {
+    pub n: usize,
+    pub levels: usize,
+    pub frame_bytes: usize,
+    pub frames: usize,
+}
+
+/// The line of a frame that was run.
+#[derive(Clone, Copy, Debug, Default, PartialEq, Eq)]
+#[repr(C)]
+pub struct Line {
+    pub decisions: u32,
+    pub lowest: u32,
+    pub end: u32,
+    pub overrun: bool,
+    pub late: bool,
+}
+
 /// The speed reading.
 #[derive(Clone, Copy, Debug)]
 pub enum Reading {
@@ -82,7 +104,7 @@ impl PartialEq for Reading {
 
 impl Eq for Reading {}
 
-/// The tables that a dry run reads: limits and worst times n by L, coast bounds n by L by 16.
+/// The tables that a dry run or a rehearsal reads: limits and worst times n by L, coast bounds n by L by 16.
 #[derive(Clone, Copy, Debug)]
 pub struct Tables<'a> {
     pub limits: &'a [i32],
@@ -196,6 +218,20 @@ pub trait Calls {
         Ok((n, cycle))
     }
 
+    /// An image planned for a recording of so many bytes.
+    fn open_recording(
+        &self,
+        image: &[u8],
+        bytes: usize,
+        order: &mut [u8],
+        limits: &mut [i32],
+        worst_by_position: &mut [u32],
+        bounds: &mut [i32],
+    ) -> Answer<Opened>;
+
+    /// A frame of a recording run dry over the planned tables, and counted in the host's own totals. Refused, it counts in none.
+    fn rehearse(&self, totals: &mut Totals, n: usize, levels: usize, tables: Tables, frame: &[u8]) -> Answer<Line>;
+
     /// The speed reading of positions `first` to `last` at a level and a time.
     fn speed_reading(&self, image: &[u8], first: usize, last: usize, level: usize, t: u32) -> Reading;
 
@@ -272,6 +308,27 @@ macro_rules! calls_of_module {
                 marks: &mut [u8],
             ) -> Answer<Dried> {
                 $module::dry_run(n, levels, tables, durations, given, marks)
+            }
+            fn open_recording(
+                &self,
+                image: &[u8],
+                bytes: usize,
+                order: &mut [u8],
+                limits: &mut [i32],
+                worst_by_position: &mut [u32],
+                bounds: &mut [i32],
+            ) -> Answer<Opened> {
+                $module::open_recording(image, bytes, order, limits, worst_by_position, bounds)
+            }
+            fn rehearse(
+                &self,
+                totals: &mut Totals,
+                n: usize,
+                levels: usize,
+                tables: Tables,
+                frame: &[u8],
+            ) -> Answer<Line> {
+                $module::rehearse(totals, n, levels, tables, frame)
             }
             fn speed_reading(&self, image: &[u8], first: usize, last: usize, level: usize, t: u32) -> Reading {
                 $module::speed_reading(image, first, last, level, t)

@@ -3,12 +3,14 @@
 mod image;
 mod order;
 mod plan;
+mod recording;
 mod refresh;
 mod run;
 mod speed;
 
 pub use image::{check, lookup, lookup_refusal, read, write};
 pub use plan::plan;
+pub use recording::{open_recording, rehearse};
 pub use refresh::refresh;
 pub use run::{ask, ask_lent, dry_run, report, report_lent, start};
 pub use speed::speed_reading;

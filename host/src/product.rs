@@ -243,6 +243,59 @@ impl Calls for Product {
         answer(refusal, (n, dried), (0, calls::Dried::default()))
     }
 
+    fn open_recording(
+        &self,
+        image: &[u8],
+        bytes: usize,
+        order: &mut [u8],
+        limits: &mut [i32],
+        worst_by_position: &mut [u32],
+        bounds: &mut [i32],
+    ) -> Answer<calls::Opened> {
+        let Opened { refusal, n, levels, frame_bytes, frames } = unsafe {
+            nyokazerubi_open_recording(
+                image.as_ptr(),
+                image.len(),
+                bytes,
+                order.as_mut_ptr(),
+                order.len(),
+                limits.as_mut_ptr(),
+                limits.len(),
+                worst_by_position.as_mut_ptr(),
+                worst_by_position.len(),
+                bounds.as_mut_ptr(),
+                bounds.len(),
+            )
+        };
+        answer(refusal, calls::Opened { n, levels, frame_bytes, frames }, calls::Opened::default())
+    }
+
+    fn rehearse(
+        &self,
+        totals: &mut Totals,
+        n: usize,
+        levels: usize,
+        tables: Tables,
+        frame: &[u8],
+    ) -> Answer<calls::Line> {
+        let Line { refusal, decisions, lowest, end, overrun, late } = unsafe {
+            nyokazerubi_rehearse(
+                totals,
+                n,
+                levels,
+                tables.limits.as_ptr(),
+                tables.limits.len(),
+                tables.worst_by_position.as_ptr(),
+                tables.worst_by_position.len(),
+                tables.bounds.as_ptr(),
+                tables.bounds.len(),
+                frame.as_ptr(),
+                frame.len(),
+            )
+        };
+        answer(refusal, calls::Line { decisions, lowest, end, overrun, late }, calls::Line::default())
+    }
+
     fn speed_reading(&self, image: &[u8], first: usize, last: usize, level: usize, t: u32) -> calls::Reading {
         let Reading { refusal, spent, ratio } =
             unsafe { nyokazerubi_speed_reading(image.as_ptr(), image.len(), first, last, level, t) };

@@ -1,5 +1,6 @@
 //! `src/boundary.rs` is the header word for word: the same numbers, the same fields and the same calls, by name and in order.
 
+use nyokazerubi_host::boundary::{bounds_entries, frame_bytes, image_bytes, table_entries, trace_bytes, MOST_RECORDS};
 use std::fs;
 use std::path::Path;
 
@@ -57,13 +58,42 @@ fn numbers() {
     assert_eq!(of_header.len(), 19);
     assert_eq!(of_header, of_rust);
     let (text, rust) = (header(), boundary());
-    for name in
-        ["BOUNDARY", "MOST_ACTIONS", "MOST_LEVELS", "LONGEST_COAST", "MOST_RECORDS", "LAST_CLOCK", "LONGEST_TIME"]
-    {
+    for name in [
+        "BOUNDARY",
+        "MOST_ACTIONS",
+        "MOST_LEVELS",
+        "LONGEST_COAST",
+        "MOST_RECORDS",
+        "MOST_FRAMES",
+        "LAST_CLOCK",
+        "LONGEST_TIME",
+    ] {
         let in_header = between(&text, &format!("#define NYOKAZERUBI_{name} "), "\n")[0];
         let in_rust = between(&rust, &format!("pub const {name}: "), ";")[0].split_once("= ").expect("a number").1;
         assert_eq!(digits(in_header), digits(in_rust), "{name}");
     }
+}
+
+/// The sizes of what is lent, which the header has as macros.
+#[test]
+fn sizes() {
+    let of_header: Vec<(String, Vec<String>)> = between(&header(), "#define NYOKAZERUBI_", ")")
+        .iter()
+        .filter_map(|part| part.split_once('('))
+        .filter(|(name, _)| !name.contains([' ', '\n']))
+        .map(|(name, list)| (name.to_lowercase(), names(list, ',', c_name)))
+        .collect();
+    let of_rust: Vec<(String, Vec<String>)> = between(&boundary(), "pub const fn ", ")")
+        .iter()
+        .map(|part| part.split_once('(').expect("parameters"))
+        .map(|(name, list)| (name.to_string(), names(list, ',', rust_name)))
+        .collect();
+    assert_eq!(of_header.len(), 5);
+    assert_eq!(of_header, of_rust);
+    // As the header's memory table has them in bytes, of the encoder and of the most.
+    let of = |n, levels| [image_bytes(n, levels), 4 * table_entries(n, levels), 4 * bounds_entries(n, levels)];
+    assert_eq!([of(9, 8), of(64, 8)], [[546, 288, 4608], [3846, 2048, 32768]]);
+    assert_eq!([frame_bytes(9, 8), frame_bytes(64, 8), trace_bytes(MOST_RECORDS)], [288, 2048, 327_675]);
 }
 
 #[test]
@@ -79,7 +109,7 @@ fn fields() {
         .map(|part| part.split_once(" {").expect("fields"))
         .map(|(name, list)| (name.to_lowercase(), names(list, ',', rust_name)))
         .collect();
-    assert_eq!(of_header.len(), 11);
+    assert_eq!(of_header.len(), 14);
     assert_eq!(of_header, of_rust);
 }
 
@@ -97,6 +127,6 @@ fn calls() {
         .map(|part| part.split_once('(').expect("parameters"))
         .map(|(name, list)| (name.to_string(), names(list.rsplit_once(')').expect("an end").0, ',', rust_name)))
         .collect();
-    assert_eq!(of_header.len(), 16);
+    assert_eq!(of_header.len(), 18);
     assert_eq!(of_header, of_rust);
 }

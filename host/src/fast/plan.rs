@@ -12,14 +12,28 @@ pub fn plan(
     worst: &mut [u32],
     bounds: &mut [i32],
 ) -> Answer<Counts> {
-    let (shape, Arranged(arranged)) = examine(image)?;
+    let (shape, arranged) = examine(image)?;
+    fill(image, shape, &arranged, order, limits, worst, bounds)?;
+    Ok(shape.counts())
+}
+
+/// The tables of an accepted image, or 17.
+pub(super) fn fill(
+    image: &[u8],
+    shape: Shape,
+    Arranged(arranged): &Arranged,
+    order: &mut [u8],
+    limits: &mut [i32],
+    worst: &mut [u32],
+    bounds: &mut [i32],
+) -> Answer<()> {
     let (n, cells) = (shape.n, shape.cells());
     if order.len() < n || limits.len() < cells || worst.len() < cells || bounds.len() < cells * LONGEST_COAST {
         return Err(refused::ROOM);
     }
     order[..n].copy_from_slice(&arranged[..n]);
     rows(image, shape, &order[..n], &mut limits[..cells], &mut worst[..cells], &mut bounds[..cells * LONGEST_COAST]);
-    Ok(shape.counts())
+    Ok(())
 }
 
 /// limit(i,q) = min(min(deadline(i), limit(i+1,0)) - worst(i,q), limit(i+1,q) - average(i,q)); past the end there is no limit.

@@ -2,7 +2,7 @@
 
 use crate::calls::{refused, Answer, Dried, Given, Run, Tables, LAST_CLOCK, LONGEST_COAST, LONGEST_TIME};
 
-fn shape_fits(n: usize, levels: usize) -> bool {
+pub(super) fn shape_fits(n: usize, levels: usize) -> bool {
     n.wrapping_sub(1) < 64 && levels.wrapping_sub(1) < 8
 }
 
@@ -19,15 +19,15 @@ fn in_range(run: &Run) -> bool {
 }
 
 /// What a decision gives.
-struct Decision {
-    level: usize,
-    late: bool,
+pub(super) struct Decision {
+    pub level: usize,
+    pub late: bool,
     /// The actions that it covers.
-    grant: u32,
+    pub grant: u32,
 }
 
 /// `limits` begins at the position and ends with the last one; `bounds` is the position's row.
-fn decide(levels: usize, limits: &[i32], bounds: &[i32], clock: u32) -> Decision {
+pub(super) fn decide(levels: usize, limits: &[i32], bounds: &[i32], clock: u32) -> Decision {
     let t = clock as i32;
     let fitting = limits[..levels].iter().rposition(|&limit| t <= limit);
     let level = fitting.unwrap_or(0);
