@@ -40,6 +40,22 @@ fn programs(calls: &dyn Calls) -> usize {
     names.len()
 }
 
+/// The recordings of a folder, and in it those of their request.
+fn recordings(calls: &dyn Calls) -> usize {
+    let folder = common::vectors("test_recordings");
+    [folder.clone(), folder.join("e2")].iter().map(|folder| recordings_in(calls, folder)).sum()
+}
+
+fn recordings_in(calls: &dyn Calls, folder: &Path) -> usize {
+    let names = cases(folder, ".rehearse");
+    for name in &names {
+        let image = bytes(folder, name, "profile");
+        let recording = bytes(folder, name, "recording");
+        assert_eq!(text::rehearse(calls, &image, &recording), text(folder, name, "rehearse"), "rehearsal of {name}");
+    }
+    names.len()
+}
+
 /// What a refresh must answer: the new image, or with a refusal its number, from its line.
 fn refreshed(folder: &Path, name: &str) -> Result<Vec<u8>, u8> {
     if !folder.join(format!("{name}.refused")).exists() {
@@ -95,6 +111,13 @@ fn readings(calls: &dyn Calls) -> usize {
 fn programs_agree() {
     for (name, calls) in common::sides() {
         assert!(programs(&*calls) >= 71, "{name}");
+    }
+}
+
+#[test]
+fn recordings_agree() {
+    for (name, calls) in common::sides() {
+        assert!(recordings(&*calls) >= 27, "{name}");
     }
 }
 

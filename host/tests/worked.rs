@@ -2,31 +2,14 @@
 
 mod common;
 
-use nyokazerubi_host::boundary::{Refusal, Run, BOUNDARY};
+use common::plan;
+use nyokazerubi_host::boundary::{Line, Opened, Refusal, Run, Totals, BOUNDARY};
 use nyokazerubi_host::calls::{Calls, Counts, Reading};
 use nyokazerubi_host::product::Product;
 use nyokazerubi_host::text;
 use std::fs;
+use std::mem::size_of;
 use std::path::Path;
-
-/// The planned tables of an accepted image.
-struct Plan {
-    counts: Counts,
-    order: Vec<u8>,
-    limits: Vec<i32>,
-    worst: Vec<u32>,
-    bounds: Vec<i32>,
-}
-
-fn plan(calls: &dyn Calls, image: &[u8]) -> Plan {
-    let counts = calls.check(image).expect("accepted");
-    let (n, cells) = (counts.n, (counts.n * counts.levels));
-    let mut plan =
-        Plan { counts, order: vec![0; n], limits: vec![0; cells], worst: vec![0; cells], bounds: vec![0; cells * 16] };
-    let answer = calls.plan(image, &mut plan.order, &mut plan.limits, &mut plan.worst, &mut plan.bounds);
-    assert_eq!(answer, Ok(counts));
-    plan
-}
 
 /// Durations four bytes each, every position's at both levels.
 fn twice(durations: [u32; 3]) -> Vec<u8> {
@@ -47,6 +30,12 @@ fn three(calls: &dyn Calls) {
     assert_eq!(dry(calls, [6, 8, 4]), "0 0 1 1\n1 1 1 1\n2 2 0 1\n3 18 0 0\n");
     assert_eq!(dry(calls, [0, 8, 8]), "0 0 1 1\n1 1 1 1\n2 2 1 0\n2 16 0 0\n");
     assert_eq!(dry(calls, [8, 4, 8]), "0 0 1 1\n1 1 0 1\n2 2 1 1\n3 20 0 0\n");
+
+    // The same as a recording; each of its frames begins at time 0.
+    let recording = [twice([6, 8, 4]), twice([0, 8, 8]), twice([8, 4, 8])].concat();
+    assert_eq!(text::rehearse(calls, &image, &recording), "3 0 18 0 0\n2 1 16 0 0\n3 0 20 0 0\n3 8 0 0\n");
+    assert_eq!(text::rehearse(calls, &image, &[]), "0 0 0 0\n");
+    assert_eq!(text::rehearse(calls, &image, &recording[1..]), "refused 14\n");
 
     // Cases 4 and 5: position 1 at a time.
     let plan = plan(calls, &image);
@@ -109,7 +98,8 @@ fn refused_start(calls: &dyn Calls) {
 #[test]
 fn boundary_of_the_product() {
     assert_eq!(Product.boundary(), BOUNDARY);
-    assert_eq!((std::mem::size_of::<Run>(), std::mem::size_of::<Refusal>()), (32, 4));
+    assert_eq!((size_of::<Run>(), size_of::<Refusal>()), (32, 4));
+    assert_eq!((size_of::<Opened>(), size_of::<Totals>(), size_of::<Line>()), (40, 16, 20));
 }
 
 /// The files to try the programs on: the product's encoder with its averages as durations, and Three with the durations of case 1.

@@ -3,14 +3,14 @@
 #![allow(dead_code)]
 
 use nyokazerubi_host::c::C;
-use nyokazerubi_host::calls::{Calls, Fast, Reference};
+use nyokazerubi_host::calls::{Calls, Counts, Fast, Reference, Tables};
 use nyokazerubi_host::draw::Sketch;
 use nyokazerubi_host::product::Product;
 use nyokazerubi_host::reference::Profile;
 use std::path::{Path, PathBuf};
 
-/// The folder of the outside vectors that a crate runs under the gate (`test_cases`, `test_traces` or `test_readings`): NYOKAZERUBI_VECTORS, or the data
-/// of that crate.
+/// The folder of the outside vectors that a crate runs under the gate (`test_cases`, `test_recordings`, `test_traces` or `test_readings`):
+/// NYOKAZERUBI_VECTORS, or the data of that crate.
 pub fn vectors(kind: &str) -> PathBuf {
     let data = || Path::new(env!("CARGO_MANIFEST_DIR")).join("../crates").join(kind).join("data");
     let folder = std::env::var_os("NYOKAZERUBI_VECTORS").map_or_else(data, PathBuf::from);
@@ -40,6 +40,32 @@ fn built(name: &str, options: &[&str]) -> C {
     let c = C::build(folder, &name, options).expect("c/fast.c builds");
     std::fs::remove_file(folder.join(&name)).expect("the library was built here");
     c
+}
+
+/// The planned tables of an accepted image.
+pub struct Plan {
+    pub counts: Counts,
+    pub order: Vec<u8>,
+    pub limits: Vec<i32>,
+    pub worst: Vec<u32>,
+    pub bounds: Vec<i32>,
+}
+
+impl Plan {
+    /// What a dry run or a rehearsal reads of them.
+    pub fn tables(&self) -> Tables<'_> {
+        Tables { limits: &self.limits, worst_by_position: &self.worst, bounds: &self.bounds }
+    }
+}
+
+pub fn plan(calls: &dyn Calls, image: &[u8]) -> Plan {
+    let counts = calls.check(image).expect("accepted");
+    let (n, cells) = (counts.n, (counts.n * counts.levels));
+    let mut plan =
+        Plan { counts, order: vec![0; n], limits: vec![0; cells], worst: vec![0; cells], bounds: vec![0; cells * 16] };
+    let answer = calls.plan(image, &mut plan.order, &mut plan.limits, &mut plan.worst, &mut plan.bounds);
+    assert_eq!(answer, Ok(counts));
+    plan
 }
 
 /// A sketch as the definitions take it.
