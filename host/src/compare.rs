@@ -1,10 +1,11 @@
 //! Two implementations of the calls side by side over drawn inputs, with a tally of what was met.
 
 use crate::calls::{
-    Answer, Calls, Counts, Given, Reading, Run, Tables, LAST_CLOCK, LONGEST_COAST, MOST_ACTIONS, MOST_LEVELS,
+    Answer, Calls, Counts, Given, Line, Reading, Run, Tables, Totals, LAST_CLOCK, LONGEST_COAST, MOST_ACTIONS,
+    MOST_LEVELS,
 };
 use crate::draw::{Draw, Size, PACES};
-use crate::reference::fields_out;
+use crate::reference::{fields_out, totals_out};
 use std::collections::BTreeMap;
 use std::fmt::{self, Debug, Display};
 
@@ -16,7 +17,7 @@ pub struct Tally {
 }
 
 /// The numbers that each call can give.
-pub const NUMBERS: [(&str, &[u8]); 13] = [
+pub const NUMBERS: [(&str, &[u8]); 15] = [
     ("check", &[0, 1, 2, 3, 4, 5, 6, 7, 8, 9]),
     ("read", &[0, 1, 2, 3, 4, 5, 6, 7, 8, 9, 17]),
     ("write", &[0, 3, 6, 7, 8, 9, 17]),
@@ -27,13 +28,15 @@ pub const NUMBERS: [(&str, &[u8]); 13] = [
     ("report", &[0, 11, 12, 13, 17]),
     ("dry run", &[0, 3, 16, 17]),
     ("dry frame", &[0, 1, 2, 3, 4, 5, 6, 7, 8, 9, 16, 17]),
+    ("open recording", &[0, 1, 2, 3, 4, 5, 6, 7, 8, 9, 14, 17]),
+    ("rehearse", &[0, 3, 11, 14, 16, 17]),
     ("on time", &[0]),
     ("reading", &[0, 1, 2, 3, 4, 5, 6, 7, 8, 9, 13, 18]),
     ("refresh", &[0, 1, 2, 3, 4, 5, 6, 7, 8, 9, 14, 15, 16, 17]),
 ];
 
-/// The events that a good set of inputs meets, beside every grant from 1 to 16.
-pub const EVENTS: [&str; 16] = [
+/// The events that a good set of inputs meets, beside every grant from 1 to 16 and every level as the lowest of a frame.
+pub const EVENTS: [&str; 23] = [
     "on time",
     "not on time",
     "spent",
@@ -50,6 +53,13 @@ pub const EVENTS: [&str; 16] = [
     "level out",
     "coast left out",
     "decisions out",
+    "frame overrun",
+    "frame late",
+    "frame with a tail",
+    "total frames out",
+    "total decisions out",
+    "total overruns out",
+    "total lates out",
 ];
 
 impl Tally {
@@ -90,7 +100,8 @@ impl Tally {
             }
         }
         let grants = (1..=LONGEST_COAST).map(|r| format!("grant {r}"));
-        for event in EVENTS.iter().map(|event| event.to_string()).chain(grants) {
+        let lowest = (0..MOST_LEVELS).map(|level| format!("lowest {level}"));
+        for event in EVENTS.iter().map(|event| event.to_string()).chain(grants).chain(lowest) {
             if !self.events.contains_key(&event) {
                 gaps.push(format!("{event} not met"));
             }
@@ -151,6 +162,15 @@ fn usable(n: usize, levels: usize) -> Option<(usize, usize)> {
     fits.then_some((n, levels))
 }
 
+/// n and L as the header of an image has them, accepted or not, if they are inside their ranges.
+fn in_header(image: &[u8]) -> Option<(usize, usize)> {
+    let head = u32::from_be_bytes(*image.first_chunk()?);
+    usable((head >> 21 & 127) as usize, (head >> 17 & 15) as usize)
+}
+
+/// Order, limits, worst times by position and coast bounds, as they are lent to be written.
+type Lent = (Vec<u8>, Vec<i32>, Vec<u32>, Vec<i32>);
+
 /// Junk for a lent slice, so that what is left untouched can be seen.
 fn junk<T: From<u8> + Copy>(draw: &mut Draw, count: usize) -> Vec<T> {
     (0..count).map(|_| T::from(draw.word() as u8)).collect()
@@ -180,10 +200,11 @@ impl Pair<'_> {
         self.speed_reading(&image, counts)?;
         self.refresh(&image, counts)?;
         self.frame(&image, counts)?;
+        self.open_recording(&image)?;
         self.write(size)?;
         self.start()?;
         self.single_calls()?;
-        self.foreign_dry_run()?;
+        self.foreign_cycle()?;
         if counts.is_some() {
             self.cycles(&image)?;
         }
@@ -225,17 +246,34 @@ impl Pair<'_> {
 
     fn plan(&mut self, image: &[u8], counts: Option<Counts>) -> Result<(), String> {
         let (n, levels) = counts.map_or((3, 2), |counts| (counts.n, counts.levels));
-        let rooms = [n, n * levels, n * levels, n * levels * LONGEST_COAST].map(|needed| self.draw.room(needed));
-        let order: Vec<u8> = junk(&mut self.draw, rooms[0]);
-        let limits: Vec<i32> = junk(&mut self.draw, rooms[1]);
-        let worst: Vec<u32> = junk(&mut self.draw, rooms[2]);
-        let bounds: Vec<i32> = junk(&mut self.draw, rooms[3]);
+        let (tables, rooms) = self.unplanned(n, levels);
         let result = self.same("plan", &|| format!("{} {rooms:?}", hex(image)), |calls| {
-            let mut lent = (order.clone(), limits.clone(), worst.clone(), bounds.clone());
+            let mut lent = tables.clone();
             let answer = calls.plan(image, &mut lent.0, &mut lent.1, &mut lent.2, &mut lent.3);
             (answer, lent)
         })?;
         self.tally.number("plan", number_of(&result.0));
+        Ok(())
+    }
+
+    /// Tables to be planned into, and their lengths.
+    fn unplanned(&mut self, n: usize, levels: usize) -> (Lent, [usize; 4]) {
+        let draw = &mut self.draw;
+        let rooms = [n, n * levels, n * levels, n * levels * LONGEST_COAST].map(|needed| draw.room(needed));
+        ((junk(draw, rooms[0]), junk(draw, rooms[1]), junk(draw, rooms[2]), junk(draw, rooms[3])), rooms)
+    }
+
+    /// A recording may be whole frames of a refused image too.
+    fn open_recording(&mut self, image: &[u8]) -> Result<(), String> {
+        let (n, levels) = in_header(image).unwrap_or((3, 2));
+        let bytes = self.draw.recording_bytes(n, levels);
+        let (tables, rooms) = self.unplanned(n, levels);
+        let result = self.same("open recording", &|| format!("{} {bytes} {rooms:?}", hex(image)), |calls| {
+            let mut lent = tables.clone();
+            let answer = calls.open_recording(image, bytes, &mut lent.0, &mut lent.1, &mut lent.2, &mut lent.3);
+            (answer, lent)
+        })?;
+        self.tally.number("open recording", number_of(&result.0));
         Ok(())
     }
 
@@ -437,8 +475,42 @@ impl Pair<'_> {
         Ok(())
     }
 
-    /// A dry run over tables that no planner wrote.
-    fn foreign_dry_run(&mut self) -> Result<(), String> {
+    /// A frame on totals, which come back as the call leaves them.
+    fn rehearse(
+        &mut self,
+        totals: Totals,
+        n: usize,
+        levels: usize,
+        tables: Tables,
+        frame: &[u8],
+    ) -> Result<Totals, String> {
+        if let Some(field) = totals_out(totals).first() {
+            self.tally.event(format!("total {field} out"));
+        }
+        let input = || format!("{totals:?} {n} {levels} {tables:?} {}", hex(frame));
+        let (answer, totals) = self.same("rehearse", &input, |calls| {
+            let mut totals = totals;
+            let answer = calls.rehearse(&mut totals, n, levels, tables, frame);
+            (answer, totals)
+        })?;
+        self.tally.number("rehearse", number_of(&answer));
+        if let Ok(line) = answer {
+            self.note_line(line, frame.len() > 4 * n * levels);
+        }
+        Ok(totals)
+    }
+
+    fn note_line(&mut self, line: Line, tail: bool) {
+        self.tally.event(format!("lowest {}", line.lowest));
+        for (event, so) in [("frame overrun", line.overrun), ("frame late", line.late), ("frame with a tail", tail)] {
+            if so {
+                self.tally.event(event);
+            }
+        }
+    }
+
+    /// A dry run and a frame over tables that no planner wrote.
+    fn foreign_cycle(&mut self) -> Result<(), String> {
         let (n, levels) = self.draw.shape();
         let (count, width) = usable(n, levels).unwrap_or((4, 2));
         let cells = count * width;
@@ -447,15 +519,22 @@ impl Pair<'_> {
         let mut worst: Vec<u32> = (0..cells).map(|_| self.draw.between(0, 3)).collect();
         let pace = self.draw.pick(&PACES);
         let mut durations = self.draw.durations(&worst, pace);
+        let frame = self.draw.frame(&worst, pace);
         limits.resize(self.draw.room(cells), 0);
         worst.resize(self.draw.room(cells), 0);
         bounds.resize(self.draw.room(cells * LONGEST_COAST), 0);
         durations.resize(self.draw.room(cells), 0);
         let tables = Tables { limits: &limits, worst_by_position: &worst, bounds: &bounds };
-        self.dry_run(n, levels, tables, &durations, count)
+        self.dry_run(n, levels, tables, &durations, count)?;
+        let mut totals = self.draw.totals();
+        if self.draw.once_in(3) {
+            totals = self.draw.edged_totals(totals);
+        }
+        self.rehearse(totals, n, levels, tables, &frame)?;
+        Ok(())
     }
 
-    /// Dry runs and whole runs over the planner's own tables.
+    /// Dry runs, frames one after another and whole runs over the planner's own tables.
     fn cycles(&mut self, image: &[u8]) -> Result<(), String> {
         const CELLS: usize = MOST_ACTIONS * MOST_LEVELS;
         let (mut order, mut limits) = (vec![0; MOST_ACTIONS], vec![0; CELLS]);
@@ -463,10 +542,13 @@ impl Pair<'_> {
         let planned = self.left.plan(image, &mut order, &mut limits, &mut worst, &mut bounds);
         let Counts { n, levels, .. } = planned.map_err(|no| format!("the plan is refused: {no}"))?;
         let cells = n * levels;
+        let tables = Tables { limits: &limits, worst_by_position: &worst, bounds: &bounds };
+        let mut totals = self.draw.totals();
         for pace in PACES {
             let durations = self.draw.durations(&worst[..cells], pace);
-            let tables = Tables { limits: &limits, worst_by_position: &worst, bounds: &bounds };
             self.dry_run(n, levels, tables, &durations, n)?;
+            let frame = self.draw.frame(&worst[..cells], pace);
+            totals = self.rehearse(totals, n, levels, tables, &frame)?;
         }
         self.walk(n, levels, (&order, &limits, &worst, &bounds))
     }

@@ -1,6 +1,8 @@
-//! Inputs from a seed: profiles small, large, extreme and damaged, durations, traces, run records and tables.
+//! Inputs from a seed: profiles small, large, extreme and damaged, durations, traces, frames, run records, totals and tables.
 
-use crate::calls::{Run, LAST_CLOCK, LONGEST_COAST, LONGEST_TIME, MOST_ACTIONS, MOST_LEVELS, MOST_RECORDS};
+use crate::calls::{
+    Run, Totals, LAST_CLOCK, LONGEST_COAST, LONGEST_TIME, MOST_ACTIONS, MOST_FRAMES, MOST_LEVELS, MOST_RECORDS,
+};
 
 /// A small generator (splitmix64): the same seed gives the same inputs everywhere.
 #[derive(Clone, Debug)]
@@ -597,21 +599,27 @@ impl Draw {
 
     /// The same with a field at its edge or over it.
     pub fn edged(&mut self, mut run: Run) -> Run {
-        let over = self.pick(&[0, 0, 1, 1, 2, u32::MAX]);
-        let edge = |limit: u32| if over == u32::MAX { over } else { limit + over };
         let reached = run.position + u32::from(run.running);
         match self.between(0, 8) {
             0 => run.n = self.pick(&[0, 1, 64, 65, u32::MAX]),
             1 => run.levels = self.pick(&[0, 1, 8, 9, u32::MAX]),
-            2 => run.position = edge(run.n),
-            3 => run.clock = edge(LAST_CLOCK),
-            4 => run.level = edge(run.levels - 1),
-            5 => run.left = edge(15),
-            6 => run.left = edge(run.n.saturating_sub(reached)),
-            7 => run.decisions = edge(reached),
+            2 => run.position = self.edge(run.n),
+            3 => run.clock = self.edge(LAST_CLOCK),
+            4 => run.level = self.edge(run.levels - 1),
+            5 => run.left = self.edge(15),
+            6 => run.left = self.edge(run.n.saturating_sub(reached)),
+            7 => run.decisions = self.edge(reached),
             _ => run.running = !run.running,
         }
         run
+    }
+
+    /// A field at its limit, over it by a little, or by all that its width lets.
+    fn edge(&mut self, limit: u32) -> u32 {
+        match self.pick(&[0, 0, 1, 1, 2, u32::MAX]) {
+            u32::MAX => u32::MAX,
+            over => limit + over,
+        }
     }
 
     /// A clock for a report: near the last one, or at an edge.
@@ -648,5 +656,66 @@ impl Draw {
             return self.pick(&[0, most + 1, u32::MAX as usize, (1 << 32) + 1, usize::MAX]);
         }
         self.between(1, most as u32) as usize
+    }
+}
+
+/// Durations as files and frames have them: four bytes each, high byte first.
+pub fn big_endian(durations: &[u32]) -> Vec<u8> {
+    durations.iter().flat_map(|duration| duration.to_be_bytes()).collect()
+}
+
+/// Recordings, their frames and their totals.
+impl Draw {
+    /// The bytes of a recording: mostly whole frames, about the most that there may be among them; now and then some bytes off, or as many as a
+    /// width of 64 bits lets.
+    pub fn recording_bytes(&mut self, n: usize, levels: usize) -> usize {
+        let frame = 4 * n * levels;
+        let frames = match self.between(0, 7) {
+            0 => 0,
+            1 | 2 => MOST_FRAMES - 1 + self.index(3),
+            _ => self.index(40),
+        };
+        let whole = frames * frame;
+        match self.between(0, 11) {
+            0 => whole + 1,
+            1 => whole.saturating_sub(1),
+            2 => whole + self.index(frame),
+            3 => self.pick(&[whole + (1 << 32), usize::MAX, usize::MAX - usize::MAX % frame]),
+            _ => whole,
+        }
+    }
+
+    /// A frame for a table of worst times by position and level: mostly of its own length, now and then with any bytes after it, seldom short.
+    pub fn frame(&mut self, worst: &[u32], pace: Pace) -> Vec<u8> {
+        let mut frame = big_endian(&self.durations(worst, pace));
+        let room = self.room(frame.len());
+        let tail = self.bytes(room.saturating_sub(frame.len()));
+        frame.extend(tail);
+        frame.truncate(room);
+        frame
+    }
+
+    /// Totals with every field inside its range.
+    pub fn totals(&mut self) -> Totals {
+        let most = MOST_FRAMES as u32;
+        let frames = match self.between(0, 3) {
+            0 => 0,
+            1 => self.between(most - 4, most),
+            _ => self.between(0, most),
+        };
+        let decisions = self.between(0, MOST_ACTIONS as u32 * frames);
+        Totals { frames, decisions, overruns: self.between(0, frames), lates: self.between(0, frames) }
+    }
+
+    /// The same with a field at its edge or over it.
+    pub fn edged_totals(&mut self, mut totals: Totals) -> Totals {
+        match self.between(0, 3) {
+            // Of 1 << 26 frames the most decisions would be 0 in 32 bits.
+            0 => totals.frames = self.pick(&[4095, 4096, 4097, 1 << 26, u32::MAX]),
+            1 => totals.decisions = self.edge(MOST_ACTIONS as u32 * totals.frames),
+            2 => totals.overruns = self.edge(totals.frames),
+            _ => totals.lates = self.edge(totals.frames),
+        }
+        totals
     }
 }

@@ -1,7 +1,7 @@
 //! Writes vectors: inputs with what the product must answer, in files that any program can read.
 
-use crate::calls::{Calls, Fast, Reading, Reference, LAST_CLOCK, LONGEST_TIME};
-use crate::draw::{Draw, Pace, Size, PACES};
+use crate::calls::{Answer, Calls, Fast, Reading, Reference, LAST_CLOCK, LONGEST_TIME, MOST_FRAMES};
+use crate::draw::{big_endian, Draw, Pace, Size, Sketch, PACES};
 use crate::reference::{accept, Planned};
 use crate::text;
 use std::fs;
@@ -22,12 +22,20 @@ struct Trace {
     trace: Vec<u8>,
 }
 
+/// One image with a recording.
+struct Recording {
+    what: &'static str,
+    image: Vec<u8>,
+    recording: Vec<u8>,
+}
+
 /// What was written.
 #[derive(Clone, Debug, Default)]
 pub struct Written {
     pub cases: usize,
     pub traces: usize,
     pub readings: usize,
+    pub recordings: usize,
     pub bytes: usize,
 }
 
@@ -38,6 +46,7 @@ Made from the definitions of the rules, by a seed.
 - NNN.profile (an image, any bytes), NNN.durations; NNN.plan is what the plan program prints for the image, NNN.dry what the dry-run program prints for both.
 - tNN.profile, tNN.trace; then either tNN.refreshed, the new image, or tNN.refused, the line of the refusal.
 - readings.txt: an image in hexadecimal, first position, last position, level, time, and the reading: `spent`, `refused` and the number, or the 64 bits of the ratio in hexadecimal.
+- rNN.profile, rNN.recording; rNN.rehearse is what the rehearsing program prints for both.
 ";
 
 /// Writes all vectors of a seed into a folder, which is made if it is not there.
@@ -55,6 +64,10 @@ pub fn write(folder: &Path, seed: u64) -> io::Result<Written> {
     }
     let readings = maker.readings();
     maker.file("readings.txt", readings.as_bytes())?;
+    page += "\n| recording | what | frame lines | last line |\n|---|---|---|---|\n";
+    for recording in maker.recordings() {
+        page += &maker.recording(&recording)?;
+    }
     maker.file("README.md", page.as_bytes())?;
     Ok(maker.written)
 }
@@ -63,10 +76,6 @@ struct Maker<'a> {
     draw: Draw,
     folder: &'a Path,
     written: Written,
-}
-
-fn big_endian(durations: &[u32]) -> Vec<u8> {
-    durations.iter().flat_map(|duration| duration.to_be_bytes()).collect()
 }
 
 fn hex(bytes: &[u8]) -> String {
@@ -81,6 +90,12 @@ fn pace_name(pace: Pace) -> &'static str {
         Pace::Over => "some over worst",
         Pace::Absent => "one above 16,777,215",
     }
+}
+
+/// The worst times of an accepted image by position and level.
+fn worst_by_position(image: &[u8]) -> Answer<Vec<u32>> {
+    let planned = Planned::of(&accept(image)?);
+    Ok(planned.worst.iter().flatten().map(|&time| time as u32).collect())
 }
 
 impl Maker<'_> {
@@ -125,9 +140,8 @@ impl Maker<'_> {
 
     /// Durations to an image; any few bytes to one that is refused.
     fn with_durations(&mut self, name: &str, image: Vec<u8>, pace: Pace) -> Case {
-        match accept(&image) {
-            Ok(profile) => {
-                let worst: Vec<u32> = Planned::of(&profile).worst.iter().flatten().map(|&time| time as u32).collect();
+        match worst_by_position(&image) {
+            Ok(worst) => {
                 let durations = self.draw.durations(&worst, pace);
                 let what = format!("{name}, durations {}", pace_name(pace));
                 Case { what, image, durations: big_endian(&durations) }
@@ -280,5 +294,60 @@ impl Maker<'_> {
             }
         }
         lines
+    }
+
+    /// The row of a recording, whose files are written.
+    fn recording(&mut self, case: &Recording) -> io::Result<String> {
+        let name = format!("r{:02}", self.written.recordings);
+        let lines = text::rehearse(&Reference, &case.image, &case.recording);
+        assert_eq!(lines, text::rehearse(&Fast, &case.image, &case.recording), "{}", case.what);
+        self.file(&format!("{name}.profile"), &case.image)?;
+        self.file(&format!("{name}.recording"), &case.recording)?;
+        self.file(&format!("{name}.rehearse"), lines.as_bytes())?;
+        self.written.recordings += 1;
+        let (frames, last) = (lines.lines().count() - 1, lines.lines().last().unwrap_or(""));
+        Ok(format!("| {name} | {} | {frames} | {last} |\n", case.what))
+    }
+
+    /// Frames for worst times by position and level, of all paces.
+    fn frames(&mut self, worst: &[u32], count: usize) -> Vec<u8> {
+        let frame = |_| {
+            let pace = self.draw.pick(&PACES);
+            big_endian(&self.draw.durations(worst, pace))
+        };
+        (0..count).flat_map(frame).collect()
+    }
+
+    fn recordings(&mut self) -> Vec<Recording> {
+        let mut recordings = Vec::new();
+        while recordings.len() < 60 {
+            let size = if self.draw.once_in(8) { Size::Large } else { Size::Small };
+            let image = self.draw.image(size);
+            let worst = worst_by_position(&image).unwrap_or(vec![4; 6]);
+            let frames = self.draw.index(8);
+            let mut recording = self.frames(&worst, frames);
+            match self.draw.between(0, 9) {
+                0 => recording.push(0),
+                1 => recording.truncate(recording.len().saturating_sub(1)),
+                _ => {}
+            }
+            recordings.push(Recording { what: "drawn", image, recording });
+        }
+        let image = Sketch {
+            n: 1,
+            levels: 1,
+            cycle: 9,
+            masks: vec![0],
+            deadlines: vec![0],
+            averages: vec![2],
+            worst: vec![4],
+            ..Sketch::default()
+        }
+        .image();
+        let most = self.frames(&[4], MOST_FRAMES);
+        let over = [&most[..], &[0; 4]].concat();
+        recordings.push(Recording { what: "4,096 frames of one entry", image: image.clone(), recording: most });
+        recordings.push(Recording { what: "4,097 frames", image, recording: over });
+        recordings
     }
 }

@@ -1,4 +1,4 @@
-//! The vectors that the writer makes: enough of them, not too large, every refusal of the two programs among them.
+//! The vectors that the writer makes: enough of them, not too large, every refusal of the programs among them.
 
 use nyokazerubi_host::outside;
 use std::fs;
@@ -9,11 +9,16 @@ fn vectors_are_written() {
     let folder = Path::new(env!("CARGO_TARGET_TMPDIR")).join("written");
     let written = outside::write(&folder, 1).expect("the folder takes files");
     assert!(written.cases >= 300 && written.traces >= 24 && written.readings >= 40, "{written:?}");
-    assert!(written.bytes < 1_500_000, "{written:?}");
+    assert!(written.recordings >= 27 && written.bytes < 1_500_000, "{written:?}");
     let page = fs::read_to_string(folder.join("README.md")).expect("README.md");
     for number in [1, 2, 3, 4, 5, 6, 7, 8, 9, 16, 17] {
         assert!(page.contains(&format!("| refused {number} |\n")), "refused {number}");
     }
+    for row in ["| drawn | 0 | refused 14 |", "| drawn | 0 | 0 0 0 0 |", "| 4,097 frames | 0 | refused 14 |"] {
+        assert!(page.contains(row), "{row}");
+    }
+    let most = fs::read_to_string(folder.join("r60.rehearse")).expect("r60.rehearse");
+    assert!(most.lines().count() == 4097 && most.contains("refused 16\n"), "{most}");
     for number in [0, 14, 15, 16] {
         assert!(page.contains(&format!("| drawn | {number} |\n")), "trace {number}");
     }
