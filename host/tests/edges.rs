@@ -2,8 +2,10 @@
 
 mod common;
 
-use nyokazerubi_host::calls::{Calls, Counts, Dried, Reading, Run, Tables, LAST_CLOCK, LONGEST_TIME, MOST_RECORDS};
-use nyokazerubi_host::draw::Sketch;
+use nyokazerubi_host::calls::{
+    Calls, Counts, Dried, Line, Opened, Reading, Run, Tables, Totals, LAST_CLOCK, LONGEST_TIME, MOST_RECORDS,
+};
+use nyokazerubi_host::draw::{big_endian, Sketch};
 
 fn on_all_sides(test: fn(&dyn Calls)) {
     for (name, calls) in common::sides() {
@@ -206,5 +208,163 @@ fn bounds_that_rise_again() {
         let cycle = calls.dry_run(4, 1, tables, &[4, 1, 1, 1], &mut given, &mut decided);
         assert_eq!(cycle, Ok(Dried { decisions: 4, end: 7, overrun: true, late: true }));
         assert_eq!(decided, [1, 1, 1, 1, 9]);
+    });
+}
+
+/// A recording is judged by its length: whole frames, and no more than 4,096. The image's refusals come first, a lack of room last.
+#[test]
+fn lengths_of_a_recording() {
+    on_all_sides(|calls| {
+        let open = |image: &[u8], bytes: usize, rooms: [usize; 4]| {
+            let mut lent = (vec![7; rooms[0]], vec![7; rooms[1]], vec![7; rooms[2]], vec![7; rooms[3]]);
+            let answer = calls.open_recording(image, bytes, &mut lent.0, &mut lent.1, &mut lent.2, &mut lent.3);
+            (answer, lent)
+        };
+        let (image, rooms) = (common::three(20), [4, 7, 7, 97]);
+        for frames in [0, 1, 4095, 4096] {
+            let (answer, lent) = open(&image, 24 * frames, rooms);
+            assert_eq!(answer, Ok(Opened { n: 3, levels: 2, frame_bytes: 24, frames }));
+            // The tables are the plan's, and their tails are kept.
+            let plan = common::plan(calls, &image);
+            assert_eq!((&lent.0[..3], &lent.1[..6]), (&plan.order[..], &plan.limits[..]));
+            assert_eq!((&lent.2[..6], &lent.3[..96]), (&plan.worst[..], &plan.bounds[..]));
+            assert_eq!((lent.0[3], lent.1[6], lent.2[6], lent.3[96]), (7, 7, 7, 7));
+        }
+        let refused = |image: &[u8], bytes: usize, rooms: [usize; 4]| {
+            let (answer, lent) = open(image, bytes, rooms);
+            assert_eq!(lent, (vec![7; rooms[0]], vec![7; rooms[1]], vec![7; rooms[2]], vec![7; rooms[3]]));
+            answer.expect_err("a refusal")
+        };
+        for bytes in [1, 23, 25, 24 * 4096 - 1, 24 * 4096 + 12, 24 * 4097, usize::MAX, usize::MAX - 15, 24 + (1 << 32)]
+        {
+            assert_eq!(refused(&image, bytes, rooms), 14, "{bytes}");
+        }
+        for (place, needed) in [3, 6, 6, 96].into_iter().enumerate() {
+            let mut rooms = rooms;
+            rooms[place] = needed - 1;
+            assert_eq!([refused(&image, 48, rooms), refused(&image, 49, rooms)], [17, 14]);
+            assert_eq!([refused(&common::three(11), 49, rooms), refused(&image[..5], 49, rooms)], [9, 1]);
+        }
+    });
+}
+
+/// Each of the totals at its last accepted value and one over. Of 4,096 frames there is no more to count.
+#[test]
+fn totals_at_their_edges() {
+    on_all_sides(|calls| {
+        let tables = Tables { limits: &[9], worst_by_position: &[9], bounds: &[9; 16] };
+        let number = |totals: Totals| {
+            let mut after = totals;
+            let answer = calls.rehearse(&mut after, 1, 1, tables, &[0, 0, 0, 1]);
+            let counted = Totals { frames: totals.frames.wrapping_add(1), ..totals };
+            let decided = Totals { decisions: totals.decisions.wrapping_add(1), ..counted };
+            assert_eq!(after, if answer.is_ok() { decided } else { totals });
+            answer.err().unwrap_or(0)
+        };
+        let five = Totals { frames: 5, ..Totals::default() };
+        for (good, bad) in [
+            (Totals::default(), Totals { decisions: 1, ..Totals::default() }),
+            (Totals::default(), Totals { overruns: 1, ..Totals::default() }),
+            (Totals::default(), Totals { lates: 1, ..Totals::default() }),
+            (Totals { frames: 4095, ..five }, Totals { frames: 4097, ..five }),
+            (Totals { frames: 4095, decisions: 64 * 4095, ..five }, Totals { frames: u32::MAX, ..five }),
+            (Totals { decisions: 320, ..five }, Totals { decisions: 321, ..five }),
+            (Totals { overruns: 5, ..five }, Totals { overruns: 6, ..five }),
+            (Totals { lates: 5, ..five }, Totals { lates: 6, ..five }),
+            // So many frames that 64 of each would be 0 in 32 bits.
+            (five, Totals { frames: 1 << 26, ..five }),
+        ] {
+            assert_eq!([number(good), number(bad)], [0, 11], "{good:?} {bad:?}");
+        }
+        assert_eq!(number(Totals { frames: 4096, decisions: 64 * 4096, overruns: 4096, lates: 4096 }), 14);
+        assert_eq!(number(Totals { frames: 4096, decisions: 64 * 4096 + 1, ..five }), 11);
+    });
+}
+
+/// The order of a frame's refusals: totals out of range, a frame too many, count, room, duration. Refused, it counts in none.
+#[test]
+fn refusals_of_a_frame_in_order() {
+    on_all_sides(|calls| {
+        let frame = big_endian(&[1, LONGEST_TIME + 1, 1, 1]);
+        let number = |frames: u32, n: usize, levels: usize, rooms: [usize; 4]| {
+            let (limits, worst, bounds) = (vec![9; rooms[0]], vec![9; rooms[1]], vec![9; rooms[2]]);
+            let tables = Tables { limits: &limits, worst_by_position: &worst, bounds: &bounds };
+            let before = Totals { frames, ..Totals::default() };
+            let mut totals = before;
+            let answer = calls.rehearse(&mut totals, n, levels, tables, &frame[..rooms[3]]);
+            assert_eq!(totals, before);
+            answer.expect_err("a refusal")
+        };
+        let (none, whole) = ([0; 4], [4, 4, 64, 16]);
+        assert_eq!([number(4097, 0, 0, none), number(4096, 0, 0, none), number(4095, 0, 0, none)], [11, 14, 3]);
+        for (n, levels) in [(65, 1), (1, 9), (usize::MAX, 2), (2, usize::MAX), (1 << 32 | 2, 2), (2, 1 << 32 | 2)] {
+            assert_eq!(number(0, n, levels, whole), 3, "{n} {levels}");
+        }
+        for (place, room) in whole.into_iter().enumerate() {
+            let mut rooms = whole;
+            rooms[place] = room - 1;
+            assert_eq!(number(0, 2, 2, rooms), 17);
+        }
+        assert_eq!(number(0, 2, 2, whole), 16);
+    });
+}
+
+/// An entry that is too long is refused where it would be used and where it would not; after the frame it is none of its entries.
+#[test]
+fn long_entries() {
+    on_all_sides(|calls| {
+        let plan = common::plan(calls, &common::three(20));
+        let rehearse = |durations: &[u32]| {
+            calls.rehearse(&mut Totals::default(), 3, 2, plan.tables(), &big_endian(durations)).map(|line| line.end)
+        };
+        for (cell, long) in (0..6).flat_map(|cell| [LONGEST_TIME + 1, 1 << 31, u32::MAX].map(|long| (cell, long))) {
+            let mut durations = [6, 6, 8, 8, 4, 4];
+            durations[cell] = long;
+            assert_eq!(rehearse(&durations), Err(16), "{long} at {cell}");
+        }
+        assert_eq!(rehearse(&[6, 6, 8, 8, 4, 4, u32::MAX]), Ok(18));
+        // The longest that there may be; of those at a level that is not given nothing is seen.
+        assert_eq!(rehearse(&[LONGEST_TIME, 6, LONGEST_TIME, 8, 4, LONGEST_TIME]), Ok(18));
+        assert_eq!(rehearse(&[LONGEST_TIME; 6]), Ok(3 * LONGEST_TIME));
+    });
+}
+
+/// The longest recording of the most actions, each of them decided, too long and late: the totals reach their edges, and no further frame is counted.
+#[test]
+fn the_longest_recording() {
+    on_all_sides(|calls| {
+        let tables = Tables { limits: &[-1; 64], worst_by_position: &[0; 64], bounds: &[i32::MIN; 1024] };
+        let frame = big_endian(&[LONGEST_TIME; 64]);
+        let line = Line { decisions: 64, lowest: 0, end: 64 * LONGEST_TIME, overrun: true, late: true };
+        let mut totals = Totals::default();
+        for _ in 0..4096 {
+            assert_eq!(calls.rehearse(&mut totals, 64, 1, tables, &frame), Ok(line));
+        }
+        let full = Totals { frames: 4096, decisions: 64 * 4096, overruns: 4096, lates: 4096 };
+        assert_eq!(totals, full);
+        assert_eq!(calls.rehearse(&mut totals, 64, 1, tables, &frame), Err(14));
+        assert_eq!(totals, full);
+    });
+}
+
+/// The lowest level is of all positions: of a coast, of what is decided anew after an overrun, and of the last action alone.
+#[test]
+fn lowest_levels() {
+    on_all_sides(|calls| {
+        // Level 1 up to time 5, and a coast of all four actions at the start.
+        let mut bounds = [i32::MIN; 4 * 2 * 16];
+        bounds[16 + 3] = 5;
+        let tables = Tables { limits: &[100, 5].repeat(4), worst_by_position: &[3; 8], bounds: &bounds };
+        let rehearse = |durations: [u32; 4]| {
+            let frame = big_endian(&durations.map(|duration| [duration; 2]).concat());
+            let Line { decisions, lowest, end, overrun, .. } =
+                calls.rehearse(&mut Totals::default(), 4, 2, tables, &frame).expect("a frame");
+            (decisions, lowest, end, overrun)
+        };
+        assert_eq!(rehearse([3, 3, 3, 3]), (1, 1, 12, false));
+        assert_eq!(rehearse([3, 4, 0, 0]), (3, 0, 7, true));
+        assert_eq!(rehearse([0, 0, 6, 0]), (2, 0, 6, true));
+        assert_eq!(rehearse([0, 0, 5, 0]), (2, 1, 5, true));
+        assert_eq!(rehearse([0, 0, 0, 6]), (1, 1, 6, true));
     });
 }

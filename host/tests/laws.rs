@@ -1,9 +1,11 @@
-//! Laws of the rules that follow from its definitions, on drawn inputs.
+//! Laws of the rules that follow from its definitions, on drawn inputs; those of recordings of the product too.
 
 mod common;
 
-use nyokazerubi_host::calls::{Calls, Counts, Reading, Reference, LAST_CLOCK};
-use nyokazerubi_host::draw::{Draw, Size};
+use common::{plan, Plan};
+use nyokazerubi_host::calls::{Answer, Calls, Counts, Dried, Line, Reading, Reference, Totals, LAST_CLOCK};
+use nyokazerubi_host::draw::{big_endian, Draw, Size, PACES};
+use nyokazerubi_host::product::Product;
 use nyokazerubi_host::reference::{accept, Planned};
 
 const SIZES: [Size; 4] = [Size::Tiny, Size::Small, Size::Large, Size::Extreme];
@@ -110,4 +112,83 @@ fn refreshed_images() {
         }
     }
     assert!(changed > 50);
+}
+
+/// The durations of drawn frames: within worst, over it, or with an entry that is refused.
+fn drawn_frames(draw: &mut Draw, plan: &Plan, count: usize) -> Vec<Vec<u32>> {
+    let frame = |_| {
+        let pace = draw.pick(&PACES);
+        draw.durations(&plan.worst, pace)
+    };
+    (0..count).map(frame).collect()
+}
+
+/// The lines of frames one after another, counted in the totals.
+fn lines(calls: &dyn Calls, plan: &Plan, totals: &mut Totals, frames: &[Vec<u32>]) -> Vec<Answer<Line>> {
+    let Counts { n, levels, .. } = plan.counts;
+    frames.iter().map(|frame| calls.rehearse(totals, n, levels, plan.tables(), &big_endian(frame))).collect()
+}
+
+fn sum(one: Totals, other: Totals) -> Totals {
+    Totals {
+        frames: one.frames + other.frames,
+        decisions: one.decisions + other.decisions,
+        overruns: one.overruns + other.overruns,
+        lates: one.lates + other.lates,
+    }
+}
+
+/// Two recordings one after another have the lines of both, and their totals added up.
+#[test]
+fn totals_of_two_recordings_add_up() {
+    let mut draw = Draw::new(15);
+    let mut all = Totals::default();
+    for image in accepted(&mut draw, 300) {
+        let plan = plan(&Reference, &image);
+        let counts = [draw.index(12), draw.index(12)];
+        let [first, second] = counts.map(|count| drawn_frames(&mut draw, &plan, count));
+        for calls in [&Reference as &dyn Calls, &Product] {
+            let [mut one, mut other, mut both] = [Totals::default(); 3];
+            let apart = [lines(calls, &plan, &mut one, &first), lines(calls, &plan, &mut other, &second)].concat();
+            let together = lines(calls, &plan, &mut both, &[first.clone(), second.clone()].concat());
+            assert_eq!(together, apart);
+            assert_eq!(both, sum(one, other));
+            all = sum(all, both);
+        }
+    }
+    println!("{all:?}");
+    assert!(all.overruns > 100 && all.lates > 100 && all.frames > all.overruns + all.lates, "{all:?}");
+}
+
+/// A line is what the dry run over the frame's durations answers, with the lowest of all levels given, those of a coast too; where nothing overran,
+/// every deadline was met.
+#[test]
+fn a_line_is_a_dry_run() {
+    let mut draw = Draw::new(16);
+    let (mut in_time, mut coasted) = (0, 0);
+    for image in accepted(&mut draw, 400) {
+        let plan = plan(&Reference, &image);
+        let Counts { n, levels, .. } = plan.counts;
+        let deadlines = Planned::of(&accept(&image).expect("accepted")).deadline;
+        for durations in drawn_frames(&mut draw, &plan, 12) {
+            for calls in [&Reference as &dyn Calls, &Product] {
+                let (mut given, mut marks) = (vec![9; n], vec![9; n]);
+                let cycle = calls.dry_run(n, levels, plan.tables(), &durations, &mut given, &mut marks);
+                let line = lines(calls, &plan, &mut Totals::default(), std::slice::from_ref(&durations))[0];
+                let lowest = u32::from(*given.iter().min().expect("an action"));
+                let wanted = |Dried { decisions, end, overrun, late }| Line { decisions, lowest, end, overrun, late };
+                assert_eq!(line, cycle.map(wanted));
+                let Ok(Line { overrun: false, late, .. }) = line else { continue };
+                let mut clock = 0;
+                for i in 0..n {
+                    clock += i64::from(durations[i * levels + given[i] as usize]);
+                    assert!(clock <= deadlines[i] && !late, "position {i} of {durations:?}");
+                }
+                in_time += 1;
+                coasted += marks.iter().filter(|&&mark| mark == 0).count();
+            }
+        }
+    }
+    println!("{in_time} frames without an overrun, {coasted} actions coasted");
+    assert!(in_time > 1000 && coasted > 1000, "{in_time} {coasted}");
 }
