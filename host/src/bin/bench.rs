@@ -2,8 +2,8 @@
 //! Prints the tables of docs/BENCHMARKS.md.
 
 use nyokazerubi_host::c::C;
-use nyokazerubi_host::calls::{Calls, Counts, Fast, Run, Tables, LONGEST_COAST};
-use nyokazerubi_host::draw::{Draw, Sketch};
+use nyokazerubi_host::calls::{Calls, Counts, Fast, Opened, Run, Tables, Totals, LONGEST_COAST, MOST_FRAMES};
+use nyokazerubi_host::draw::{big_endian, Draw, Sketch};
 use nyokazerubi_host::product::Product;
 use std::hint::black_box;
 use std::time::Instant;
@@ -26,6 +26,7 @@ fn main() {
         table(&sides, name, &Bench::new(&image));
     }
     frame(&sides);
+    recordings(&sides, &[("chain", chain()), ("graph", graph())]);
 }
 
 /// The implementations by name.
@@ -117,6 +118,8 @@ struct Bench {
     by_position: Vec<u32>,
     bounds: Vec<i32>,
     durations: Vec<u32>,
+    /// The durations as a frame of a recording.
+    frame: Vec<u8>,
     /// A few records and many.
     traces: [Vec<u8>; 2],
     /// The clock at the end of each action of a cycle over the durations, and its decisions.
@@ -140,6 +143,7 @@ impl Bench {
             by_position: vec![0; cells],
             bounds: vec![0; cells * LONGEST_COAST],
             durations: Vec::new(),
+            frame: Vec::new(),
             traces: Default::default(),
             clocks: Vec::new(),
             decisions: 0,
@@ -149,22 +153,26 @@ impl Bench {
         let (order, limits) = (&mut bench.order, &mut bench.limits);
         Fast.plan(image, order, limits, &mut bench.by_position, &mut bench.bounds).expect("accepted");
         let mut draw = Draw::new(8);
-        // Mostly near the average, now and then up to the worst time.
-        bench.durations = (0..cells)
-            .map(|cell| {
-                let (action, level) = (bench.order[cell / 8 % n] as usize, cell % 8);
-                let average = bench.averages[action * 8 + level];
-                let worst = bench.by_position[cell];
-                if draw.once_in(8) {
-                    draw.between(0, worst)
-                } else {
-                    (average / 2 + draw.between(0, average)).min(worst)
-                }
-            })
-            .collect();
+        bench.durations = bench.drawn(&mut draw);
+        bench.frame = big_endian(&bench.durations);
         bench.traces = [100, 4000].map(|records| bench.trace(&mut draw, records));
         bench.cycle();
         bench
+    }
+
+    /// Durations mostly near the average, now and then up to the worst time.
+    fn drawn(&self, draw: &mut Draw) -> Vec<u32> {
+        let duration = |cell: usize| {
+            let (action, level) = (self.order[cell / 8] as usize, cell % 8);
+            let average = self.averages[action * 8 + level];
+            let worst = self.by_position[cell];
+            if draw.once_in(8) {
+                draw.between(0, worst)
+            } else {
+                (average / 2 + draw.between(0, average)).min(worst)
+            }
+        };
+        (0..self.by_position.len()).map(duration).collect()
     }
 
     fn trace(&self, draw: &mut Draw, records: usize) -> Vec<u8> {
@@ -224,7 +232,7 @@ fn room() -> &'static mut Room {
     unsafe { &mut *std::ptr::addr_of_mut!(ROOM) }
 }
 
-const CALLS: [Call; 11] = [
+const CALLS: [Call; 13] = [
     ("check", |bench, calls| {
         black_box(calls.check(black_box(&bench.image)).is_ok());
     }),
@@ -252,6 +260,17 @@ const CALLS: [Call; 11] = [
     ("dry frame", |bench, calls| {
         let Room { small: [given, decided], image: order, .. } = room();
         black_box(calls.dry_frame(black_box(&bench.image), &bench.durations, order, given, decided).is_ok());
+    }),
+    ("open recording", |bench, calls| {
+        let Room { small: [order, _], limits, numbers: [worst, ..], bounds, .. } = room();
+        let bytes = black_box(MOST_FRAMES * bench.frame.len());
+        black_box(calls.open_recording(black_box(&bench.image), bytes, order, limits, worst, bounds).is_ok());
+    }),
+    ("rehearse", |bench, calls| {
+        let Counts { n, levels, .. } = bench.counts;
+        let mut totals = Totals::default();
+        black_box(calls.rehearse(&mut totals, n, levels, black_box(bench.tables()), &bench.frame).is_ok());
+        black_box(totals);
     }),
     ("reading", |bench, calls| {
         let Counts { n, levels, .. } = bench.counts;
@@ -287,6 +306,37 @@ fn frame(sides: &Sides) {
         let cycles = ns * clock;
         println!("| {name} | {ns:.1} | {cycles:.0} | {:.3} % |", 100.0 * cycles / FRAME);
     }
+}
+
+/// The most frames that a recording may have, opened and run one after another.
+fn recordings(sides: &Sides, images: &[(&str, Vec<u8>)]) {
+    println!("\n### A recording of {MOST_FRAMES} frames, n = 64, L = 8, in ms\n");
+    println!("| frames of | decisions | product | Rust | C | ratio |\n|---|---|---|---|---|---|");
+    for (name, image) in images {
+        let bench = Bench::new(image);
+        let mut draw = Draw::new(4096);
+        let recording: Vec<u8> = (0..MOST_FRAMES).flat_map(|_| big_endian(&bench.drawn(&mut draw))).collect();
+        let Totals { frames, decisions, .. } = rehearse(&bench, &Product, &recording);
+        assert_eq!(frames as usize, MOST_FRAMES, "frames run");
+        let medians = measure(sides, |calls| {
+            black_box(rehearse(&bench, calls, &recording));
+        });
+        let [product, rust, c] = medians.map(|ns| ns / 1e6);
+        println!("| {name} | {decisions} | {product:.3} | {rust:.3} | {c:.3} | {:.2} |", product / rust.min(c));
+    }
+}
+
+/// A whole recording, a frame at a time.
+fn rehearse(bench: &Bench, calls: &dyn Calls, recording: &[u8]) -> Totals {
+    let Room { small: [order, _], limits, numbers: [worst, ..], bounds, .. } = room();
+    let opened = calls.open_recording(&bench.image, recording.len(), order, limits, worst, bounds);
+    let Opened { n, levels, frame_bytes, .. } = opened.expect("accepted");
+    let tables = Tables { limits, worst_by_position: worst, bounds };
+    let mut totals = Totals::default();
+    for frame in recording.chunks_exact(frame_bytes) {
+        black_box(calls.rehearse(&mut totals, n, levels, tables, frame).is_ok());
+    }
+    totals
 }
 
 /// The rules' encoder.
