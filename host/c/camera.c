@@ -11,7 +11,12 @@ _Static_assert(sizeof(struct nyokazerubi_refusal) == 4, "refusal");
 _Static_assert(sizeof(struct nyokazerubi_run) == 32, "run");
 _Static_assert(sizeof(struct nyokazerubi_given) == 16, "given");
 _Static_assert(sizeof(struct nyokazerubi_dried) == 16, "dried");
+_Static_assert(sizeof(struct nyokazerubi_opened) == 40, "opened");
+_Static_assert(sizeof(struct nyokazerubi_totals) == 16, "totals");
+_Static_assert(sizeof(struct nyokazerubi_line) == 20, "line");
 _Static_assert(sizeof(struct nyokazerubi_reading) == 16, "reading");
+
+enum { ROUNDS = 5, FRAME = NYOKAZERUBI_FRAME_BYTES(9, 8) };
 
 static void hold(int is_so, const char *what) {
     if (!is_so) {
@@ -89,11 +94,11 @@ static void plan(struct camera *camera) {
     hold(camera->limits[8] == 168000 && camera->limits[9] == 69000 && camera->limits[10] == -31000, "limits at position 1");
 }
 
-/* One cycle; keeps the durations met for a dry run, and records of a trace. */
-static void cycle(struct camera *camera, uint32_t *durations, uint8_t *trace) {
+/* One cycle; keeps the durations met for a dry run, and records of a trace. Answers the line that it has as a frame of a recording. */
+static struct nyokazerubi_line cycle(struct camera *camera, uint32_t *durations, uint8_t *trace) {
     struct nyokazerubi_run *run = &camera->run;
     hold(nyokazerubi_start(run, camera->n, camera->levels).number == 0, "a start");
-    uint32_t clock = 0;
+    uint32_t clock = 0, lowest = 7;
     for (size_t i = 0; i < camera->n; i++) {
         struct nyokazerubi_run before = *run;
         struct nyokazerubi_given given = nyokazerubi_ask(run, camera->order, camera->n, camera->limits, camera->cells,
@@ -101,6 +106,7 @@ static void cycle(struct camera *camera, uint32_t *durations, uint8_t *trace) {
         hold(given.refusal.number == 0 && given.action == camera->order[i] && given.level < camera->levels, "an action");
         hold(!given.late && run->running && run->position == i, "in time");
         hold(run->decisions == before.decisions + (given.decided ? 1 : 0), "its decision");
+        if (given.level < lowest) lowest = given.level;
 
         /* The action runs. */
         size_t cell = i * camera->levels + given.level;
@@ -120,6 +126,7 @@ static void cycle(struct camera *camera, uint32_t *durations, uint8_t *trace) {
     hold(over.refusal.number == NYOKAZERUBI_REFUSED_FINISHED, "the cycle is over");
     hold(nyokazerubi_report(run, clock, camera->worst, camera->cells).number == NYOKAZERUBI_REFUSED_TURN, "none runs");
     printf("%u decisions, end %u\n", run->decisions, run->clock);
+    return (struct nyokazerubi_line){.decisions = run->decisions, .lowest = lowest, .end = clock};
 }
 
 /* The dry run over the durations met is the same cycle, from the tables and from the image. */
@@ -136,6 +143,70 @@ static void dry(const struct camera *camera, const uint32_t *durations) {
     hold(framed.refusal.number == 0 && framed.n == camera->n && framed.decisions == dried.decisions, "from the image");
     hold(framed.end == dried.end && memcmp(order, camera->order, camera->n) == 0, "its end and its order");
     free(order), free(given), free(marks);
+}
+
+/* The durations as a frame of a recording. */
+static void put_frame(const uint32_t *durations, size_t cells, uint8_t *frame) {
+    for (size_t cell = 0; cell < cells; cell++)
+        for (size_t b = 0; b < 4; b++) frame[4 * cell + b] = (uint8_t)(durations[cell] >> (24 - 8 * b));
+}
+
+static struct nyokazerubi_line run_frame(const struct camera *camera, struct nyokazerubi_totals *totals, const uint8_t *frame, size_t length) {
+    return nyokazerubi_rehearse(totals, camera->n, camera->levels, camera->limits, camera->cells, camera->worst, camera->cells,
+                                camera->bounds, 16 * camera->cells, frame, length);
+}
+
+/* Opens a recording of so many bytes into tables of its own, which are then the camera's plan, or untouched. */
+static struct nyokazerubi_opened open_recording(const struct camera *camera, size_t bytes) {
+    size_t cells = camera->cells, table = cells * sizeof *camera->limits;
+    uint8_t *order = lend(camera->n);
+    int32_t *limits = lend(table), *bounds = lend(16 * table);
+    uint32_t *worst = lend(table);
+    struct nyokazerubi_opened opened = nyokazerubi_open_recording(camera->image, camera->bytes, bytes, order, camera->n, limits,
+                                                                  cells, worst, cells, bounds, 16 * cells);
+    if (opened.refusal.number == 0) {
+        hold(memcmp(order, camera->order, camera->n) == 0 && memcmp(limits, camera->limits, table) == 0, "its order and limits");
+        hold(memcmp(worst, camera->worst, table) == 0 && memcmp(bounds, camera->bounds, 16 * table) == 0, "its other tables");
+    } else {
+        hold(order[0] == 0xa5 && opened.n == 0 && opened.frames == 0, "a refusal writes nothing");
+    }
+    free(order), free(limits), free(bounds), free(worst);
+    return opened;
+}
+
+/* The cycles met as a recording: opened by its length, and run through the memory of one frame. Each line is that of its cycle, and the totals add
+ * them up. */
+static void rehearse(const struct camera *camera, const uint8_t *recording, const struct nyokazerubi_line *met) {
+    hold(open_recording(camera, ROUNDS * FRAME - 1).refusal.number == NYOKAZERUBI_REFUSED_TRACE, "a byte less is not whole frames");
+    hold(open_recording(camera, (size_t)4097 * FRAME).refusal.number == NYOKAZERUBI_REFUSED_TRACE, "4097 frames");
+    hold(open_recording(camera, 0).refusal.number == 0, "no frames");
+    struct nyokazerubi_opened opened = open_recording(camera, ROUNDS * FRAME);
+    hold(opened.refusal.number == 0 && opened.n == 9 && opened.levels == 8, "a recording");
+    hold(opened.frame_bytes == FRAME && opened.frames == ROUNDS, "its frames");
+    uint8_t *frame = lend(FRAME);
+    struct nyokazerubi_totals totals = {0, 0, 0, 0};
+    uint32_t decisions = 0;
+    for (size_t at = 0; at < opened.frames; at++) {
+        memcpy(frame, recording + at * FRAME, FRAME);
+        struct nyokazerubi_line line = run_frame(camera, &totals, frame, FRAME);
+        hold(line.refusal.number == 0 && line.decisions == met[at].decisions && line.end == met[at].end, "the cycle met");
+        hold(line.lowest == met[at].lowest && !line.overrun && !line.late, "its lowest level and its marks");
+        decisions += line.decisions;
+    }
+    hold(totals.frames == ROUNDS && totals.decisions == decisions && totals.overruns == 0 && totals.lates == 0, "the totals");
+
+    /* A refused frame counts in none, and the next one goes on: here one whose actions all take too long, which is no refusal. */
+    struct nyokazerubi_totals before = totals;
+    hold(run_frame(camera, &totals, frame, FRAME - 1).refusal.number == NYOKAZERUBI_REFUSED_ROOM, "a frame cut short");
+    frame[FRAME - 4] = 1;
+    hold(run_frame(camera, &totals, frame, FRAME).refusal.number == NYOKAZERUBI_REFUSED_DURATION, "an entry too long");
+    hold(memcmp(&totals, &before, sizeof totals) == 0, "they count in none");
+    for (size_t at = 0; at < FRAME; at++) frame[at] = at % 4 == 0 ? 0 : 0xff;
+    struct nyokazerubi_line line = run_frame(camera, &totals, frame, FRAME);
+    hold(line.refusal.number == 0 && line.end == 9 * NYOKAZERUBI_LONGEST_TIME && line.overrun && line.late, "the longest frame");
+    hold(totals.frames == ROUNDS + 1 && totals.overruns == 1 && totals.lates == 1, "it is counted");
+    free(frame);
+    printf("%u frames, %u decisions\n", totals.frames, totals.decisions);
 }
 
 /* New averages from the trace of the cycle. */
@@ -167,12 +238,15 @@ int main(void) {
     profile(&camera);
     plan(&camera);
     uint32_t *durations = lend(camera.cells * sizeof *durations);
-    uint8_t *trace = lend(5 * camera.n);
-    for (int round = 0; round < 5; round++) {
-        cycle(&camera, durations, trace);
+    uint8_t *trace = lend(5 * camera.n), *recording = lend(ROUNDS * FRAME);
+    struct nyokazerubi_line met[ROUNDS];
+    for (size_t round = 0; round < ROUNDS; round++) {
+        met[round] = cycle(&camera, durations, trace);
+        put_frame(durations, camera.cells, recording + round * FRAME);
         dry(&camera, durations);
         refresh(&camera, trace, 5 * camera.n);
     }
+    rehearse(&camera, recording, met);
     readings(&camera);
 
     /* A refused start, and a call on its record. */
@@ -180,7 +254,8 @@ int main(void) {
     hold(nyokazerubi_start(&camera.run, 9, 9).number == NYOKAZERUBI_REFUSED_COUNT && camera.run.n == 0, "9 levels");
     hold(nyokazerubi_start(&camera.run, (size_t)-1, 8).number == NYOKAZERUBI_REFUSED_COUNT && camera.run.n == 0, "all of a size_t");
     hold(nyokazerubi_report(&camera.run, 0, camera.worst, camera.cells).number == NYOKAZERUBI_REFUSED_TURN, "a record of zero actions");
-    free(durations), free(trace), free(camera.image), free(camera.order), free(camera.limits), free(camera.worst), free(camera.bounds);
+    free(durations), free(trace), free(recording);
+    free(camera.image), free(camera.order), free(camera.limits), free(camera.worst), free(camera.bounds);
     printf("every answer is as it must be\n");
     return 0;
 }

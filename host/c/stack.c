@@ -10,8 +10,8 @@
 
 enum { N = 64, L = 8, TABLE = N * L, BOUNDS = 16 * TABLE, IMAGE = 6 + N * (12 + 6 * L), RECORDS = 2000, ROOM = 1 << 18 };
 
-static uint8_t image[IMAGE], fresh[IMAGE], order[N], given[N], marks[N], trace[5 * RECORDS];
-static int32_t limits[TABLE], bounds[BOUNDS];
+static uint8_t image[IMAGE], fresh[IMAGE], order[N], given[N], marks[N], trace[5 * RECORDS], frame[4 * TABLE];
+static int32_t limits[TABLE], bounds[BOUNDS], none[BOUNDS];
 static uint32_t worst[TABLE], averages[TABLE], deadlines[N], durations[TABLE];
 static uint64_t masks[N];
 static size_t bytes;
@@ -34,6 +34,8 @@ static void profile(void) {
     bytes = nyokazerubi_write(N, 2, 9 * 63 + 11, masks, N, deadlines, N, averages, TABLE, worst, TABLE, image, IMAGE).bytes;
     hold(bytes > 0, "a profile");
     for (size_t at = 0; at < RECORDS; at++) trace[5 * at] = (uint8_t)(128 + 2 * (at % N));
+    for (size_t cell = 0; cell < TABLE; cell++) frame[4 * cell + 3] = (uint8_t)durations[cell];
+    for (size_t at = 0; at < BOUNDS; at++) none[at] = NYOKAZERUBI_ABSENT_BOUND;
 }
 
 static void nothing(void) {}
@@ -47,13 +49,22 @@ static void dry_run(void) {
 }
 /* Each action decided by itself, 64 times. */
 static void dry_alone(void) {
-    static int32_t none[BOUNDS];
-    for (size_t at = 0; at < BOUNDS; at++) none[at] = NYOKAZERUBI_ABSENT_BOUND;
     hold(nyokazerubi_dry_run(N, 2, limits, TABLE, worst, TABLE, none, BOUNDS, durations, TABLE, given, N, marks, N).decisions == N, "64 decisions");
 }
 static void dry_frame(void) {
     hold(nyokazerubi_dry_frame(image, bytes, durations, TABLE, order, N, given, N, marks, N).decisions == 32, "32 decisions from the image");
 }
+
+static void open_recording(void) {
+    hold(nyokazerubi_open_recording(image, bytes, sizeof frame, order, N, limits, TABLE, worst, TABLE, bounds, BOUNDS).frames == 4, "4 frames");
+}
+/* A frame on totals of its own, with all coasts and with none. */
+static uint32_t decisions_of_frame(const int32_t *with) {
+    struct nyokazerubi_totals totals = {0, 0, 0, 0};
+    return nyokazerubi_rehearse(&totals, N, 2, limits, TABLE, worst, TABLE, with, BOUNDS, frame, sizeof frame).decisions;
+}
+static void rehearse(void) { hold(decisions_of_frame(bounds) == 32, "32 decisions of a frame"); }
+static void rehearse_alone(void) { hold(decisions_of_frame(none) == N, "64 decisions of a frame"); }
 
 static void *in_thread(void *job) {
     (*(void (**)(void))job)();
@@ -79,15 +90,21 @@ static size_t again(void (*job)(void)) {
     return used(job);
 }
 
+static size_t most(void (*one)(void), void (*other)(void)) {
+    size_t first = again(one), second = again(other);
+    return first < second ? second : first;
+}
+
 int main(void) {
     profile();
-    size_t none = again(nothing);
+    size_t still = again(nothing);
     static const struct {
         const char *name;
         void (*job)(void);
-    } jobs[] = {{"check", check}, {"plan", plan}, {"refresh", refresh}, {"on_time", reading}, {"dry_frame", dry_frame}};
-    for (size_t at = 0; at < sizeof jobs / sizeof *jobs; at++) printf("nyokazerubi_%s %zu\n", jobs[at].name, again(jobs[at].job) - none);
-    size_t turns = again(dry_run), alone = again(dry_alone);
-    printf("nyokazerubi_dry_run %zu\n", (turns < alone ? alone : turns) - none);
+    } jobs[] = {{"check", check},     {"plan", plan},           {"refresh", refresh},
+                {"on_time", reading}, {"dry_frame", dry_frame}, {"open_recording", open_recording}};
+    for (size_t at = 0; at < sizeof jobs / sizeof *jobs; at++) printf("nyokazerubi_%s %zu\n", jobs[at].name, again(jobs[at].job) - still);
+    printf("nyokazerubi_dry_run %zu\n", most(dry_run, dry_alone) - still);
+    printf("nyokazerubi_rehearse %zu\n", most(rehearse, rehearse_alone) - still);
     return 0;
 }
