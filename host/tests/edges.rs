@@ -318,9 +318,10 @@ fn long_entries() {
             calls.rehearse(&mut Totals::default(), 3, 2, plan.tables(), &big_endian(durations)).map(|line| line.end)
         };
         for (cell, long) in (0..6).flat_map(|cell| [LONGEST_TIME + 1, 1 << 31, u32::MAX].map(|long| (cell, long))) {
-            let mut durations = [6, 6, 8, 8, 4, 4];
-            durations[cell] = long;
-            assert_eq!(rehearse(&durations), Err(16), "{long} at {cell}");
+            for mut durations in [[0; 6], [6, 6, 8, 8, 4, 4]] {
+                durations[cell] = long;
+                assert_eq!(rehearse(&durations), Err(16), "{long} at {cell}");
+            }
         }
         assert_eq!(rehearse(&[6, 6, 8, 8, 4, 4, u32::MAX]), Ok(18));
         // The longest that there may be; of those at a level that is not given nothing is seen.
