@@ -2,7 +2,7 @@
 // dry-run program prints for both. 000 to 070 come with the rules, the first three of them cases 1 to 3 of its worked values: Three with the
 // durations 6, 8, 4, then 0, 8, 8, then 8, 4, 8, each at both levels. Those from 071 on are written by the independent program of host/.
 // Last, what the programs print where a file is not there: it is empty, so an image is refused as short and durations are too few.
-use files::read_file;
+use test_kit::read_case;
 use test_kit::sum_up;
 use test_kit::tell;
 ghost use Rattle.io.specs.Counts.{Counts};
@@ -11,18 +11,6 @@ const CASES: usize = 418;
 
 // A number that no file has.
 const ABSENT: usize = 999;
-
-// How much of a case's file there is at the start of `out`: the file whose name is the case in three digits, then `what`.
-fn read_case(case: usize, what: &[u8], out: &mut [u8]) -> usize
-    ensures { λ r. ⌜ Counts r (now (out .exit)) ⌝ }
-{
-    let mut name = [0u8; 32];
-    let hundreds = text::put_digit(&mut name, 0, case / 100);
-    let tens = text::put_digit(&mut name, hundreds, case / 10);
-    let ones = text::put_digit(&mut name, tens, case);
-    let end = text::put_bytes(&mut name, ones, what);
-    read_file(&name[..end], out)
-}
 
 // What the plan program prints for a case's profile.
 fn plan(case: usize, out: &mut [u8]) -> usize

@@ -1,6 +1,6 @@
-// What the programs that run under the gate share: sample images, the numbers of a case, and lines on standard output. A case is a line of text,
-// told again with what came of it. No contract of `io` can say which bytes a write takes, so what only writes promises only that it ends: what a
-// program wrote is compared with its file `stdout`.
+// What the programs that run under the gate share: sample images, the files and the numbers of a case, and lines on standard output. A case is
+// files of one number, or a line of text, told again with what came of it. No contract of `io` can say which bytes a write takes, so what only
+// writes promises only that it ends: what a program wrote is compared with its file `stdout`.
 use text::put_bytes;
 ghost use Prim.Native.Nat.{ℕ, _+_, _≤_, _<_, min};
 ghost use mathlib.Core.Path.{_≡_};
@@ -9,6 +9,27 @@ ghost use Rattle.io.specs.Counts.{Counts};
 ghost use Rattle.text.specs.Words.{from-word, digits-say, capped};
 
 pub mod samples;
+
+// ---- the files of a case
+
+// The name of a case's file at the start of `out`: the case in three digits, then `what`. Answers how many bytes it has.
+pub fn case_name(case: usize, what: &[u8], out: &mut [u8]) -> usize
+    ensures { λ r. ⌜ Counts r (now (out .exit)) ⌝ }
+{
+    let hundreds = text::put_digit(&mut *out, 0, case / 100);
+    let tens = text::put_digit(&mut *out, hundreds, case / 10);
+    let ones = text::put_digit(&mut *out, tens, case);
+    put_bytes(out, ones, what)
+}
+
+// How much of that file there is at the start of `out`.
+pub fn read_case(case: usize, what: &[u8], out: &mut [u8]) -> usize
+    ensures { λ r. ⌜ Counts r (now (out .exit)) ⌝ }
+{
+    let mut name = [0u8; 32];
+    let end = case_name(case, what, &mut name);
+    files::read_file(&name[..end], out)
+}
 
 // ---- what a case says
 
