@@ -1,12 +1,11 @@
 -- What the dry-run program prints of an image and the bytes of its durations.
-use Prim.Native.Nat.{ℕ, suc, _*_, _/_, min}
+use Prim.Native.Nat.{ℕ, suc, _*_}
 use mathlib.Core.Path.{_≡_}
 use mathlib.Core.Bool.{Bool}
 use mathlib.Core.List.{List, [], _∷_, _++_}
 use lib.ListN.{length}
-use Rattle.rules.specs.Numbers.{most-actions, most-levels}
-use Rattle.rules.specs.Words.{cat, tab, one-if}
-use Rattle.rules.specs.Image.{be, profile}
+use Rattle.rules.specs.Words.{cat, one-if}
+use Rattle.rules.specs.Image.{profile}
 use Rattle.rules.specs.Order.{Order, TheOrder}
 use Rattle.rules.specs.Refusals.{First, kept}
 use Rattle.rules.specs.Run.{decides}
@@ -24,10 +23,6 @@ four-line a b c d = line (decimal a ∷ decimal b ∷ decimal c ∷ decimal d �
 abbrev pub dry-text : ℕ → (ℕ → ℕ) → (ℕ → ℕ) → (ℕ → ℕ) → ℕ → ℕ → Bool → Bool → List ℕ
 dry-text n action level decided decisions end overrun late =
     cat (λ i. four-line i (action i) (level i) (decided i)) n ++ four-line decisions end (one-if overrun) (one-if late)
-
--- The durations that the bytes say, four bytes each, high byte first. No profile has more entries than 64 by 8: further ones are not read.
-abbrev pub durations : List ℕ → List ℕ
-durations bytes = tab (λ k. be bytes (k * 4) 4) (min (length bytes / 4) (most-actions * most-levels))
 
 -- That text of the image s and the durations d, or their refusal, is put into the buffer from its start on. Without a refusal the order is the
 -- profile's; with one o counts for nothing. Too few durations are 17.

@@ -1,4 +1,4 @@
--- What both programs print where the image or the durations are refused.
+-- What the programs print where an image, durations or a frame is refused.
 use Prim.Native.Nat.{ℕ}
 use mathlib.Core.List.{List, [], _∷_}
 use Rattle.text.specs.Digits.{decimal, line}

@@ -2,33 +2,14 @@
 use crate::line::put_four;
 use crate::line::put_refusal;
 use dry_frame::Framed;
-ghost use Prim.Native.Nat.{_*_, _/_, _≤_, min};
-ghost use mathlib.Core.Path.{_≡_};
-ghost use lib.ListN.{length, getD, take};
+ghost use Prim.Native.Nat.{_≤_};
+ghost use lib.ListN.{length, getD};
 ghost use Rattle.io.specs.Counts.{Counts};
 ghost use Rattle.rules.specs.Numbers.{most-actions};
-ghost use Rattle.rules.specs.Words.{cat, tab, one-if};
-ghost use Rattle.rules.specs.Image.{be};
+ghost use Rattle.rules.specs.Words.{cat, one-if};
+ghost use Rattle.rules.specs.Recording.{durations};
 ghost use Rattle.text.specs.Put.{Puts};
-ghost use Rattle.print.specs.Dry.{four-line, durations, TellsDry};
-
-// The durations that the bytes say, four bytes each, high byte first, as far as there is room for them. Answers how many.
-fn take_durations(bytes: &[u8], durations: &mut [u32]) -> usize
-    ensures { λ r. ⌜ Counts r (now (durations .exit)) ⌝ }
-    ensures { λ r. ⌜ take r (now (durations .exit))
-        ≡ tab (λ k. be (now (bytes .entry)) (k * 4) 4) (min (length (now (bytes .entry)) / 4) (length (now (durations .entry)))) ⌝ }
-{
-    let said = bytes.len() / 4;
-    let mut k = 0;
-    while k < durations.len() {
-        if said <= k {
-            return k;
-        }
-        durations[k] = fields::be32(bytes, k * 4);
-        k += 1;
-    }
-    k
-}
+ghost use Rattle.print.specs.Dry.{four-line, TellsDry};
 
 // Position, action, level and decided, a line for each position.
 fn put_steps(out: &mut [u8], order: &[u8], given: &[u8], marks: &[u8], n: usize) -> usize
@@ -49,21 +30,14 @@ fn put_steps(out: &mut [u8], order: &[u8], given: &[u8], marks: &[u8], n: usize)
     to
 }
 
-// 1 for yes, 0 for no.
-fn mark(yes: bool) -> u32
-    ensures { λ r. ⌜ r ≡ one-if yes ⌝ }
-{
-    if yes { 1 } else { 0 }
-}
-
 // Decisions, end, overrun, late.
 fn put_end(out: &mut [u8], at: usize, framed: Framed) -> usize
     requires { ⌜ Counts at (now out) ⌝ }
     ensures { λ r. ⌜ Puts (now (out .entry)) at
         (four-line (framed .decisions) (framed .end) (one-if (framed .overrun)) (one-if (framed .late))) (now (out .exit)) r ⌝ }
 {
-    let overrun = mark(framed.overrun);
-    let late = mark(framed.late);
+    let overrun = run::one_if(framed.overrun);
+    let late = run::one_if(framed.late);
     put_four(out, at, framed.decisions, framed.end, overrun, late)
 }
 
@@ -72,7 +46,7 @@ pub fn dry_text(image: &[u8], bytes: &[u8], out: &mut [u8]) -> usize
     ensures { λ r. ⌜ TellsDry (now (image .entry)) (durations (now (bytes .entry))) (now (out .entry)) (now (out .exit)) r ⌝ }
 {
     let mut durations = [0u32; 512];
-    let count = take_durations(bytes, &mut durations);
+    let count = recording::take_durations(bytes, &mut durations);
     let mut order = [0u8; 64];
     let mut given = [0u8; 64];
     let mut marks = [0u8; 64];
@@ -85,7 +59,7 @@ pub fn dry_text(image: &[u8], bytes: &[u8], out: &mut [u8]) -> usize
     );
     let refusal = framed.refusal;
     if refusal.number != 0 {
-        return put_refusal(out, refusal.number);
+        return put_refusal(out, 0, refusal.number);
     }
     let at = put_steps(&mut *out, &order, &given, &marks, framed.n);
     put_end(out, at, framed)

@@ -30,9 +30,10 @@ pub fn put_four(out: &mut [u8], at: usize, a: u32, b: u32, c: u32, d: u32) -> us
 }
 
 // A refusal is one line, `refused` and the number.
-pub fn put_refusal(out: &mut [u8], number: u32) -> usize
-    ensures { λ r. ⌜ Puts (now (out .entry)) 0 (refused-text number) (now (out .exit)) r ⌝ }
+pub fn put_refusal(out: &mut [u8], at: usize, number: u32) -> usize
+    requires { ⌜ Counts at (now out) ⌝ }
+    ensures { λ r. ⌜ Puts (now (out .entry)) at (refused-text number) (now (out .exit)) r ⌝ }
 {
-    let at = put_bytes(&mut *out, 0, b"refused ");
-    put_field(out, at, number, b'\n')
+    let end = put_bytes(&mut *out, at, b"refused ");
+    put_field(out, end, number, b'\n')
 }

@@ -96,7 +96,7 @@ pub fn plan_text(image: &[u8], out: &mut [u8]) -> usize
     let planned = planner::plan(image, &mut order, &mut limits, &mut worst, &mut bounds);
     let refusal = planned.refusal;
     if refusal.number != 0 {
-        return put_refusal(out, refusal.number);
+        return put_refusal(out, 0, refusal.number);
     }
     let at = put_counts(&mut *out, planned);
     put_positions(out, at, &order, &limits, planned.n, planned.levels)

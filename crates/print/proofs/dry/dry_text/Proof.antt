@@ -3,6 +3,7 @@ use Prim.Native.Nat.{zero-le}
 use native.Mathlib.Omega.{arith}
 use lib.Dec.{lit≤}
 use borrow.Author.Needs.{needs}
+use Rattle.fields.proofs.Written.{tab-taken}
 use Rattle.text.proofs.Puts.{put-then}
 use Rattle.print.proofs.Frames.{positions, dry-refused, dry-told}
 use Rattle.print.proofs.dry.dry_text.Statement.{statement}
@@ -14,7 +15,7 @@ returns c =
     let refused = put .before .before in
     let framed = refused .before .before .before .before .before .before in
     let said = framed .before .before .before .before .before .before in
-    let frames = rw (said .take-durations .ensures .1) at (framed .dry-frame .ensures) in
+    let frames = rw (tab-taken _ _ _ (said .take-durations .ensures .1) (said .take-durations .ensures .0 .0)) at (framed .dry-frame .ensures) in
     dry-refused frames (record { order-room = lit≤ tt; levels-room = lit≤ tt; decided-room = lit≤ tt })
     (refused .if1 .taken) (put .put-refusal .ensures)
 
@@ -33,7 +34,7 @@ returns-2 c =
     let accepted = steps .before .before .before .before .before in
     let framed = accepted .before .before .before .before .before .before in
     let said = framed .before .before .before .before .before .before in
-    let frames = rw (said .take-durations .ensures .1) at (framed .dry-frame .ensures) in
+    let frames = rw (tab-taken _ _ _ (said .take-durations .ensures .1) (said .take-durations .ensures .0 .0)) at (framed .dry-frame .ensures) in
     dry-told frames (record { order-room = lit≤ tt; levels-room = lit≤ tt; decided-room = lit≤ tt })
     (accepted .if1 .left) (put-then zero-le (steps .put-steps .ensures) (end .put-end .ensures))
 

@@ -7,7 +7,7 @@ returns : tie.Need-returns
 returns c =
     let put = c .before .before in
     let late = put .before .before in
-    rw (late .before .mark .ensures, late .mark2 .ensures) at (put .put-four .ensures)
+    rw (late .before .one-if .ensures .0, late .one-if2 .ensures .0) at (put .put-four .ensures)
 
 pub put-end-spec : {M : Type 1} → statement M
 put-end-spec =

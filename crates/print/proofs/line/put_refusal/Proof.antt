@@ -1,5 +1,4 @@
 -- The word with its space, and the number with the newline. Assumes nothing.
-use Prim.Native.Nat.{zero-le}
 use borrow.Author.Needs.{needs}
 use Rattle.text.specs.Digits.{line}
 use Rattle.text.proofs.Puts.{put-then}
@@ -12,7 +11,7 @@ unfolding line refused-text
 returns c =
     let number = c .before .before in
     let word = number .before .before .before .before in
-    put-then zero-le (word .put-bytes .ensures) (number .put-field .ensures)
+    put-then (search needs) (word .put-bytes .ensures) (number .put-field .ensures)
 
 pub put-refusal-spec : {M : Type 1} → statement M
 put-refusal-spec =
