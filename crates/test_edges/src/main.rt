@@ -4,6 +4,7 @@ fn main() {
     tell_file(b"profile.txt");
     tell_file(b"run.txt");
     tell_file(b"cycle.txt");
+    tell_file(b"frames.txt");
     tell_file(b"speed.txt");
     tell_file(b"averages.txt");
 }
@@ -28,6 +29,7 @@ fn tell(line: &[u8], file: u8) {
         b'p' => test_profile::tell(line),
         b'r' => test_run::tell(line),
         b'c' => test_cycle::tell(line),
+        b'f' => test_recording::tell(line),
         b's' => test_speed::tell(line),
         _ => test_refresh::tell(line),
     }
