@@ -117,6 +117,10 @@ fn examples() {
     assert_eq!(file("encoder.durations"), averages.map(u32::to_be_bytes).concat());
     assert_eq!(file("three.image"), common::three(20));
     assert_eq!(file("three.durations"), twice([6, 8, 4]));
+    let frames = [[6, 8, 4], [0, 8, 8], [0, 0, 16_777_216], [8, 4, 8]];
+    assert_eq!(file("three.recording"), frames.map(twice).concat());
+    let text = "3 0 18 0 0\n2 1 16 0 0\nrefused 16\n3 0 20 0 0\n3 8 0 0\n";
+    assert_eq!(text::rehearse(&Product, &file("three.image"), &file("three.recording")), text);
 }
 
 /// The product's own profile of the encoder, and a lent image that is too short or longer.
