@@ -12,7 +12,7 @@ ghost use Prim.Native.Nat.{_<_};
 ghost use mathlib.Core.Path.{_≡_};
 ghost use lib.ListN.{length};
 
-// A recording to be opened begins with the name of its profile; a frame with `frame`, or the file of an image.
+// A recording to be opened begins with the name of its profile, a frame with `frame` or the file of an image; what begins with # is a heading.
 pub fn tell(line: &[u8]) {
     io::write_all(1, line);
     match test_kit::first(line) {
@@ -139,6 +139,7 @@ fn tell_twice(line: &[u8]) {
     open_and_tell(&image[..bytes], test_kit::numbers(line));
 }
 
+// An empty recording opens the image as well as any.
 fn open_and_tell(image: &[u8], row: [u32; 24]) {
     let mut order = [0u8; 64];
     let mut limits = [0i32; 512];
@@ -176,8 +177,9 @@ fn fill(frame: &mut [u8], row: [u32; 24], from: usize, levels: usize)
         return;
     }
     let mut k = 0;
-    while k < frame.len() / 4 {
-        fields::put32(frame, k * 4, duration(row, from, k / levels));
+    while k < frame.len() / rules::DURATION_BYTES {
+        let at = k * rules::DURATION_BYTES;
+        fields::put32(frame, at, duration(row, from, k / levels));
         k += 1;
     }
 }
