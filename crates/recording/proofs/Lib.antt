@@ -1,5 +1,7 @@
 pub mod Length
 pub mod Opening
+pub mod Entries
+pub mod Cycling
 pub mod Rehearsing
 pub mod Settled
 pub mod Demand

@@ -4,20 +4,27 @@
 // first. No call takes more of a recording than its length and one frame.
 use image_fields::read;
 use rules::Refusal;
-ghost use Prim.Native.Nat.{_*_, _-_, _/_, _≤_, _<_, min};
+use run::Run;
+ghost use Prim.Native.Nat.{_+_, _-_, _*_, _/_, _%_, _≤_, _<_, min};
 ghost use mathlib.Core.Path.{_≡_};
 ghost use mathlib.Core.Bool.{true, false};
 ghost use mathlib.Core.List.{[], _∷_, _++_};
 ghost use mathlib.Core.Logic.{_≢_};
+ghost use lib.Dec.{eqb};
 ghost use lib.ListN.{length, getD};
 ghost use Rattle.io.specs.Counts.{Counts};
 ghost use Rattle.rules.specs.Numbers.{most-actions, most-frames, duration-bytes, refused-turn, refused-trace};
-ghost use Rattle.rules.specs.Words.{tab};
+ghost use Rattle.rules.specs.Words.{all-pass, tab};
 ghost use Rattle.rules.specs.Image.{be};
 ghost use Rattle.rules.specs.Refusals.{_when_, First, image-checks};
-ghost use Rattle.rules.specs.Recording.{lowest-of, counted, totals-fit};
+ghost use Rattle.rules.specs.Run.{begun, ended};
+ghost use Rattle.rules.specs.Dry.{cell, dry-call};
+ghost use Rattle.rules.specs.Recording.{durations, counted, totals-fit};
 ghost use Rattle.fields.specs.Fields.{splice};
-ghost use Rattle.recording.specs.Recording.{Measures, Opens, totals-of, ran-said, Rehearses};
+ghost use Rattle.run.specs.Calls.{run-of};
+ghost use Rattle.run.specs.Cycle.{Running};
+ghost use Rattle.recording.specs.Recording.{Measures, Opens, totals-of, ran-said, recorded-rooms, Rehearses};
+ghost use Rattle.recording.specs.Cycle.{Waits, Cycling, Ends};
 
 // ---- the recording
 
@@ -152,26 +159,6 @@ pub fn take_durations(bytes: &[u8], durations: &mut [u32]) -> usize
     count
 }
 
-fn lower(a: u8, b: u8) -> u8
-    ensures { λ r. ⌜ r ≡ min a b ⌝ }
-{
-    if a < b { a } else { b }
-}
-
-// The lowest of n levels.
-fn lowest(given: &[u8], n: usize) -> u8
-    requires { ⌜ (0 < n) × (n ≤ length (now given)) ⌝ }
-    ensures { λ r. ⌜ r ≡ lowest-of (λ j. getD (now (given .entry)) j 0) (n - 1) ⌝ }
-{
-    let mut low = given[0];
-    let mut j = 1;
-    while j < n {
-        low = lower(low, given[j]);
-        j += 1;
-    }
-    low
-}
-
 // Whether each field is in its range.
 fn in_range(totals: Totals) -> bool
     ensures { λ r. ⌜ r ≡ totals-fit (totals-of totals) ⌝ }
@@ -227,6 +214,131 @@ fn uncounted(totals: Totals, refusal: Refusal) -> Counted
     }
 }
 
+// ---- a frame's refusals
+
+// Four bytes as one number, the first the lowest: they are tested for their first alone, and so they are loaded at once.
+fn four(s: &[u8], at: usize) -> u32
+    requires { ⌜ at + 4 ≤ length (now s) ⌝ }
+    ensures { λ r. ⌜ r % 256 ≡ getD (now (s .entry)) at 0 ⌝ }
+{
+    fields::wide32(s[at])
+        + fields::wide32(s[at + 1]) * 256
+        + fields::wide32(s[at + 2]) * 65_536
+        + fields::wide32(s[at + 3]) * 16_777_216
+}
+
+// Whether each of the first `cells` entries is at most 16,777,215, used or not: whether its first byte is 0. No test stands in the loop.
+fn all_short(frame: &[u8], cells: usize) -> bool
+    requires { ⌜ cells * duration-bytes ≤ length (now frame) ⌝ }
+    ensures { λ r. ⌜ r ≡ all-pass (λ k. eqb (getD (now (frame .entry)) (k * duration-bytes) 0) 0) cells ⌝ }
+{
+    let mut all = 0;
+    let mut k = 0;
+    while k < cells {
+        all = all | four(frame, k * rules::DURATION_BYTES);
+        k += 1;
+    }
+    all % 256 == 0
+}
+
+// Counts 3, room 17, an entry too long 16.
+fn frame_refusal(
+    n: usize,
+    levels: usize,
+    limits: &[i32],
+    worst: &[u32],
+    bounds: &[i32],
+    frame: &[u8],
+) -> u32
+    ensures { λ r. ⌜ First (dry-call n levels (durations (now (frame .entry))) (recorded-rooms n levels
+        (record { order = []; limits = now (limits .entry); worst = now (worst .entry); bounds = now (bounds .entry) }) (now (frame .entry)))) r ⌝ }
+{
+    if !run::counts_fit(n, levels) {
+        return rules::REFUSED_COUNT;
+    }
+    let cells = n * levels;
+    if (limits.len() < cells)
+        | (worst.len() < cells)
+        | (bounds.len() < cells * rules::LONGEST_COAST)
+        | (frame.len() < cells * rules::DURATION_BYTES)
+    {
+        return rules::REFUSED_ROOM;
+    }
+    if all_short(frame, cells) {
+        return 0;
+    }
+    rules::REFUSED_DURATION
+}
+
+// ---- a frame's cycle
+
+// A cycle so far: its record, and the lowest level given.
+struct Cycled {
+    run: Run,
+    lowest: u32,
+}
+
+fn lower(a: u32, b: u32) -> u32
+    ensures { λ r. ⌜ r ≡ min a b ⌝ }
+{
+    if a < b { a } else { b }
+}
+
+// The running action takes its duration at its level, read where it lies, and ends.
+fn passed(run: Run, worst: &[u32], frame: &[u8]) -> Run
+    requires { ⌜ Running (record { order = []; limits = []; worst = now worst; bounds = [] }) (durations (now frame)) (run-of run) ⌝ }
+    ensures { λ r. ⌜ run-of r ≡ ended (cell (now (worst .entry)) (run .levels) (run .position) (run .level))
+        (run .clock + cell (durations (now (frame .entry))) (run .levels) (run .position) (run .level)) (run-of run) ⌝ }
+{
+    let at = (run.position * run.levels + run.level) as usize;
+    let duration = fields::be32(frame, at * rules::DURATION_BYTES);
+    run.ended(worst[at], run.clock + duration)
+}
+
+// A decision and its coast, which keeps the level: the lowest level decided is the lowest given.
+fn stretch(from: Cycled, limits: &[i32], worst: &[u32], bounds: &[i32], frame: &[u8]) -> Cycled
+    requires { ⌜ Cycling (from .run .n) (from .run .levels) (record { order = []; limits = now limits; worst = now worst; bounds = now bounds })
+        (now frame) (run-of (from .run)) (from .lowest) ⌝ }
+    requires { ⌜ (from .run .left ≡ 0) × (from .run .position < from .run .n) ⌝ }
+    ensures { λ r. ⌜ Cycling (from .run .n) (from .run .levels)
+        (record { order = []; limits = now (limits .entry); worst = now (worst .entry); bounds = now (bounds .entry) })
+        (now (frame .entry)) (run-of (r .run)) (r .lowest) ⌝ }
+    ensures { λ r. ⌜ (r .run .left ≡ 0) × (r .run .n - r .run .position < from .run .n - from .run .position) ⌝ }
+{
+    let begun = from.run;
+    let decided = begun.decided(limits, bounds).run;
+    let lowest = lower(from.lowest, decided.level);
+    let mut run = passed(decided, worst, frame);
+    while 0 < run.left {
+        run = passed(run.coasted(), worst, frame);
+    }
+    Cycled { run, lowest }
+}
+
+// A whole cycle, stretch by stretch. No level is as high as the lowest begins.
+fn cycle(
+    n: usize,
+    levels: usize,
+    limits: &[i32],
+    worst: &[u32],
+    bounds: &[i32],
+    frame: &[u8],
+) -> Cycled
+    requires { ⌜ Waits (record { order = []; limits = now limits; worst = now worst; bounds = now bounds }) (now frame) (begun n levels 0) ⌝ }
+    ensures { λ r. ⌜ Ends n levels (record { order = []; limits = now (limits .entry); worst = now (worst .entry); bounds = now (bounds .entry) })
+        (now (frame .entry)) (run-of (r .run)) (r .lowest) ⌝ }
+{
+    let run = run::begun(n as u32, levels as u32);
+    let mut at = Cycled {
+        run,
+        lowest: rules::MOST_LEVELS as u32,
+    };
+    while at.run.position < at.run.n {
+        at = stretch(at, limits, worst, bounds, frame);
+    }
+    at
+}
+
 // A frame run dry over the planned tables: its line, and the totals with it. A refused frame leaves the totals as they were.
 pub fn rehearse(
     totals: Totals,
@@ -240,36 +352,23 @@ pub fn rehearse(
     ensures { λ r. ⌜ Rehearses n levels (record { order = []; limits = now (limits .entry); worst = now (worst .entry); bounds = now (bounds .entry) })
         (now (frame .entry)) (totals-of totals) r ⌝ }
 {
-    let number = totals_refusal(totals);
+    let untaken = totals_refusal(totals);
+    if untaken != 0 {
+        return uncounted(totals, Refusal { number: untaken });
+    }
+    let number = frame_refusal(n, levels, limits, worst, bounds, frame);
     if number != 0 {
         return uncounted(totals, Refusal { number });
     }
-    // room for the greatest profile: 64 actions at 8 levels
-    let mut durations = [0u32; 512];
-    let count = take_durations(frame, &mut durations);
-    let mut given = [0u8; 64];
-    let mut marks = [0u8; 64];
-    let dried = run::dry::dry_run(
-        n,
-        levels,
-        limits,
-        worst,
-        bounds,
-        &durations[..count],
-        &mut given,
-        &mut marks,
-    );
-    let refusal = dried.refusal;
-    if refusal.number != 0 {
-        return uncounted(totals, refusal);
-    }
+    let cycled = cycle(n, levels, limits, worst, bounds, frame);
+    let last = cycled.run;
     let line = Line {
-        refusal,
-        decisions: dried.decisions,
-        lowest: lowest(&given, n) as u32,
-        end: dried.end,
-        overrun: dried.overrun,
-        late: dried.late,
+        refusal: Refusal { number },
+        decisions: last.decisions,
+        lowest: cycled.lowest,
+        end: last.clock,
+        overrun: last.overrun,
+        late: last.late,
     };
     Counted {
         totals: with_line(totals, line),

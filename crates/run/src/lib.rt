@@ -1,4 +1,5 @@
-// The run record and its calls: start, ask and report. Each call takes the record and hands the next one back. `dry` runs a whole cycle.
+// The run record and its calls: start, ask and report. Each call takes the record and hands the next one back. `dry` runs a whole cycle. What a
+// turn is made of is public too, for `recording`, which runs a cycle where a frame's bytes lie.
 use rules::Refusal;
 ghost use mathlib.Core.Path.{_≡_};
 ghost use mathlib.Core.Bool.{not};
@@ -58,9 +59,9 @@ pub struct Reported {
 }
 
 // A decision made: the record with the action running, and whether no level fits.
-struct Decided {
-    run: Run,
-    late: bool,
+pub struct Decided {
+    pub run: Run,
+    pub late: bool,
 }
 
 pub fn one_if(b: bool) -> u32
@@ -70,7 +71,7 @@ pub fn one_if(b: bool) -> u32
 }
 
 // A start sets n and L, all else 0 or no.
-fn begun(n: u32, levels: u32) -> Run
+pub fn begun(n: u32, levels: u32) -> Run
     ensures { λ r. ⌜ run-of r ≡ begun n levels 0 ⌝ }
 {
     Run {
@@ -88,7 +89,7 @@ fn begun(n: u32, levels: u32) -> Run
 }
 
 // Whether n and L are in their ranges.
-fn counts_fit(n: usize, levels: usize) -> bool
+pub fn counts_fit(n: usize, levels: usize) -> bool
     ensures { λ r. ⌜ r ≡ eqb (start-refusal n levels) 0 ⌝ }
 {
     !((n < 1) | (rules::MOST_ACTIONS < n) | (levels < 1) | (rules::MOST_LEVELS < levels))
@@ -148,7 +149,7 @@ impl Run {
     }
 
     // A decision here and now takes the level given, leaves r - 1 to coast, counts, and sets the late mark where no level fits.
-    fn decided(self, limits: &[i32], bounds: &[i32]) -> Decided
+    pub fn decided(self, limits: &[i32], bounds: &[i32]) -> Decided
         requires { ⌜ Open (record { order = []; limits = now limits; worst = []; bounds = now bounds }) (run-of self) ⌝ }
         ensures run { λ r. ⌜ run-of (r .run) ≡ decide longest-coast (lent (self .n) (self .levels)
             (record { order = []; limits = now (limits .entry); worst = []; bounds = now (bounds .entry) })) (run-of self) ⌝ }
@@ -173,7 +174,7 @@ impl Run {
     }
 
     // A coasted asking gives the same level undecided and lowers what is left by 1.
-    fn coasted(self) -> Run
+    pub fn coasted(self) -> Run
         requires { ⌜ 0 < self .left ⌝ }
         ensures { λ r. ⌜ run-of r ≡ coast (run-of self) ⌝ }
     {
@@ -185,7 +186,7 @@ impl Run {
 
     // The action's end at a clock, where its worst time at its level is `worst`: a longer duration sets the overrun mark and cancels the rest of
     // the coast.
-    fn ended(self, worst: u32, clock: u32) -> Run
+    pub fn ended(self, worst: u32, clock: u32) -> Run
         requires { ⌜ (self .position < most-actions) × (self .clock ≤ clock) ⌝ }
         ensures { λ r. ⌜ run-of r ≡ ended worst clock (run-of self) ⌝ }
     {

@@ -143,7 +143,7 @@ module _ {T : LentTables} {durations : List ℕ} {lists₀ : DryLists} {r₀ : R
   -- its end
   module _ {next : Run} (ends : next ≡ ended (cell (T .worst) (asked .levels) (asked .position) (asked .level))
       (asked .clock + cell durations (asked .levels) (asked .position) (asked .level)) asked) where
-    is-stepped : next ≡ stepped T durations r
+    pub is-stepped : next ≡ stepped T durations r
     unfolding step
     is-stepped =
         ends
@@ -155,7 +155,7 @@ module _ {T : LentTables} {durations : List ℕ} {lists₀ : DryLists} {r₀ : R
     unfolding step ended
     one-stepped level e = record { more = turn .more; is = is-stepped; level-is = e ∙ ap (λ (s : Run). s .level) (turn .is); mark-is = turn .mark-is }
 
-    ready-more : (after : DryLists) → length (after .levels) ≡ length (lists .levels) → length (after .decided) ≡ length (lists .decided)
+    pub ready-more : (after : DryLists) → length (after .levels) ≡ length (lists .levels) → length (after .decided) ≡ length (lists .decided)
         → Waiting T durations after next
     unfolding ended
     ready-more after same-levels same-marks = record {

@@ -56,16 +56,16 @@ few-cells c = mul-le-mul (c .few) (c .few-levels)
 -- ---- 17
 
 -- some slice is shorter than needed
-short-of : List (ℕ × ℕ) → Bool
+unfoldable pub short-of : List (ℕ × ℕ) → Bool
 short-of [] = false
 short-of (r ∷ rest) = ltb (r .0) (r .1) || short-of rest
 
-is-tight : (rooms : List (ℕ × ℕ)) → short-of rooms ≡ true → Tight rooms
+pub is-tight : (rooms : List (ℕ × ℕ)) → short-of rooms ≡ true → Tight rooms
 unfolding short-of
 is-tight [] h = absurd (false≢true h)
 is-tight (r ∷ rest) h = ⊎-elim (λ e. inl (ltb-true (r .0) (r .1) e)) (λ e. inr (is-tight rest e)) (or-true _ _ .0 h)
 
-not-tight : (rooms : List (ℕ × ℕ)) → short-of rooms ≡ false → Tight rooms → ⊥
+pub not-tight : (rooms : List (ℕ × ℕ)) → short-of rooms ≡ false → Tight rooms → ⊥
 unfolding short-of
 not-tight [] h t = t
 not-tight (r ∷ rest) h t =
