@@ -216,7 +216,8 @@ fn uncounted(totals: Totals, refusal: Refusal) -> Counted
 
 // ---- a frame's refusals
 
-// Four bytes as one number, the first the lowest: they are tested for their first alone, and so they are loaded at once.
+// Four bytes as one number, the first the lowest, summed up by what each is worth: a compiler makes one load of it. The first alone is asked
+// for, but by itself it would be picked out of each entry, one after another.
 fn four(s: &[u8], at: usize) -> u32
     requires { ⌜ at + 4 ≤ length (now s) ⌝ }
     ensures { λ r. ⌜ r % 256 ≡ getD (now (s .entry)) at 0 ⌝ }
@@ -227,7 +228,8 @@ fn four(s: &[u8], at: usize) -> u32
         + fields::wide32(s[at + 3]) * 16_777_216
 }
 
-// Whether each of the first `cells` entries is at most 16,777,215, used or not: whether its first byte is 0. No test stands in the loop.
+// Whether each of the first `cells` entries is at most 16,777,215, used or not: whether its first byte is 0. The bits of all are joined, so that
+// no test stands in the loop.
 fn all_short(frame: &[u8], cells: usize) -> bool
     requires { ⌜ cells * duration-bytes ≤ length (now frame) ⌝ }
     ensures { λ r. ⌜ r ≡ all-pass (λ k. eqb (getD (now (frame .entry)) (k * duration-bytes) 0) 0) cells ⌝ }
@@ -295,7 +297,7 @@ fn passed(run: Run, worst: &[u32], frame: &[u8]) -> Run
     run.ended(worst[at], run.clock + duration)
 }
 
-// A decision and its coast, which keeps the level: the lowest level decided is the lowest given.
+// A decision and its coast, in a loop of its own. A coast keeps the level, so the lowest level decided is the lowest given.
 fn stretch(from: Cycled, limits: &[i32], worst: &[u32], bounds: &[i32], frame: &[u8]) -> Cycled
     requires { ⌜ Cycling (from .run .n) (from .run .levels) (record { order = []; limits = now limits; worst = now worst; bounds = now bounds })
         (now frame) (run-of (from .run)) (from .lowest) ⌝ }
@@ -315,7 +317,7 @@ fn stretch(from: Cycled, limits: &[i32], worst: &[u32], bounds: &[i32], frame: &
     Cycled { run, lowest }
 }
 
-// A whole cycle, stretch by stretch. No level is as high as the lowest begins.
+// A whole cycle, stretch by stretch. The lowest begins above every level.
 fn cycle(
     n: usize,
     levels: usize,
