@@ -1,4 +1,4 @@
--- The worked texts of the rules, and the lines of a recording of case 1, computed. Assumes nothing.
+-- The worked texts of the rules, computed. Assumes nothing.
 use Prim.Native.Nat.{ℕ}
 use mathlib.Core.Path.{_≡_, refl}
 use mathlib.Core.Bool.{false}
@@ -7,10 +7,9 @@ use lib.IntN.{ℤ, pos}
 use lib.ListN.{getD}
 use Rattle.rules.specs.Words.{cat}
 use Rattle.text.specs.Digits.{newline, space, last-digits, decimal, line}
-use Rattle.print.specs.Refused.{refused-text}
 use Rattle.print.specs.Plan.{counts-line, position-line, plan-text}
-use Rattle.print.specs.Dry.{four-line, dry-text}
-use Rattle.print.specs.Rehearse.{line-text, totals-text}
+use Rattle.print_lines.specs.Lines.{four-line}
+use Rattle.print.specs.Dry.{dry-text}
 
 limits-of-three : ℕ → ℕ → ℤ
 limits-of-three i q = getD (getD ((pos 8 ∷ pos 0 ∷ []) ∷ (pos 12 ∷ pos 6 ∷ []) ∷ (pos 16 ∷ pos 12 ∷ []) ∷ []) i []) q (pos 0)
@@ -30,22 +29,3 @@ dry-case-1 : dry-text 3 (λ i. i) (λ i. getD (1 ∷ 1 ∷ 0 ∷ []) i 0) (λ i.
     ∷ 51 ∷ space ∷ 49 ∷ 56 ∷ space ∷ 48 ∷ space ∷ 48 ∷ newline ∷ []
 unfolding cat line decimal last-digits four-line
 dry-case-1 = refl
-
-refused-9 : refused-text 9 ≡ 114 ∷ 101 ∷ 102 ∷ 117 ∷ 115 ∷ 101 ∷ 100 ∷ space ∷ 57 ∷ newline ∷ []
-unfolding line decimal last-digits refused-text
-refused-9 = refl
-
-line-of-case-1 : line-text (record { refusal = record { number = 0 }; decisions = 3; lowest = 0; end = 18; overrun = false; late = false }) ≡
-    51 ∷ space ∷ 48 ∷ space ∷ 49 ∷ 56 ∷ space ∷ 48 ∷ space ∷ 48 ∷ newline ∷ []
-unfolding line decimal last-digits line-text
-line-of-case-1 = refl
-
-line-of-a-refused-frame : line-text (record { refusal = record { number = 16 }; decisions = 0; lowest = 0; end = 0; overrun = false; late = false }) ≡
-    114 ∷ 101 ∷ 102 ∷ 117 ∷ 115 ∷ 101 ∷ 100 ∷ space ∷ 49 ∷ 54 ∷ newline ∷ []
-unfolding line decimal last-digits refused-text line-text
-line-of-a-refused-frame = refl
-
-totals-of-case-1 : totals-text (record { frames = 1; decisions = 3; overruns = 0; lates = 0 }) ≡
-    49 ∷ space ∷ 51 ∷ space ∷ 48 ∷ space ∷ 48 ∷ newline ∷ []
-unfolding line decimal last-digits four-line
-totals-of-case-1 = refl

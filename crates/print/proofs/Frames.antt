@@ -19,8 +19,9 @@ use Rattle.dry_frame.specs.declared.Framed.{Framed}
 use Rattle.planner.proofs.Answers.{kept-old, kept-new}
 use Rattle.text.specs.Put.{Puts}
 use Rattle.text.proofs.Puts.{put-as}
-use Rattle.print.specs.Refused.{refused-text}
-use Rattle.print.specs.Dry.{four-line, dry-text, TellsDry}
+use Rattle.print_lines.specs.Lines.{refused-text}
+use Rattle.print_lines.specs.Lines.{four-line}
+use Rattle.print.specs.Dry.{dry-text, TellsDry}
 use Rattle.print.proofs.Plans.{few}
 
 -- the line of a position, as it is told of lent slices

@@ -23,7 +23,7 @@ use Rattle.planner.proofs.Answers.{kept-old, kept-new}
 use Rattle.text.specs.Digits.{decimal, signed, line}
 use Rattle.text.specs.Put.{Puts}
 use Rattle.text.proofs.Puts.{put-as}
-use Rattle.print.specs.Refused.{refused-text}
+use Rattle.print_lines.specs.Lines.{refused-text}
 use Rattle.print.specs.Plan.{counts-line, position-line, plan-text, TellsPlan}
 
 -- ---- an accepted image has at most 64 actions and 8 levels

@@ -25,9 +25,10 @@ use Rattle.planner.proofs.Alike.{limit-alike, bounds-alike}
 use Rattle.planner.proofs.Settled.{settled-alike, kept-one}
 use Rattle.dry_frame.specs.Frame.{run-at}
 use Rattle.text.proofs.Puts.{puts-one}
-use Rattle.print.specs.Refused.{refused-text}
+use Rattle.print_lines.specs.Lines.{refused-text}
 use Rattle.print.specs.Plan.{counts-line, plan-text, TellsPlan}
-use Rattle.print.specs.Dry.{four-line, TellsDry}
+use Rattle.print_lines.specs.Lines.{four-line}
+use Rattle.print.specs.Dry.{TellsDry}
 use Rattle.print.proofs.Plans.{position-ext}
 
 -- what is told of a dry run by an order

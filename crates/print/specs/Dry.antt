@@ -11,13 +11,8 @@ use Rattle.rules.specs.Refusals.{First, kept}
 use Rattle.rules.specs.Run.{decides}
 use Rattle.rules.specs.Dry.{frame-call}
 use Rattle.dry_frame.specs.Frame.{run-at}
-use Rattle.text.specs.Digits.{decimal, line}
 use Rattle.text.specs.Put.{Puts}
-use Rattle.print.specs.Refused.{refused-text}
-
--- a line of four numbers
-unfoldable pub four-line : ℕ → ℕ → ℕ → ℕ → List ℕ
-four-line a b c d = line (decimal a ∷ decimal b ∷ decimal c ∷ decimal d ∷ [])
+use Rattle.print_lines.specs.Lines.{four-line, refused-text}
 
 -- Position, action, level and decided (1 or 0), a line for each position; then decisions, end, overrun, late, which the last record has.
 abbrev pub dry-text : ℕ → (ℕ → ℕ) → (ℕ → ℕ) → (ℕ → ℕ) → ℕ → ℕ → Bool → Bool → List ℕ

@@ -10,7 +10,7 @@ use Rattle.rules.specs.Limits.{tables, limit}
 use Rattle.rules.specs.Refusals.{First, kept, image-checks}
 use Rattle.text.specs.Digits.{decimal, signed, line}
 use Rattle.text.specs.Put.{Puts}
-use Rattle.print.specs.Refused.{refused-text}
+use Rattle.print_lines.specs.Lines.{refused-text}
 
 -- actions, levels, cycle
 unfoldable pub counts-line : ℕ → ℕ → ℕ → List ℕ

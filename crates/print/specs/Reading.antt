@@ -7,7 +7,7 @@ use Rattle.io.specs.Digits.{digits}
 use Rattle.speed_stretch.specs.declared.Reading.{Reading}
 use Rattle.speed_stretch.specs.declared.Reading.the-variants.{Ratio, Spent, Refused}
 use Rattle.text.specs.Digits.{space, decimal}
-use Rattle.print.specs.Refused.{refused}
+use Rattle.print_lines.specs.Lines.{refused}
 
 -- The bits of a ratio. None is below 0: what is has bits that no ratio has, all of them ones.
 unfoldable pub ratio-bits : Float → ℕ

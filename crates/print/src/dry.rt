@@ -1,7 +1,7 @@
 // What the dry-run program prints.
-use crate::line::put_four;
-use crate::line::put_refusal;
 use dry_frame::Framed;
+use print_lines::put_four;
+use print_lines::put_refusal;
 ghost use Prim.Native.Nat.{_≤_};
 ghost use lib.ListN.{length, getD};
 ghost use Rattle.io.specs.Counts.{Counts};
@@ -9,7 +9,8 @@ ghost use Rattle.rules.specs.Numbers.{most-actions};
 ghost use Rattle.rules.specs.Words.{cat, one-if};
 ghost use Rattle.rules.specs.Recording.{durations};
 ghost use Rattle.text.specs.Put.{Puts};
-ghost use Rattle.print.specs.Dry.{four-line, TellsDry};
+ghost use Rattle.print_lines.specs.Lines.{four-line};
+ghost use Rattle.print.specs.Dry.{TellsDry};
 
 // Position, action, level and decided, a line for each position.
 fn put_steps(out: &mut [u8], order: &[u8], given: &[u8], marks: &[u8], n: usize) -> usize
@@ -46,7 +47,7 @@ pub fn dry_text(image: &[u8], bytes: &[u8], out: &mut [u8]) -> usize
     ensures { λ r. ⌜ TellsDry (now (image .entry)) (durations (now (bytes .entry))) (now (out .entry)) (now (out .exit)) r ⌝ }
 {
     let mut durations = [0u32; 512];
-    let count = recording::take_durations(bytes, &mut durations);
+    let count = recording_bytes::take_durations(bytes, &mut durations);
     let mut order = [0u8; 64];
     let mut given = [0u8; 64];
     let mut marks = [0u8; 64];

@@ -1,7 +1,7 @@
 // What the plan program prints.
-use crate::line::put_field;
-use crate::line::put_refusal;
 use planner::Planned;
+use print_lines::put_field;
+use print_lines::put_refusal;
 use text::put_byte;
 use text::put_number;
 use text::put_signed;

@@ -1,6 +1,6 @@
 pub mod Length
 pub mod Opening
-pub mod Entries
+pub mod Rooms
 pub mod Cycling
 pub mod Rehearsing
 pub mod Settled

@@ -10,17 +10,11 @@ ghost use mathlib.Core.Path.{_≡_};
 ghost use mathlib.Core.Bool.{true, false};
 ghost use mathlib.Core.List.{[], _∷_, _++_};
 ghost use mathlib.Core.Logic.{_≢_};
-ghost use lib.Dec.{eqb};
-ghost use lib.ListN.{length, getD};
-ghost use Rattle.io.specs.Counts.{Counts};
-ghost use Rattle.rules.specs.Numbers.{most-actions, most-frames, duration-bytes, refused-turn, refused-trace};
-ghost use Rattle.rules.specs.Words.{all-pass, tab};
-ghost use Rattle.rules.specs.Image.{be};
+ghost use Rattle.rules.specs.Numbers.{most-actions, most-frames, refused-turn, refused-trace};
 ghost use Rattle.rules.specs.Refusals.{_when_, First, image-checks};
 ghost use Rattle.rules.specs.Run.{begun, ended};
 ghost use Rattle.rules.specs.Dry.{cell, dry-call};
 ghost use Rattle.rules.specs.Recording.{durations, counted, totals-fit};
-ghost use Rattle.fields.specs.Fields.{splice};
 ghost use Rattle.run.specs.Calls.{run-of};
 ghost use Rattle.run.specs.Cycle.{Running};
 ghost use Rattle.recording.specs.Recording.{Measures, Opens, totals-of, ran-said, recorded-rooms, Rehearses};
@@ -142,23 +136,6 @@ pub struct Counted {
     pub line: Line,
 }
 
-// The durations that the bytes say, as far as there is room for them. Answers how many.
-pub fn take_durations(bytes: &[u8], durations: &mut [u32]) -> usize
-    ensures { λ r. ⌜ (r ≡ min (length (now (bytes .entry)) / duration-bytes) (length (now (durations .entry)))) × Counts r (now (durations .exit)) ⌝ }
-    ensures { λ r. ⌜ now (durations .exit)
-        ≡ splice (now (durations .entry)) 0 (tab (λ k. be (now (bytes .entry)) (k * duration-bytes) duration-bytes) r) ⌝ }
-{
-    let said = bytes.len() / rules::DURATION_BYTES;
-    let room = durations.len();
-    let count = if said < room { said } else { room };
-    let mut k = 0;
-    while k < count {
-        durations[k] = fields::be32(bytes, k * rules::DURATION_BYTES);
-        k += 1;
-    }
-    count
-}
-
 // Whether each field is in its range.
 fn in_range(totals: Totals) -> bool
     ensures { λ r. ⌜ r ≡ totals-fit (totals-of totals) ⌝ }
@@ -216,33 +193,6 @@ fn uncounted(totals: Totals, refusal: Refusal) -> Counted
 
 // ---- a frame's refusals
 
-// Four bytes as one number, the first the lowest, summed up by what each is worth: a compiler makes one load of it. The first alone is asked
-// for, but by itself it would be picked out of each entry, one after another.
-fn four(s: &[u8], at: usize) -> u32
-    requires { ⌜ at + 4 ≤ length (now s) ⌝ }
-    ensures { λ r. ⌜ r % 256 ≡ getD (now (s .entry)) at 0 ⌝ }
-{
-    fields::wide32(s[at])
-        + fields::wide32(s[at + 1]) * 256
-        + fields::wide32(s[at + 2]) * 65_536
-        + fields::wide32(s[at + 3]) * 16_777_216
-}
-
-// Whether each of the first `cells` entries is at most 16,777,215, used or not: whether its first byte is 0. The bits of all are joined, so that
-// no test stands in the loop.
-fn all_short(frame: &[u8], cells: usize) -> bool
-    requires { ⌜ cells * duration-bytes ≤ length (now frame) ⌝ }
-    ensures { λ r. ⌜ r ≡ all-pass (λ k. eqb (getD (now (frame .entry)) (k * duration-bytes) 0) 0) cells ⌝ }
-{
-    let mut all = 0;
-    let mut k = 0;
-    while k < cells {
-        all = all | four(frame, k * rules::DURATION_BYTES);
-        k += 1;
-    }
-    all % 256 == 0
-}
-
 // Counts 3, room 17, an entry too long 16.
 fn frame_refusal(
     n: usize,
@@ -266,7 +216,7 @@ fn frame_refusal(
     {
         return rules::REFUSED_ROOM;
     }
-    if all_short(frame, cells) {
+    if recording_bytes::all_short(frame, cells) {
         return 0;
     }
     rules::REFUSED_DURATION

@@ -79,12 +79,12 @@ fn rehearse_frames(
     while 0 < left {
         let counted = next_frame(opened, limits, worst, bounds, totals, recording, &mut frame);
         let start = line_at(&*out, at, to);
-        at = print::put_line(&mut *out, start, counted.line);
+        at = print_lines::put_line(&mut *out, start, counted.line);
         totals = counted.totals;
         left -= 1;
     }
     let start = line_at(&*out, at, to);
-    print::put_totals(out, start, totals)
+    print_lines::put_totals(out, start, totals)
 }
 
 // The text of the recording at a descriptor that `open_read` answered, against an image. What does not fit into `out` is written to the descriptor
@@ -106,7 +106,7 @@ pub fn rehearse(image: &[u8], recording: i32, out: &mut [u8], to: i32) -> usize
     );
     let refusal = opened.refusal;
     if refusal.number != 0 {
-        return print::put_refusal(out, 0, refusal.number);
+        return print_lines::put_refusal(out, 0, refusal.number);
     }
     rehearse_frames(opened, &limits, &worst, &bounds, recording, out, to)
 }

@@ -16,7 +16,8 @@ use Rattle.rules.proofs.Recording.{one-long, none-long}
 use Rattle.run.proofs.Ranges.{Counts, fit-counts}
 use Rattle.run.proofs.dry.Refusing.{counts-in, unfit-counts-out, few-cells}
 use Rattle.recording.specs.Recording.{recorded-rooms}
-use Rattle.recording.proofs.Entries.{clear, tested-tight, tested-roomy, room, all-clear}
+use Rattle.recording_bytes.proofs.Entries.{clear, all-clear}
+use Rattle.recording.proofs.Rooms.{tested-tight, tested-roomy, room}
 use Rattle.recording.proofs.frame_refusal.Statement.{statement}
 use Rattle.recording.proofs.frame_refusal.Tie as tie
 

@@ -1,8 +1,8 @@
 -- The digits, then the byte. Assumes nothing.
 use borrow.Author.Needs.{needs}
 use Rattle.text.proofs.Puts.{put-then}
-use Rattle.print.proofs.line.put_field.Statement.{statement}
-use Rattle.print.proofs.line.put_field.Tie as tie
+use Rattle.print_lines.proofs.put_field.Statement.{statement}
+use Rattle.print_lines.proofs.put_field.Tie as tie
 
 returns : tie.Need-returns
 returns c =

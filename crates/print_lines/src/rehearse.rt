@@ -1,12 +1,12 @@
 // What the rehearsal of a recording prints: a line for each frame, and one of totals after them.
-use crate::line::put_field;
-use crate::line::put_four;
-use crate::line::put_refusal;
+use crate::put_field;
+use crate::put_four;
+use crate::put_refusal;
 use recording::Line;
 use recording::Totals;
 ghost use Rattle.io.specs.Counts.{Counts};
 ghost use Rattle.text.specs.Put.{Puts};
-ghost use Rattle.print.specs.Rehearse.{line-text, totals-text};
+ghost use Rattle.print_lines.specs.Rehearse.{line-text, totals-text};
 
 // Decisions, lowest level, end, overrun, late; or the refusal of the frame.
 pub fn put_line(out: &mut [u8], at: usize, line: Line) -> usize

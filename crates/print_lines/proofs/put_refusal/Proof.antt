@@ -2,9 +2,9 @@
 use borrow.Author.Needs.{needs}
 use Rattle.text.specs.Digits.{line}
 use Rattle.text.proofs.Puts.{put-then}
-use Rattle.print.specs.Refused.{refused-text}
-use Rattle.print.proofs.line.put_refusal.Statement.{statement}
-use Rattle.print.proofs.line.put_refusal.Tie as tie
+use Rattle.print_lines.specs.Lines.{refused-text}
+use Rattle.print_lines.proofs.put_refusal.Statement.{statement}
+use Rattle.print_lines.proofs.put_refusal.Tie as tie
 
 returns : tie.Need-returns
 unfolding line refused-text

@@ -1,7 +1,7 @@
 -- The four totals in their order. Assumes nothing.
 use borrow.Author.Needs.{needs}
-use Rattle.print.proofs.rehearse.put_totals.Statement.{statement}
-use Rattle.print.proofs.rehearse.put_totals.Tie as tie
+use Rattle.print_lines.proofs.rehearse.put_totals.Statement.{statement}
+use Rattle.print_lines.proofs.rehearse.put_totals.Tie as tie
 
 returns : tie.Need-returns
 returns c = c .before .before .put-four .ensures

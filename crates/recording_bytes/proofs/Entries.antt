@@ -1,27 +1,20 @@
--- 16 by the first byte of each entry, and 17 by the lengths. Assumes nothing.
+-- An entry is too long exactly if its first byte is not 0. Assumes nothing.
 use Prim.Native.Nat.{ℕ, zero, suc, _+_, _*_, _/_, _%_, _^_, _≤_, _<_, min}
 use mathlib.Core.Path.{_≡_, refl, sym, ap, _∙_}
-use mathlib.Core.Bool.{Bool, true, false, _&&_, _||_, or-assoc, or-false}
+use mathlib.Core.Bool.{Bool, true, false, _&&_}
 use mathlib.Core.List.{List}
-use mathlib.Core.Logic.{inl, inr}
 use native.Mathlib.Numerals.{add-one}
 use native.Mathlib.Omega.{arith}
 use lib.Bits.{bitOr, or-zero-l, or-add-and, and-le-r, or-mod}
-use lib.Dec.{leb, ltb, eqb}
+use lib.Dec.{leb, eqb}
 use lib.ListN.{length, getD}
 use borrow.Author.Tests.{eqb-true, eqb-false, ne-eqb, le-leb, lt-leb}
-use Rattle.rules.specs.Numbers.{longest-time, longest-coast, duration-bytes}
+use Rattle.rules.specs.Numbers.{longest-time, duration-bytes}
 use Rattle.rules.specs.Words.{all-pass}
 use Rattle.rules.specs.Image.{be}
-use Rattle.rules.specs.Limits.{LentTables}
-use Rattle.rules.specs.Refusals.{Tight}
-use Rattle.rules.specs.Recording.{frame-bytes, durations, short}
+use Rattle.rules.specs.Recording.{durations, short}
 use Rattle.fields.proofs.Bytes.{Bytes, be-front, be-lt}
 use Rattle.fields.proofs.Tabs.{getD-tab}
-use Rattle.run.proofs.dry.Refusing.{short-of, is-tight, not-tight}
-use Rattle.recording.specs.Recording.{recorded-rooms}
-
--- ---- 16
 
 -- the first byte of entry k is 0
 abbrev pub clear : List ℕ → ℕ → Bool
@@ -66,34 +59,3 @@ module _ (frame : List ℕ) (bytes : Bytes frame) where
   unfolding all-pass
   all-clear zero l = refl
   all-clear (suc k) l = rw (all-clear k (omega arith), clear-short k (omega arith))
-
--- ---- 17
-
-module _ (n L : ℕ) (T : LentTables) (frame : List ℕ) where
-  -- the four tests, one after another
-  abbrev tested : Bool
-  tested =
-      ltb (length (T .limits)) (n * L) || ltb (length (T .worst)) (n * L) || ltb (length (T .bounds)) (n * L * longest-coast)
-      || ltb (length frame) (n * L * duration-bytes)
-
-  tested-is : tested ≡ short-of (recorded-rooms n L T frame)
-  unfolding short-of frame-bytes
-  tested-is =
-      four (ltb (length (T .limits)) (n * L)) (ltb (length (T .worst)) (n * L)) (ltb (length (T .bounds)) (n * L * longest-coast))
-      (ltb (length frame) (n * L * duration-bytes))
-    where
-      four : (a b c d : Bool) → a || b || c || d ≡ a || (b || (c || (d || false)))
-      four a b c d = simp (or-assoc, or-false)
-
-  pub tested-tight : tested ≡ true → Tight (recorded-rooms n L T frame)
-  tested-tight h = is-tight _ (sym tested-is ∙ h)
-
-  pub tested-roomy : tested ≡ false → Tight (recorded-rooms n L T frame) → ⊥
-  tested-roomy h = not-tight _ (sym tested-is ∙ h)
-
-  pub room : (Tight (recorded-rooms n L T frame) → ⊥) → n * L * duration-bytes ≤ length frame
-  unfolding frame-bytes
-  room out = by (λ l. out (inr (inr (inr (inl l)))))
-    where
-      by : (length frame < n * L * duration-bytes → ⊥) → n * L * duration-bytes ≤ length frame
-      by h = omega arith

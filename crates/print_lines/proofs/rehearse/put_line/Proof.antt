@@ -4,10 +4,10 @@ use borrow.Author.Needs.{needs}
 use Rattle.planner.proofs.Answers.{kept-old, kept-new}
 use Rattle.text.specs.Digits.{line}
 use Rattle.text.proofs.Puts.{put-then, put-as}
-use Rattle.print.specs.Dry.{four-line}
-use Rattle.print.specs.Rehearse.{line-text}
-use Rattle.print.proofs.rehearse.put_line.Statement.{statement}
-use Rattle.print.proofs.rehearse.put_line.Tie as tie
+use Rattle.print_lines.specs.Lines.{four-line}
+use Rattle.print_lines.specs.Rehearse.{line-text}
+use Rattle.print_lines.proofs.rehearse.put_line.Statement.{statement}
+use Rattle.print_lines.proofs.rehearse.put_line.Tie as tie
 
 returns : tie.Need-returns
 unfolding line-text

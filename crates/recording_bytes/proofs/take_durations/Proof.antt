@@ -11,8 +11,8 @@ use Rattle.rules.specs.Image.{be}
 use Rattle.fields.specs.Fields.{splice}
 use Rattle.fields.proofs.Cats.{cat-none, cat-done}
 use Rattle.fields.proofs.Tabs.{tab-more}
-use Rattle.recording.proofs.take_durations.Statement.{statement}
-use Rattle.recording.proofs.take_durations.Tie as tie
+use Rattle.recording_bytes.proofs.take_durations.Statement.{statement}
+use Rattle.recording_bytes.proofs.take_durations.Tie as tie
 
 abbrev duration : List ℕ → ℕ → ℕ
 duration bytes k = be bytes (k * 4) 4

@@ -6,8 +6,7 @@ use Rattle.rules.specs.Refusals.{kept}
 use Rattle.recording.specs.declared.Line.{Line}
 use Rattle.recording.specs.declared.Totals.{Totals}
 use Rattle.text.specs.Digits.{decimal, line}
-use Rattle.print.specs.Refused.{refused-text}
-use Rattle.print.specs.Dry.{four-line}
+use Rattle.print_lines.specs.Lines.{four-line, refused-text}
 
 -- decisions, lowest level, end, overrun, late (1 or 0); the refusal of a frame that was not run
 unfoldable pub line-text : Line → List ℕ

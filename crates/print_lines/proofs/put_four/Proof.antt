@@ -3,9 +3,9 @@ use mathlib.Core.List.{append-assoc}
 use borrow.Author.Needs.{needs}
 use Rattle.text.specs.Digits.{line}
 use Rattle.text.proofs.Puts.{put-then, put-as}
-use Rattle.print.specs.Dry.{four-line}
-use Rattle.print.proofs.line.put_four.Statement.{statement}
-use Rattle.print.proofs.line.put_four.Tie as tie
+use Rattle.print_lines.specs.Lines.{four-line}
+use Rattle.print_lines.proofs.put_four.Statement.{statement}
+use Rattle.print_lines.proofs.put_four.Tie as tie
 
 returns : tie.Need-returns
 unfolding line four-line

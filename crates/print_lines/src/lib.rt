@@ -1,4 +1,8 @@
-// The lines that the programs share.
+// The lines that the programs share, and those of a recording. Each is put into a lent buffer from an index on; the answer is where it ends.
+pub mod rehearse;
+
+pub use rehearse::put_line;
+pub use rehearse::put_totals;
 use text::put_byte;
 use text::put_bytes;
 use text::put_number;
@@ -6,8 +10,7 @@ ghost use mathlib.Core.List.{[], _∷_, _++_};
 ghost use Rattle.io.specs.Counts.{Counts};
 ghost use Rattle.text.specs.Digits.{decimal};
 ghost use Rattle.text.specs.Put.{Puts};
-ghost use Rattle.print.specs.Refused.{refused-text};
-ghost use Rattle.print.specs.Dry.{four-line};
+ghost use Rattle.print_lines.specs.Lines.{four-line, refused-text};
 
 // A number and the byte after it: a space or a newline.
 pub fn put_field(out: &mut [u8], at: usize, n: u32, after: u8) -> usize

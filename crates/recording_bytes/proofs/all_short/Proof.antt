@@ -4,9 +4,9 @@ use mathlib.Core.Path.{_≡_, refl, sym}
 use native.Mathlib.Omega.{arith}
 use lib.Dec.{eqb}
 use Rattle.rules.specs.Words.{all-pass}
-use Rattle.recording.proofs.Entries.{clear, clear-more}
-use Rattle.recording.proofs.all_short.Statement.{statement}
-use Rattle.recording.proofs.all_short.Tie as tie
+use Rattle.recording_bytes.proofs.Entries.{clear, clear-more}
+use Rattle.recording_bytes.proofs.all_short.Statement.{statement}
+use Rattle.recording_bytes.proofs.all_short.Tie as tie
 
 abbrev Inv-loop : tie.InvT-loop
 Inv-loop frame cells all₀ k₀ all k = (k ≤ cells) × (all-pass (clear frame) k ≡ eqb (all % 256) 0)
