@@ -10,7 +10,7 @@
 
 enum { N = 64, L = 8, TABLE = N * L, BOUNDS = 16 * TABLE, IMAGE = 6 + N * (12 + 6 * L), RECORDS = 2000, ROOM = 1 << 18 };
 
-static uint8_t image[IMAGE], fresh[IMAGE], order[N], given[N], marks[N], trace[5 * RECORDS], frame[4 * TABLE];
+static uint8_t image[IMAGE], fresh[IMAGE], order[N], given[N], marks[N], trace[5 * RECORDS];
 static int32_t limits[TABLE], bounds[BOUNDS], none[BOUNDS];
 static uint32_t worst[TABLE], averages[TABLE], deadlines[N], durations[TABLE];
 static uint64_t masks[N];
@@ -34,7 +34,6 @@ static void profile(void) {
     bytes = nyokazerubi_write(N, 2, 9 * 63 + 11, masks, N, deadlines, N, averages, TABLE, worst, TABLE, image, IMAGE).bytes;
     hold(bytes > 0, "a profile");
     for (size_t at = 0; at < RECORDS; at++) trace[5 * at] = (uint8_t)(128 + 2 * (at % N));
-    for (size_t cell = 0; cell < TABLE; cell++) frame[4 * cell + 3] = (uint8_t)durations[cell];
     for (size_t at = 0; at < BOUNDS; at++) none[at] = NYOKAZERUBI_ABSENT_BOUND;
 }
 
@@ -56,15 +55,8 @@ static void dry_frame(void) {
 }
 
 static void open_recording(void) {
-    hold(nyokazerubi_open_recording(image, bytes, sizeof frame, order, N, limits, TABLE, worst, TABLE, bounds, BOUNDS).frames == 4, "4 frames");
+    hold(nyokazerubi_open_recording(image, bytes, 4 * NYOKAZERUBI_FRAME_BYTES(N, 2), order, N, limits, TABLE, worst, TABLE, bounds, BOUNDS).frames == 4, "4 frames");
 }
-/* A frame on totals of its own, with all coasts and with none. */
-static uint32_t decisions_of_frame(const int32_t *with) {
-    struct nyokazerubi_totals totals = {0, 0, 0, 0};
-    return nyokazerubi_rehearse(&totals, N, 2, limits, TABLE, worst, TABLE, with, BOUNDS, frame, sizeof frame).decisions;
-}
-static void rehearse(void) { hold(decisions_of_frame(bounds) == 32, "32 decisions of a frame"); }
-static void rehearse_alone(void) { hold(decisions_of_frame(none) == N, "64 decisions of a frame"); }
 
 static void *in_thread(void *job) {
     (*(void (**)(void))job)();
@@ -105,6 +97,5 @@ int main(void) {
                 {"on_time", reading}, {"dry_frame", dry_frame}, {"open_recording", open_recording}};
     for (size_t at = 0; at < sizeof jobs / sizeof *jobs; at++) printf("nyokazerubi_%s %zu\n", jobs[at].name, again(jobs[at].job) - still);
     printf("nyokazerubi_dry_run %zu\n", most(dry_run, dry_alone) - still);
-    printf("nyokazerubi_rehearse %zu\n", most(rehearse, rehearse_alone) - still);
     return 0;
 }
