@@ -144,7 +144,8 @@ uint32_t nyokazerubi_boundary(void);
 #define NYOKAZERUBI_LONGEST_TIME 16777215u   /* the longest average, worst time and duration of a dry run */
 #define NYOKAZERUBI_ABSENT_BOUND INT32_MIN   /* the coast bound where a coast would go past the last position */
 
-/* Stack in bytes: of start, ask, report and rehearse; of the refresh; of the dry run; of the dry run from an image, whose tables lie there; of any other. */
+/* Stack in bytes: of start, ask, report and rehearse; of the refresh; of the dry run; of the dry run from an image, whose tables lie there; of any
+ * other. */
 #define NYOKAZERUBI_STACK_RUN 512
 #define NYOKAZERUBI_STACK_REFRESH 10240
 #define NYOKAZERUBI_STACK_DRY_RUN 16384

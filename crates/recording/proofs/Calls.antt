@@ -11,13 +11,13 @@ use Rattle.rules.specs.Limits.{LentTables}
 use Rattle.rules.specs.Refusals.{First, CountsOut, Tight}
 use Rattle.rules.specs.Dry.{LongEntry}
 use Rattle.rules.specs.Recording as rules
-use Rattle.rules.specs.Recording.{frame-bytes, durations, ran-of, long-entry, Line, line, no-totals, counted, with-line, totals-from, totals, recorded-call}
+use Rattle.rules.specs.Recording.{frame-bytes, durations, ran-of, long-entry, Line, line-of, no-totals, with-frame, with-line, totals-from, totals, recorded-call}
 use Rattle.rules.proofs.Differences.{not-above}
 use Rattle.rules.proofs.Recording.{InRange, in-range-exact, long-exact, decisions-few, one-most}
 use Rattle.recording.specs.declared.Counted.{Counted}
-use Rattle.recording.specs.Recording.{totals-of, recorded-rooms, Rehearses, Lent, line-said, Rehearsal, Roomy}
+use Rattle.recording.specs.Recording.{totals-of, recorded-rooms, Rehearses, Lent, line-said, Rehearsal, HasRoom}
 
-module _ {n L : ℕ} {T : LentTables} (counts : CountsOut n L → ⊥) (roomy : Roomy n L T) where
+module _ {n L : ℕ} {T : LentTables} (counts : CountsOut n L → ⊥) (roomy : HasRoom n L T) where
   -- ---- one frame
 
   module _ {frame : List ℕ} {U : rules.Totals} {r : Counted} (long : frame-bytes n L ≤ length frame) (fits : InRange U) (more : U .frames < most-frames)
@@ -43,12 +43,12 @@ module _ {n L : ℕ} {T : LentTables} (counts : CountsOut n L → ⊥) (roomy : 
         by (inr (a, inr (b, inr (c, inl y)))) = absurd (not-tight (y .0))
         by (inr (a, inr (b, inr (c, inr (e, y))))) = y
 
-    refused-line : LongEntry (n * L) (durations frame) → line n L T frame ≡ rules.refused refused-duration
-    unfolding line
+    refused-line : LongEntry (n * L) (durations frame) → line-of n L T frame ≡ rules.refused refused-duration
+    unfolding line-of
     refused-line h = ap (λ (b : Bool). cond b (rules.refused refused-duration) (rules.ran (ran-of n L T frame))) (long-exact (n * L) (durations frame) .1 h)
 
-    ran-line : (LongEntry (n * L) (durations frame) → ⊥) → line n L T frame ≡ rules.ran (ran-of n L T frame)
-    unfolding line
+    ran-line : (LongEntry (n * L) (durations frame) → ⊥) → line-of n L T frame ≡ rules.ran (ran-of n L T frame)
+    unfolding line-of
     ran-line h = by (long-entry (n * L) (durations frame)) refl
       where
         by : (b : Bool) → long-entry (n * L) (durations frame) ≡ b
@@ -57,13 +57,13 @@ module _ {n L : ℕ} {T : LentTables} (counts : CountsOut n L → ⊥) (roomy : 
         by false e = ap (λ (b : Bool). cond b (rules.refused refused-duration) (rules.ran (ran-of n L T frame))) e
 
     -- The answer is the frame's line.
-    pub line-is : line-said r ≡ line n L T frame
+    pub line-is : line-said r ≡ line-of n L T frame
     line-is =
         ⊎-elim (λ y. rw (y .1) (sym (refused-line (y .0))))
         (λ y. rw (y .1, rw (y .1) at (x .line)) (sym (ran-line (y .0)))) which
 
     -- The totals with it are those with its line.
-    pub totals-are : totals-of (r .totals) ≡ with-line U (line n L T frame)
+    pub totals-are : totals-of (r .totals) ≡ with-line U (line-of n L T frame)
     unfolding with-line
     totals-are =
         ⊎-elim (λ y. rw (y .1) at (x .totals) ∙ sym (ap (with-line U) (refused-line (y .0))))
@@ -73,11 +73,11 @@ module _ {n L : ℕ} {T : LentTables} (counts : CountsOut n L → ⊥) (roomy : 
     few = not-above (λ l. counts (inr (inl l)))
 
     -- They are in range, with at most a frame more.
-    next-in-range : InRange (with-line U (line n L T frame)) × (with-line U (line n L T frame) .frames ≤ suc (U .frames))
-    unfolding with-line counted ran-of
+    next-in-range : InRange (with-line U (line-of n L T frame)) × (with-line U (line-of n L T frame) .frames ≤ suc (U .frames))
+    unfolding with-line with-frame ran-of
     next-in-range = ⊎-elim (λ y. rw (refused-line (y .0)) (fits, omega arith)) (λ y. rw (ran-line (y .0)) (one-more, omega arith)) which
       where
-        one-more : InRange (counted U (ran-of n L T frame))
+        one-more : InRange (with-frame U (ran-of n L T frame))
         one-more = record {
           frames = omega (arith, more);
           decisions = omega (arith, fits .decisions, few, decisions-few n L T frame);
@@ -88,7 +88,7 @@ module _ {n L : ℕ} {T : LentTables} (counts : CountsOut n L → ⊥) (roomy : 
   -- ---- frame after frame
 
   abbrev lines-of : List Lent → List Line
-  lines-of xs = map (λ x. line n L T (x .frame)) xs
+  lines-of xs = map (λ x. line-of n L T (x .frame)) xs
 
   from-totals : {U W : rules.Totals} {xs : List Lent} → InRange U → U .frames + length xs ≤ most-frames → Rehearsal n L T U xs W
       → (map (λ x. line-said (x .answer)) xs ≡ lines-of xs) × (W ≡ totals-from U (lines-of xs))
@@ -105,6 +105,6 @@ module _ {n L : ℕ} {T : LentTables} (counts : CountsOut n L → ⊥) (roomy : 
 
   -- Of at most 4,096 frames called one after another from nothing, each answers its line, and the totals then are those of the lines.
   pub recording-called : {W : rules.Totals} (xs : List Lent) → length xs ≤ most-frames → Rehearsal n L T no-totals xs W
-      → (map (λ x. line-said (x .answer)) xs ≡ map (λ x. line n L T (x .frame)) xs) × (W ≡ totals (map (λ x. line n L T (x .frame)) xs))
+      → (map (λ x. line-said (x .answer)) xs ≡ map (λ x. line-of n L T (x .frame)) xs) × (W ≡ totals (map (λ x. line-of n L T (x .frame)) xs))
   recording-called xs few-frames calls =
       from-totals (record { frames = omega arith; decisions = omega arith; overruns = omega arith; lates = omega arith }) (omega arith) calls

@@ -15,7 +15,7 @@ use Rattle.rules.specs.Refusals.{Short, CountsOut}
 use Rattle.rules.specs.Recording.{frame-bytes}
 use Rattle.image_fields.specs.declared.Header.{Header}
 use Rattle.image_fields.specs.Reading.{HeaderOf}
-use Rattle.recording.specs.Recording.{Measures}
+use Rattle.recording.specs.Recording.{LengthFits}
 
 few-actions : (s : List ℕ) → actions s < 128
 unfolding actions
@@ -26,7 +26,7 @@ unfolding levels
 few-levels s = omega arith
 
 -- without a header there is nothing to judge by
-pub short-measured : (s : List ℕ) (bytes : ℕ) → Short s → Measures s bytes false
+pub short-measured : (s : List ℕ) (bytes : ℕ) → Short s → LengthFits s bytes false
 short-measured s bytes h = record { fits = λ e. absurd (false≢true e); fails = λ _. inl h }
 
 module _ {s : List ℕ} {h : Header} (H : HeaderOf s h) where
@@ -42,7 +42,7 @@ module _ {s : List ℕ} {h : Header} (H : HeaderOf s h) where
   size-is = rw (H .n, H .levels)
 
   module _ (bytes : ℕ) where
-    pub none-measured : h .n * h .levels * 4 ≡ 0 → Measures s bytes false
+    pub none-measured : h .n * h .levels * 4 ≡ 0 → LengthFits s bytes false
     unfolding profile
     none-measured e = record { fits = λ z. absurd (false≢true z); fails = λ _. inr (inl (out (decLe 1 (actions s)) (decLe 1 (levels s)))) }
       where
@@ -56,7 +56,7 @@ module _ {s : List ℕ} {h : Header} (H : HeaderOf s h) where
     abbrev size : ℕ
     size = h .n * h .levels * 4
 
-    judged : (b c : Bool) → eqb (bytes % size) 0 ≡ b → leb (bytes / size) most-frames ≡ c → 0 < size → Measures s bytes (b && c)
+    judged : (b c : Bool) → eqb (bytes % size) 0 ≡ b → leb (bytes / size) most-frames ≡ c → 0 < size → LengthFits s bytes (b && c)
     judged true true p q some = record {
       fits = λ _. (
         subst (λ (x : ℕ). 0 < x) size-is some,
@@ -75,5 +75,5 @@ module _ {s : List ℕ} {h : Header} (H : HeaderOf s h) where
     }
 
     pub measured : 0 < h .n * h .levels * 4
-        → Measures s bytes (eqb (bytes % (h .n * h .levels * 4)) 0 && leb (bytes / (h .n * h .levels * 4)) most-frames)
+        → LengthFits s bytes (eqb (bytes % (h .n * h .levels * 4)) 0 && leb (bytes / (h .n * h .levels * 4)) most-frames)
     measured some = judged (eqb (bytes % size) 0) (leb (bytes / size) most-frames) refl refl some

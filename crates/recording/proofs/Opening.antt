@@ -18,7 +18,7 @@ use Rattle.planner.specs.declared.Planned.{Planned}
 use Rattle.planner.specs.Planning.{plan-rooms, Plans}
 use Rattle.planner.proofs.Answers.{kept-old, kept-new, by-number}
 use Rattle.recording.specs.declared.Opened.{Opened}
-use Rattle.recording.specs.Recording.{Opens, Measures}
+use Rattle.recording.specs.Recording.{Opens, LengthFits}
 
 -- what a refused call answers
 abbrev pub unopened : Refusal → Opened
@@ -48,7 +48,7 @@ module _ (s : List ℕ) (bytes : ℕ) (before : LentTables) where
 
   -- ---- the length is no recording's
 
-  module _ (m : Measures s bytes false) {f : Refusal} (judged : First (image-checks s ++ (refused-trace when Unit {0} ∷ [])) (f .number)) where
+  module _ (m : LengthFits s bytes false) {f : Refusal} (judged : First (image-checks s ++ (refused-trace when Unit {0} ∷ [])) (f .number)) where
     parts : (First (image-checks s) (f .number) × (f .number ≢ 0)) ⊎ (Sound s × First (refused-trace when Unit {0} ∷ []) (f .number))
     parts = accepted-parts s (refused-trace when Unit {0} ∷ []) (f .number) judged
 
@@ -71,7 +71,7 @@ module _ (s : List ℕ) (bytes : ℕ) (before : LentTables) where
 
   -- ---- it is, and the image is planned
 
-  module _ (m : Measures s bytes true) {after : LentTables} {p : Planned} (plans : Plans s before after p) where
+  module _ (m : LengthFits s bytes true) {after : LentTables} {p : Planned} (plans : Plans s before after p) where
     abbrev room : List Ground
     room = refused-room when Tight rooms ∷ []
 

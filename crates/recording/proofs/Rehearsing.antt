@@ -14,7 +14,7 @@ use Rattle.rules.specs.declared.Refusal.{Refusal}
 use Rattle.rules.specs.Run.{Run, begun}
 use Rattle.rules.specs.Dry.{dry-call}
 use Rattle.rules.specs.Recording as rules
-use Rattle.rules.specs.Recording.{frame-bytes, durations, ran-of, counted, totals-fit, recorded-call}
+use Rattle.rules.specs.Recording.{frame-bytes, durations, ran-of, with-frame, totals-fit, recorded-call}
 use Rattle.rules.proofs.Differences.{not-above}
 use Rattle.rules.proofs.Recording.{decisions-few}
 use Rattle.fields.proofs.Tabs.{length-tab}
@@ -148,9 +148,9 @@ module _ {n L : ℕ} {T : LentTables} {frame : List ℕ} {t : Totals} {k : ℕ} 
       unfolding ran-of
       said-is = rw (ends .last-is, ends .lowest-is)
 
-      pub rehearsed : {w : Totals} → totals-of w ≡ counted before (ran-said line) → Rehearses n L T frame before (record { totals = w; line = line })
+      pub rehearsed : {w : Totals} → totals-of w ≡ with-frame before (ran-said line) → Rehearses n L T frame before (record { totals = w; line = line })
       rehearsed e = record {
         number = number-is;
         line = kept-new _ _ _ none said-is;
-        totals = kept-new _ _ _ none (e ∙ ap (counted before) said-is);
+        totals = kept-new _ _ _ none (e ∙ ap (with-frame before) said-is);
       }

@@ -8,7 +8,7 @@ use Rattle.rules.specs.Image.{profile}
 use Rattle.rules.specs.Limits.{LentTables, planner-tables}
 use Rattle.rules.specs.Refusals.{Ground, _when_, Tight}
 use Rattle.rules.specs.Recording as rules
-use Rattle.rules.specs.Recording.{Ran, ran-of, counted, NotFrames, recording-call, recorded-call}
+use Rattle.rules.specs.Recording.{Ran, ran-of, with-frame, NotFrames, recording-call, recorded-call}
 use Rattle.rules.proofs.Refusals.{Sound, first-one, accepted-parts}
 use Rattle.planner.specs.Planning.{plan-rooms, with-fronts}
 use Rattle.planner.proofs.Settled.{tables-settled, kept-one}
@@ -69,7 +69,7 @@ module _ {n L : ℕ} {T : LentTables} {frame : List ℕ} {before : rules.Totals}
   line-one = kept-one _ _ (ran-of n L T frame) (ran-of n L T frame) none-ran same (λ _. refl) (x .line) (y .line)
 
   totals-one : totals-of (r .totals) ≡ totals-of (t .totals)
-  totals-one = kept-one _ _ (counted before (ran-of n L T frame)) (counted before (ran-of n L T frame)) before same (λ _. refl) (x .totals) (y .totals)
+  totals-one = kept-one _ _ (with-frame before (ran-of n L T frame)) (with-frame before (ran-of n L T frame)) before same (λ _. refl) (x .totals) (y .totals)
 
   pub rehearse-settled : r ≡ t
   unfolding answered

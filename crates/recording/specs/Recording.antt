@@ -14,7 +14,7 @@ use Rattle.rules.specs.Refusals.{First, kept, Short, CountsOut}
 use Rattle.rules.specs.Dry.{cell}
 use Rattle.rules.specs.Demand.{Policy, clock, Kept}
 use Rattle.rules.specs.Recording as rules
-use Rattle.rules.specs.Recording.{frame-bytes, Ran, ran-of, counted, NotFrames, recording-call, recorded-call}
+use Rattle.rules.specs.Recording.{frame-bytes, Ran, ran-of, with-frame, NotFrames, recording-call, recorded-call}
 use Rattle.planner.specs.Planning.{plan-rooms, with-fronts}
 use Rattle.recording.specs.declared.Opened.{Opened}
 use Rattle.recording.specs.declared.Totals.{Totals}
@@ -61,7 +61,7 @@ recorded-rooms n L T frame =
 pub record Rehearses (n L : ℕ) (T : LentTables) (frame : List ℕ) (before : rules.Totals) (r : Counted) : Type 0 where
   pub number : First (recorded-call before n L frame (recorded-rooms n L T frame)) (r .line .refusal .number)
   pub line : ran-said (r .line) ≡ kept (r .line .refusal .number) (ran-of n L T frame) none-ran
-  pub totals : totals-of (r .totals) ≡ kept (r .line .refusal .number) (counted before (ran-of n L T frame)) before
+  pub totals : totals-of (r .totals) ≡ kept (r .line .refusal .number) (with-frame before (ran-of n L T frame)) before
 
 -- ---- a recording, frame by frame
 
@@ -82,7 +82,7 @@ pub data Rehearsal (n L : ℕ) (T : LentTables) : rules.Totals → List Lent →
       → Rehearsal n L T (totals-of (x .answer .totals)) xs W → Rehearsal n L T U (x ∷ xs) W
 
 -- The tables that are lent have room for n actions at L levels.
-pub record Roomy (n L : ℕ) (T : LentTables) : Type 0 where
+pub record HasRoom (n L : ℕ) (T : LentTables) : Type 0 where
   pub limits : n * L ≤ length (T .limits)
   pub worst : n * L ≤ length (T .worst)
   pub bounds : n * L * longest-coast ≤ length (T .bounds)
@@ -101,6 +101,6 @@ pub record FrameKeeps (S : Tables) (d levels : List ℕ) (r : Ran) : Type 0 wher
 -- ---- asked between the functions of this crate
 
 -- Whether so many bytes are a recording of the counts in the header of s, where it has one that says some.
-pub record Measures (s : List ℕ) (bytes : ℕ) (r : Bool) : Type 0 where
+pub record LengthFits (s : List ℕ) (bytes : ℕ) (r : Bool) : Type 0 where
   pub fits : r ≡ true → (0 < frame-bytes (profile s .n) (profile s .levels)) × (NotFrames (profile s .n) (profile s .levels) bytes → ⊥)
   pub fails : r ≡ false → Short s ⊎ (CountsOut (profile s .n) (profile s .levels) ⊎ NotFrames (profile s .n) (profile s .levels) bytes)

@@ -14,10 +14,10 @@ ghost use Rattle.rules.specs.Numbers.{most-actions, most-frames, refused-turn, 
 ghost use Rattle.rules.specs.Refusals.{_when_, First, image-checks};
 ghost use Rattle.rules.specs.Run.{begun, ended};
 ghost use Rattle.rules.specs.Dry.{cell, dry-call};
-ghost use Rattle.rules.specs.Recording.{durations, counted, totals-fit};
+ghost use Rattle.rules.specs.Recording.{durations, with-frame, totals-fit};
 ghost use Rattle.run.specs.Calls.{run-of};
 ghost use Rattle.run.specs.Cycle.{Running};
-ghost use Rattle.recording.specs.Recording.{Measures, Opens, totals-of, ran-said, recorded-rooms, Rehearses};
+ghost use Rattle.recording.specs.Recording.{LengthFits, Opens, totals-of, ran-said, recorded-rooms, Rehearses};
 ghost use Rattle.recording.specs.Cycle.{Waits, Cycling, Ends};
 
 // ---- the recording
@@ -35,7 +35,7 @@ pub struct Opened {
 
 // Whether so many bytes are at most 4,096 whole frames of the counts in the header; no where there is no header, or a count is 0.
 fn whole_frames(image: &[u8], bytes: usize) -> bool
-    ensures { λ r. ⌜ Measures (now (image .entry)) bytes r ⌝ }
+    ensures { λ r. ⌜ LengthFits (now (image .entry)) bytes r ⌝ }
 {
     if image.len() < rules::HEADER_BYTES {
         return false;
@@ -164,7 +164,7 @@ fn totals_refusal(totals: Totals) -> u32
 // A frame run more.
 fn with_line(totals: Totals, line: Line) -> Totals
     requires { ⌜ (totals-fit (totals-of totals) ≡ true) × (totals .frames < most-frames) × (line .decisions ≤ most-actions) ⌝ }
-    ensures { λ r. ⌜ totals-of r ≡ counted (totals-of totals) (ran-said line) ⌝ }
+    ensures { λ r. ⌜ totals-of r ≡ with-frame (totals-of totals) (ran-said line) ⌝ }
 {
     Totals {
         frames: totals.frames + 1,

@@ -21,7 +21,7 @@ use Rattle.rules.specs.Limits.{tables, margin, mixed, limit, coast-bound
 use Rattle.rules.specs.Refusals.{_when_, First, Unfit, image-checks, Count, Falls, Table, Short, Version, Length, Spare, Range}
 use Rattle.rules.specs.Run.{level-given, fits, qualifies, left-granted, begun, decides, given, ended, lent}
 use Rattle.rules.specs.Dry.{step, before, dry-end}
-use Rattle.rules.specs.Recording.{frame-bytes, frames, lowest-of, lowest-given, ran-of, long-entry, line, counted, with-line, totals-from}
+use Rattle.rules.specs.Recording.{frame-bytes, frames, lowest-of, lowest-given, ran-of, long-entry, line-of, with-frame, with-line, totals-from}
 use Rattle.rules.specs.Speed.{quotient, room, reading-by, reading}
 use Rattle.rules.specs.Cases.{three, eight, cases, AllHold}
 use Rattle.rules.proofs.Tests.{pass, passed, failed, and-true, or-true, not-true, all-pass-each}
@@ -223,7 +223,7 @@ pub every-case : AllHold cases
 unfolding placed action-at all-pass has due plain orderly
     cat image header-of record-image level-image profile header version actions levels cycle header-spare record-bytes record-at image-bytes mask-of deadline-of spare-of average-of worst-of
     sum greatest-of least-of last-passing margin mixed limit coast-bound
-    level-given fits qualifies left-granted begun decides given ended step before frame-bytes frames long-entry line lowest-of lowest-given dry-end lent ran-of totals-from with-line counted quotient room reading reading-by div ofInt round
+    level-given fits qualifies left-granted begun decides given ended step before frame-bytes frames long-entry line-of lowest-of lowest-given dry-end lent ran-of totals-from with-line with-frame quotient room reading reading-by div ofInt round
 every-case = (
   refl,
   (

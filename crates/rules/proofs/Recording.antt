@@ -20,7 +20,7 @@ use Rattle.rules.specs.Refusals.{Accepted}
 use Rattle.rules.specs.Run.{Run, begun, decide, coast, decides, given, ended, lent}
 use Rattle.rules.specs.Dry.{step, before, level-of, cell, decided, dry-end, LongEntry}
 use Rattle.rules.specs.Demand.{DemandThree}
-use Rattle.rules.specs.Recording.{frame-bytes, durations, frame-at, frames, lowest-of, lowest-given, ran-of, short, long-entry, Line, refused, ran, line, lines, Totals, no-totals, counted, with-line, totals-from, totals, together, totals-fit, frames-run, sum-over, sums, NotFrames}
+use Rattle.rules.specs.Recording.{frame-bytes, durations, frame-at, frames, lowest-of, lowest-given, ran-of, short, long-entry, Line, refused, ran, line-of, lines, Totals, no-totals, with-frame, with-line, totals-from, totals, together, totals-fit, frames-run, sum-over, sums, NotFrames}
 use Rattle.rules.proofs.Tests.{and-true, all-pass-each, one-fails}
 use Rattle.rules.proofs.Refusals.{accepted-sound}
 use Rattle.rules.proofs.Accepted.{policy, accepted-demand}
@@ -154,7 +154,7 @@ totals-append [] ms T = refl
 totals-append (l ∷ ls) ms T = totals-append ls ms (with-line T l)
 
 counted-apart : (T U : Totals) (l : Line) → with-line (together T U) l ≡ together T (with-line U l)
-unfolding with-line counted together
+unfolding with-line with-frame together
 counted-apart T U (refused k) = refl
 counted-apart T U (ran r) = same-totals (omega arith) (omega arith) (omega arith) (omega arith)
 
@@ -224,8 +224,8 @@ module _ (n L : ℕ) (r s : List ℕ) (k : ℕ) (whole : length r ≡ k * frame-
   -- Their totals are the sum of both.
   pub recordings-together : (T : LentTables) → totals (lines n L T (r ++ s)) ≡ together (totals (lines n L T r)) (totals (lines n L T s))
   recordings-together T =
-      ap (λ (fs : List (List ℕ)). totals (map (line n L T) fs)) frames-together
-      ∙ ap totals (map-append (line n L T) (frames n L r) (frames n L s))
+      ap (λ (fs : List (List ℕ)). totals (map (line-of n L T) fs)) frames-together
+      ∙ ap totals (map-append (line-of n L T) (frames n L r) (frames n L s))
       ∙ totals-together (lines n L T r) (lines n L T s)
 
 -- ---- the ranges
@@ -285,28 +285,28 @@ module _ (n L : ℕ) (T : LentTables) where
   abbrev end : List ℕ → Run
   end f = dry-end n L T (durations f)
 
-  line-is : (f : List ℕ) (b : Bool) → long-entry (n * L) (durations f) ≡ b → line n L T f ≡ cond b (refused refused-duration) (ran (ran-of n L T f))
-  unfolding line
+  line-is : (f : List ℕ) (b : Bool) → long-entry (n * L) (durations f) ≡ b → line-of n L T f ≡ cond b (refused refused-duration) (ran (ran-of n L T f))
+  unfolding line-of
   line-is f b e = ap (λ (x : Bool). cond x (refused refused-duration) (ran (ran-of n L T f))) e
 
-  sums-more : (f : List ℕ) (fs : List (List ℕ)) → together (counted no-totals (ran-of n L T f)) (sums n L T fs) ≡ sums n L T (f ∷ fs)
-  unfolding together counted ran-of sum-over
+  sums-more : (f : List ℕ) (fs : List (List ℕ)) → together (with-frame no-totals (ran-of n L T f)) (sums n L T fs) ≡ sums n L T (f ∷ fs)
+  unfolding together with-frame ran-of sum-over
   sums-more f fs = same-totals (omega arith) (omega arith) (omega arith) (omega arith)
 
   -- The totals are the sums over the frames run.
-  pub totals-sums : (fs : List (List ℕ)) → totals (map (line n L T) fs) ≡ sums n L T (frames-run (n * L) fs)
+  pub totals-sums : (fs : List (List ℕ)) → totals (map (line-of n L T) fs) ≡ sums n L T (frames-run (n * L) fs)
   unfolding totals-from with-line frames-run sum-over
   totals-sums [] = refl
   totals-sums (f ∷ fs) = by (long-entry (n * L) (durations f)) refl (totals-sums fs)
     where
-      by : (b : Bool) → long-entry (n * L) (durations f) ≡ b → totals (map (line n L T) fs) ≡ sums n L T (frames-run (n * L) fs)
-          → totals-from (with-line no-totals (line n L T f)) (map (line n L T) fs) ≡ sums n L T (cond b (frames-run (n * L) fs) (f ∷ frames-run (n * L) fs))
-      by true e h = ap (λ (x : Line). totals-from (with-line no-totals x) (map (line n L T) fs)) (line-is f true e) ∙ h
+      by : (b : Bool) → long-entry (n * L) (durations f) ≡ b → totals (map (line-of n L T) fs) ≡ sums n L T (frames-run (n * L) fs)
+          → totals-from (with-line no-totals (line-of n L T f)) (map (line-of n L T) fs) ≡ sums n L T (cond b (frames-run (n * L) fs) (f ∷ frames-run (n * L) fs))
+      by true e h = ap (λ (x : Line). totals-from (with-line no-totals x) (map (line-of n L T) fs)) (line-is f true e) ∙ h
       by false e h =
-          let one : Totals = counted no-totals (ran-of n L T f) in
-          ap (λ (x : Line). totals-from (with-line no-totals x) (map (line n L T) fs)) (line-is f false e)
-          ∙ ap (λ (W : Totals). totals-from W (map (line n L T) fs)) (sym (together-none one))
-          ∙ totals-apart (map (line n L T) fs) one no-totals
+          let one : Totals = with-frame no-totals (ran-of n L T f) in
+          ap (λ (x : Line). totals-from (with-line no-totals x) (map (line-of n L T) fs)) (line-is f false e)
+          ∙ ap (λ (W : Totals). totals-from W (map (line-of n L T) fs)) (sym (together-none one))
+          ∙ totals-apart (map (line-of n L T) fs) one no-totals
           ∙ ap (together one) h
           ∙ sums-more f (frames-run (n * L) fs)
 
@@ -321,7 +321,7 @@ module _ (n L : ℕ) (T : LentTables) where
       omega (arith, decisions-are longest-coast P w d 0 n, sum-within n 1 (λ j. one-if (mark j)) (λ j l. one-most (mark j)))
 
   -- At most the frames of the recording are run, each with at most n decisions, and at most all of them overran or were late.
-  pub totals-within : (fs : List (List ℕ)) → let U = totals (map (line n L T) fs) in
+  pub totals-within : (fs : List (List ℕ)) → let U = totals (map (line-of n L T) fs) in
       (U .frames ≤ length fs) × (U .decisions ≤ n * U .frames) × (U .overruns ≤ U .frames) × (U .lates ≤ U .frames)
   totals-within fs =
       let g = frames-run (n * L) fs in
@@ -334,9 +334,9 @@ module _ (n L : ℕ) (T : LentTables) where
       )
 
   -- So the totals of a recording are always in range, and so are those of every part of it.
-  pub totals-in-range : n ≤ most-actions → (fs : List (List ℕ)) → length fs ≤ most-frames → totals-fit (totals (map (line n L T) fs)) ≡ true
+  pub totals-in-range : n ≤ most-actions → (fs : List (List ℕ)) → length fs ≤ most-frames → totals-fit (totals (map (line-of n L T) fs)) ≡ true
   totals-in-range few fs l =
-      let U = totals (map (line n L T) fs) in
+      let U = totals (map (line-of n L T) fs) in
       let h = totals-within fs in
       in-range-exact U .1 (record {
         frames = omega (arith, h .0);

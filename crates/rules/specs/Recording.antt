@@ -73,11 +73,11 @@ pub data Line : Type 0 where
   refused : ℕ → Line
   ran : Ran → Line
 
-unfoldable pub line : ℕ → ℕ → LentTables → List ℕ → Line
-line n L T frame = cond (long-entry (n * L) (durations frame)) (refused refused-duration) (ran (ran-of n L T frame))
+unfoldable pub line-of : ℕ → ℕ → LentTables → List ℕ → Line
+line-of n L T frame = cond (long-entry (n * L) (durations frame)) (refused refused-duration) (ran (ran-of n L T frame))
 
 abbrev pub lines : ℕ → ℕ → LentTables → List ℕ → List Line
-lines n L T recording = map (line n L T) (frames n L recording)
+lines n L T recording = map (line-of n L T) (frames n L recording)
 
 -- ---- totals over the frames run
 
@@ -91,8 +91,8 @@ abbrev pub no-totals : Totals
 no-totals = record { frames = 0; decisions = 0; overruns = 0; lates = 0 }
 
 -- A frame run more; a frame counts once as overrun and once as late, however many of its positions were.
-unfoldable pub counted : Totals → Ran → Totals
-counted T r = record {
+unfoldable pub with-frame : Totals → Ran → Totals
+with-frame T r = record {
   frames = suc (T .frames);
   decisions = T .decisions + r .decisions;
   overruns = T .overruns + one-if (r .overrun);
@@ -102,7 +102,7 @@ counted T r = record {
 -- A line more: a refused frame counts in none.
 unfoldable pub with-line : Totals → Line → Totals
 with-line T (refused number) = T
-with-line T (ran r) = counted T r
+with-line T (ran r) = with-frame T r
 
 -- Line after line, as they come.
 unfoldable pub totals-from : Totals → List Line → Totals

@@ -31,8 +31,8 @@ lent c = record { order = []; limits = start c .args .limits .now; worst = start
 abbrev frame : tie.Else1 → List ℕ
 frame c = start c .args .frame .now
 
-counted : (c : tie.Else1) → Counts (start c .args .n) (start c .args .levels)
-counted c = fit-counts _ _ (sym (not-false _ (c .if1 .left)) ∙ c .before .counts-fit .ensures)
+with-frame : (c : tie.Else1) → Counts (start c .args .n) (start c .args .levels)
+with-frame c = fit-counts _ _ (sym (not-false _ (c .if1 .left)) ∙ c .before .counts-fit .ensures)
 
 -- after the second, room
 roomy : (c : tie.Else2) → let d = c .before in Tight (recorded-rooms (start d .args .n) (start d .args .levels) (lent d) (frame d)) → ⊥
@@ -46,22 +46,22 @@ told : (c : tie.Else2) → let d = c .before in
     let cells = start d .args .n * start d .args .levels in all-pass (clear (frame d)) cells ≡ all-pass (short (durations (frame d))) cells
 told c =
     let d = c .before in
-    all-clear (frame d) (λ k. d .before .before .shared-slice-known2 .given k .fits) _ (omega (arith, fits c, few-cells (counted d)))
+    all-clear (frame d) (λ k. d .before .before .shared-slice-known2 .given k .fits) _ (omega (arith, fits c, few-cells (with-frame d)))
 
 returns : tie.Need-returns
 returns c = inl (unfit-counts-out _ _ (sym (not-true _ (c .if1 .taken)) ∙ c .before .counts-fit .ensures), refl)
 
 mul-cells : tie.Need-mul-cells
-mul-cells c = omega (arith, few-cells (counted c))
+mul-cells c = omega (arith, few-cells (with-frame c))
 
 mul-if2 : tie.Need-mul-if2
-mul-if2 c = omega (arith, few-cells (counted c))
+mul-if2 c = omega (arith, few-cells (with-frame c))
 
 mul-if2-2 : tie.Need-mul-if2-2
-mul-if2-2 c = omega (arith, few-cells (counted c))
+mul-if2-2 c = omega (arith, few-cells (with-frame c))
 
 returns-2 : tie.Need-returns-2
-returns-2 c = let d = c .before in inr (counts-in (counted d), inl (tested-tight _ _ (lent d) (frame d) (c .if2 .taken), refl))
+returns-2 c = let d = c .before in inr (counts-in (with-frame d), inl (tested-tight _ _ (lent d) (frame d) (c .if2 .taken), refl))
 
 all-short-requires : tie.Need-all-short-requires
 all-short-requires c κs = fits c
@@ -70,13 +70,13 @@ returns-3 : tie.Need-returns-3
 returns-3 c =
     let e = c .before .before in
     let d = e .before in
-    inr (counts-in (counted d), inr (roomy e, inr (none-long _ (durations (frame d)) (sym (c .before .all-short .ensures ∙ told e) ∙ c .if3 .taken), refl)))
+    inr (counts-in (with-frame d), inr (roomy e, inr (none-long _ (durations (frame d)) (sym (c .before .all-short .ensures ∙ told e) ∙ c .if3 .taken), refl)))
 
 returns-4 : tie.Need-returns-4
 returns-4 c =
     let e = c .before .before in
     let d = e .before in
-    inr (counts-in (counted d), inr (roomy e, inl (one-long _ (durations (frame d)) (sym (c .before .all-short .ensures ∙ told e) ∙ c .if3 .left), refl)))
+    inr (counts-in (with-frame d), inr (roomy e, inl (one-long _ (durations (frame d)) (sym (c .before .all-short .ensures ∙ told e) ∙ c .if3 .left), refl)))
 
 pub frame-refusal-spec : {M : Type 1} → statement M
 frame-refusal-spec =

@@ -4,7 +4,7 @@ use mathlib.Core.Bool.{true}
 use native.Mathlib.Omega.{arith}
 use borrow.Author.Needs.{needs}
 use borrow.Author.Tests.{not-true, not-false}
-use Rattle.recording.specs.Recording.{Measures}
+use Rattle.recording.specs.Recording.{LengthFits}
 use Rattle.recording.proofs.Opening.{length-refused, plan-refused, few-cells, some-bytes, opened}
 use Rattle.recording.proofs.open.Statement.{statement}
 use Rattle.recording.proofs.open.Tie as tie
@@ -13,10 +13,10 @@ use Rattle.recording.proofs.open.Tie as tie
 abbrev start : tie.After-plan → tie.Start
 start c = c .before .before .before .before .before .before .before .before .before .before
 
-fitting : (c : tie.After-plan) → Measures (start c .args .image .now) (start c .args .bytes) true
+fitting : (c : tie.After-plan) → LengthFits (start c .args .image .now) (start c .args .bytes) true
 fitting c =
     let at = c .before .before .before .before .before in
-    subst (Measures (start c .args .image .now) (start c .args .bytes)) (not-false _ (at .if1 .left)) (at .before .whole-frames .ensures)
+    subst (LengthFits (start c .args .image .now) (start c .args .bytes)) (not-false _ (at .if1 .left)) (at .before .whole-frames .ensures)
 
 -- it is not refused
 abbrev planned : tie.Else2 → tie.After-plan
@@ -25,7 +25,7 @@ planned c = c .before .before .before .before .before .before .before .before .b
 returns : tie.Need-returns
 returns c =
     let at = c .before .before in
-    length-refused _ _ _ (subst (Measures _ _) (not-true _ (at .if1 .taken)) (at .before .whole-frames .ensures)) (c .before .length-refusal .ensures)
+    length-refused _ _ _ (subst (LengthFits _ _) (not-true _ (at .if1 .taken)) (at .before .whole-frames .ensures)) (c .before .length-refusal .ensures)
     (c .unopened .ensures)
 
 returns-2 : tie.Need-returns-2

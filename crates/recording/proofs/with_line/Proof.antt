@@ -2,7 +2,7 @@
 use native.Mathlib.Numerals.{add-one}
 use native.Mathlib.Omega.{arith}
 use borrow.Author.Needs.{needs}
-use Rattle.rules.specs.Recording.{counted}
+use Rattle.rules.specs.Recording.{with-frame}
 use Rattle.rules.proofs.Recording.{InRange, in-range-exact}
 use Rattle.recording.specs.Recording.{totals-of}
 use Rattle.recording.proofs.with_line.Statement.{statement}
@@ -27,7 +27,7 @@ add-t8 c =
     omega (arith, known start, start .pre .1, c .before .one-if2 .ensures .1)
 
 returns : tie.Need-returns
-unfolding counted
+unfolding with-frame
 returns c = rw (add-one, c .before .before .before .one-if .ensures .0, c .before .one-if2 .ensures .0)
 
 pub with-line-spec : {M : Type 1} → statement M
