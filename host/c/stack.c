@@ -10,7 +10,7 @@
 
 enum { N = 64, L = 8, TABLE = N * L, BOUNDS = 16 * TABLE, IMAGE = 6 + N * (12 + 6 * L), RECORDS = 2000, ROOM = 1 << 18 };
 
-static uint8_t image[IMAGE], fresh[IMAGE], order[N], given[N], marks[N], trace[5 * RECORDS];
+static uint8_t image[IMAGE], fresh[IMAGE], order[N], given[N], marks[N], trace[5 * RECORDS], frame[4 * TABLE];
 static int32_t limits[TABLE], bounds[BOUNDS], none[BOUNDS];
 static uint32_t worst[TABLE], averages[TABLE], deadlines[N], durations[TABLE];
 static uint64_t masks[N];
@@ -34,6 +34,7 @@ static void profile(void) {
     bytes = nyokazerubi_write(N, 2, 9 * 63 + 11, masks, N, deadlines, N, averages, TABLE, worst, TABLE, image, IMAGE).bytes;
     hold(bytes > 0, "a profile");
     for (size_t at = 0; at < RECORDS; at++) trace[5 * at] = (uint8_t)(128 + 2 * (at % N));
+    for (size_t cell = 0; cell < TABLE; cell++) frame[4 * cell + 3] = (uint8_t)durations[cell];
     for (size_t at = 0; at < BOUNDS; at++) none[at] = NYOKAZERUBI_ABSENT_BOUND;
 }
 
@@ -55,8 +56,26 @@ static void dry_frame(void) {
 }
 
 static void open_recording(void) {
-    hold(nyokazerubi_open_recording(image, bytes, 4 * NYOKAZERUBI_FRAME_BYTES(N, 2), order, N, limits, TABLE, worst, TABLE, bounds, BOUNDS).frames == 4, "4 frames");
+    hold(nyokazerubi_open_recording(image, bytes, sizeof frame, order, N, limits, TABLE, worst, TABLE, bounds, BOUNDS).frames == 4, "4 frames");
 }
+
+/* A frame on totals of its own, with all coasts and with none. The call takes so little that what its caller takes to make it counts: the same call
+ * of a function that does nothing is measured beside it. */
+typedef struct nyokazerubi_line frame_call(struct nyokazerubi_totals *, size_t, size_t, const int32_t *, size_t, const uint32_t *, size_t,
+                                           const int32_t *, size_t, const uint8_t *, size_t);
+static struct nyokazerubi_line does_nothing(struct nyokazerubi_totals *totals, size_t n, size_t levels, const int32_t *l, size_t ls, const uint32_t *w,
+                                            size_t ws, const int32_t *b, size_t bs, const uint8_t *f, size_t fs) {
+    (void)totals, (void)n, (void)levels, (void)l, (void)ls, (void)w, (void)ws, (void)b, (void)bs, (void)f, (void)fs;
+    return (struct nyokazerubi_line){.decisions = 0};
+}
+static frame_call *volatile calls = nyokazerubi_rehearse;
+static uint32_t decisions_of_frame(const int32_t *with) {
+    struct nyokazerubi_totals totals = {0, 0, 0, 0};
+    return calls(&totals, N, 2, limits, TABLE, worst, TABLE, with, BOUNDS, frame, sizeof frame).decisions;
+}
+static void rehearse(void) { hold(decisions_of_frame(bounds) == 32, "32 decisions of a frame"); }
+static void rehearse_alone(void) { hold(decisions_of_frame(none) == N, "64 decisions of a frame"); }
+static void made_alone(void) { hold(decisions_of_frame(bounds) == 0, "no decisions"); }
 
 static void *in_thread(void *job) {
     (*(void (**)(void))job)();
@@ -97,5 +116,9 @@ int main(void) {
                 {"on_time", reading}, {"dry_frame", dry_frame}, {"open_recording", open_recording}};
     for (size_t at = 0; at < sizeof jobs / sizeof *jobs; at++) printf("nyokazerubi_%s %zu\n", jobs[at].name, again(jobs[at].job) - still);
     printf("nyokazerubi_dry_run %zu\n", most(dry_run, dry_alone) - still);
+    size_t framed = most(rehearse, rehearse_alone);
+    calls = does_nothing;
+    size_t made = again(made_alone);
+    printf("nyokazerubi_rehearse %zu\n", framed - made);
     return 0;
 }
