@@ -11,7 +11,7 @@
  * and writes the rest. Until it returns, the host sees to it that
  *   - each pointer is aligned and not null, with length 0 too, and has as many entries as it says;
  *   - what the call writes overlaps nothing else that it is lent, and no other thread touches it meanwhile; what it reads, any thread may read;
- *   - the three bools of the run record are 0 or 1 when it is lent to ask and to report. A start writes every field of the record and reads none, so
+ *   - the three bools of a run record are 0 or 1 when it is lent to ask and to report. A start writes every field of the record and reads none, so
  *     it may be made over any bytes; after it, accepted or refused, they are, as long as the host does not write the record itself.
  * Nothing else is asked. Counts, positions, clocks and entries may have any value, which is refused if it does not fit. A table may be longer than
  * needed: its tail is kept. Calls may be made at any time and by several threads at once, each with a run record or
@@ -109,6 +109,14 @@
  *   totals             record    16                  16      16
  *   in all, to plan and rehearse a recording       6043   42838
  *
+ *   summaries          uint32_t  12nL               864    6144   of a body, by position and level, 3 numbers each
+ *   body run           record    48                  48      48
+ *   in all, to plan and run a body repeated        1755   12150   the image, order, worst_by_position and these, for any number N of repeats
+ *
+ *   durations          uint32_t  4nNL            466560 3317760   of 1620 repeats, for a dry run of a body repeated
+ *   given              uint8_t   nN               14580  103680   by position of all repeats
+ *   marks              uint8_t   nN               14580  103680   by position of all repeats
+ *
  *   masks              uint64_t  8n                  72     512   by action, to read and write an image
  *   deadlines          uint32_t  4n                  36     256   by action
  *   averages           uint32_t  4nL                288    2048   by action and level
@@ -140,25 +148,31 @@ uint32_t nyokazerubi_boundary(void);
 #define NYOKAZERUBI_LONGEST_COAST 16
 #define NYOKAZERUBI_MOST_RECORDS 65535
 #define NYOKAZERUBI_MOST_FRAMES 4096
+#define NYOKAZERUBI_MOST_REPEATS 1620u
+#define NYOKAZERUBI_MOST_POSITIONS 103680    /* of a body repeated */
+#define NYOKAZERUBI_SUMMARY_NUMBERS 3        /* of the rest of a body at a position and level */
 #define NYOKAZERUBI_LAST_CLOCK 1073741823u   /* the longest cycle, the latest deadline, the latest clock */
 #define NYOKAZERUBI_LONGEST_TIME 16777215u   /* the longest average, worst time and duration of a dry run */
 #define NYOKAZERUBI_ABSENT_BOUND INT32_MIN   /* the coast bound where a coast would go past the last position */
+#define NYOKAZERUBI_ABSENT_LONG INT64_MIN    /* the same of a body repeated */
 
-/* Stack in bytes: of start, ask, report and rehearse; of the refresh; of the dry run; of the dry run from an image, whose tables lie there; of any
- * other. */
+/* Stack in bytes: of start, ask and report, of a body repeated too, its limits and bounds, and of rehearse; of the refresh; of the dry run; of the
+ * dry runs from an image, whose tables lie there, of a plain cycle and of a body repeated; of any other. */
 #define NYOKAZERUBI_STACK_RUN 512
 #define NYOKAZERUBI_STACK_REFRESH 10240
 #define NYOKAZERUBI_STACK_DRY_RUN 16384
 #define NYOKAZERUBI_STACK_DRY_FRAME 57344
+#define NYOKAZERUBI_STACK_BODY_DRY_FRAME 16384
 #define NYOKAZERUBI_STACK_OTHER 4096
 
 /* The bytes of an image; the entries of limits, durations, averages and both tables of worst times; the entries of the coast bounds; the bytes of
- * a trace; the bytes of a frame of a recording. */
+ * a trace; the bytes of a frame of a recording; the entries of the summaries of a body. */
 #define NYOKAZERUBI_IMAGE_BYTES(n, levels) ((size_t)6 + (size_t)(n) * ((size_t)12 + (size_t)6 * (size_t)(levels)))
 #define NYOKAZERUBI_TABLE_ENTRIES(n, levels) ((size_t)(n) * (size_t)(levels))
 #define NYOKAZERUBI_BOUNDS_ENTRIES(n, levels) ((size_t)NYOKAZERUBI_LONGEST_COAST * NYOKAZERUBI_TABLE_ENTRIES(n, levels))
 #define NYOKAZERUBI_TRACE_BYTES(records) ((size_t)5 * (size_t)(records))
 #define NYOKAZERUBI_FRAME_BYTES(n, levels) ((size_t)4 * NYOKAZERUBI_TABLE_ENTRIES(n, levels))
+#define NYOKAZERUBI_SUMMARIES_ENTRIES(n, levels) ((size_t)NYOKAZERUBI_SUMMARY_NUMBERS * NYOKAZERUBI_TABLE_ENTRIES(n, levels))
 
 /* The numbers of refusal. */
 enum {
@@ -180,7 +194,8 @@ enum {
     NYOKAZERUBI_REFUSED_NAME = 15,     /* trace record or lookup names an absent action or level */
     NYOKAZERUBI_REFUSED_DURATION = 16, /* trace record longer than that worst time; dry run or frame entry above 16777215 */
     NYOKAZERUBI_REFUSED_ROOM = 17,     /* a lent table shorter than needed */
-    NYOKAZERUBI_REFUSED_READING = 18   /* speed reading with first position above last, or a position or level absent */
+    NYOKAZERUBI_REFUSED_READING = 18,  /* speed reading with first position above last; a position or level absent; a coast not of 1 to 16 actions */
+    NYOKAZERUBI_REFUSED_REPEATS = 19   /* a body not repeated 1 to 1620 times, or with a deadline that is not 0 or the cycle */
 };
 
 struct nyokazerubi_refusal {
@@ -375,6 +390,97 @@ struct nyokazerubi_line nyokazerubi_rehearse(
     const uint32_t *worst_by_position, size_t worst_by_position_length,
     const int32_t *bounds, size_t bounds_length,
     const uint8_t *frame, size_t frame_length);
+
+/* ---- a body repeated */
+
+/* A body of n actions done so many times over in one cycle, where all deadlines are the cycle's. It is the unrolled profile of n times the repeats
+ * actions, numbered repeat by repeat: action a of repeat j, from 0 on, has the number jn + a, its masks name actions of its own repeat, and its
+ * times are those of a. Position i is the i-th of all, up to 103680, and what stands above of limits, coasts, late and overrun holds over these. */
+struct nyokazerubi_body {
+    uint32_t n;
+    uint32_t levels;
+    uint32_t cycle;
+    uint32_t repeats;
+};
+
+struct nyokazerubi_body_planned {
+    struct nyokazerubi_refusal refusal;
+    struct nyokazerubi_body body;
+};
+
+/* Plans an image to be repeated: the order and the worst times of one body, and of the rest of a body from each position and level three numbers, by
+ * which any limit of the unrolled profile is worked out when it is asked for. No table grows with the repeats. 1 to 8, 19, 9 (of the unrolled
+ * profile), 17. */
+struct nyokazerubi_body_planned nyokazerubi_plan_body(
+    const uint8_t *image, size_t image_length, uint32_t repeats,
+    uint8_t *order, size_t order_length,
+    uint32_t *summaries, size_t summaries_length,
+    uint32_t *worst_by_position, size_t worst_by_position_length);
+
+struct nyokazerubi_limited {
+    struct nyokazerubi_refusal refusal;
+    int64_t limit;
+};
+
+/* The limit at a position and level. 3, 19, 17, 18. */
+struct nyokazerubi_limited nyokazerubi_body_limit(
+    struct nyokazerubi_body body,
+    const uint32_t *summaries, size_t summaries_length,
+    size_t position, size_t level);
+
+/* The coast bound at a position, level and length of the coast, 1 to 16: INT64_MIN where the coast would go past the last position. 3, 19, 17, 18. */
+struct nyokazerubi_limited nyokazerubi_body_bound(
+    struct nyokazerubi_body body,
+    const uint32_t *summaries, size_t summaries_length,
+    const uint32_t *worst_by_position, size_t worst_by_position_length,
+    size_t position, size_t level, size_t length);
+
+/* The run record of a body repeated, kept and lent as that of a plain cycle. */
+struct nyokazerubi_body_run {
+    uint64_t clock; /* the last accepted one, at most 1073741823 */
+    struct nyokazerubi_body body;
+    uint32_t position; /* actions ended, of all repeats, and while one runs its position */
+    uint32_t level;    /* the last given one */
+    uint32_t left;     /* actions left of the coast */
+    uint32_t decisions;
+    bool running;
+    bool overrun; /* to the end of the cycle */
+    bool late;    /* to the end of the cycle */
+};
+
+/* Starts a cycle in the record, whatever bytes it held. 3, 19, which leave a record of zero actions. */
+struct nyokazerubi_refusal nyokazerubi_body_start(struct nyokazerubi_body_run *run, struct nyokazerubi_body body);
+
+/* The next action, by its number in the unrolled profile, and its level; from then on it runs. 11 (a field outside its range), 17, 11 (an action
+ * runs), 10. */
+struct nyokazerubi_given nyokazerubi_body_ask(
+    struct nyokazerubi_body_run *run,
+    const uint8_t *order, size_t order_length,
+    const uint32_t *summaries, size_t summaries_length,
+    const uint32_t *worst_by_position, size_t worst_by_position_length);
+
+/* The running action ended, by the clock since the cycle began. 11 (a field outside its range), 17, 11 (none runs), 12, 13. */
+struct nyokazerubi_refusal nyokazerubi_body_report(
+    struct nyokazerubi_body_run *run, uint32_t clock,
+    const uint32_t *worst_by_position, size_t worst_by_position_length);
+
+struct nyokazerubi_body_framed {
+    struct nyokazerubi_refusal refusal;
+    uint32_t decisions;
+    uint64_t end;       /* the clock at the end of the cycle; after overruns it may be above 1073741823 */
+    uint32_t positions; /* n times the repeats */
+    bool overrun;
+    bool late;
+};
+
+/* A whole cycle from an image and durations by position of all repeats and level: writes the order of one body, and at each position of all repeats
+ * the level given and the decided mark (1 or 0). 1 to 8, 19, 9, 17, 16. */
+struct nyokazerubi_body_framed nyokazerubi_body_dry_frame(
+    const uint8_t *image, size_t image_length, uint32_t repeats,
+    const uint32_t *durations, size_t durations_length,
+    uint8_t *order, size_t order_length,
+    uint8_t *given, size_t given_length,
+    uint8_t *marks, size_t marks_length);
 
 /* ---- the speed reading */
 

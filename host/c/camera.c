@@ -14,9 +14,14 @@ _Static_assert(sizeof(struct nyokazerubi_dried) == 16, "dried");
 _Static_assert(sizeof(struct nyokazerubi_opened) == 40, "opened");
 _Static_assert(sizeof(struct nyokazerubi_totals) == 16, "totals");
 _Static_assert(sizeof(struct nyokazerubi_line) == 20, "line");
+_Static_assert(sizeof(struct nyokazerubi_body) == 16, "body");
+_Static_assert(sizeof(struct nyokazerubi_body_planned) == 20, "body planned");
+_Static_assert(sizeof(struct nyokazerubi_limited) == 16, "limited");
+_Static_assert(sizeof(struct nyokazerubi_body_run) == 48, "body run");
+_Static_assert(sizeof(struct nyokazerubi_body_framed) == 24, "body framed");
 _Static_assert(sizeof(struct nyokazerubi_reading) == 16, "reading");
 
-enum { ROUNDS = 5, FRAME = NYOKAZERUBI_FRAME_BYTES(9, 8) };
+enum { ROUNDS = 5, FRAME = NYOKAZERUBI_FRAME_BYTES(9, 8), BLOCKS = 180, POSITIONS = 9 * BLOCKS };
 
 static void hold(int is_so, const char *what) {
     if (!is_so) {
@@ -209,6 +214,88 @@ static void rehearse(const struct camera *camera, const uint8_t *recording, cons
     printf("%u frames, %u decisions\n", totals.frames, totals.decisions);
 }
 
+/* The camera's image with a cycle of so many blocks. */
+static uint8_t *picture(const struct camera *camera, uint32_t blocks) {
+    uint64_t *masks = lend(9 * sizeof *masks);
+    uint32_t *deadlines = lend(9 * sizeof *deadlines), *averages = lend(72 * sizeof *averages);
+    uint32_t *worst = lend(72 * sizeof *worst);
+    uint8_t *image = lend(camera->bytes);
+    uint32_t cycle = nyokazerubi_read(camera->image, camera->bytes, masks, 9, deadlines, 9, averages, 72, worst, 72).cycle;
+    /* A deadline may be the cycle in so many words. */
+    deadlines[8] = cycle * blocks;
+    struct nyokazerubi_written written =
+        nyokazerubi_write(9, 8, cycle * blocks, masks, 9, deadlines, 9, averages, 72, worst, 72, image, camera->bytes);
+    hold(written.bytes == camera->bytes, "a picture's image");
+    free(masks), free(deadlines), free(averages), free(worst);
+    return image;
+}
+
+/* A picture: the encoder's actions once for each block, in one cycle, with tables of one body. By turns, and the same as a dry run. */
+static void blocks(struct camera *camera) {
+    uint8_t *image = picture(camera, BLOCKS), *order = lend(9);
+    size_t table = camera->cells, sums = NYOKAZERUBI_SUMMARIES_ENTRIES(9, 8);
+    uint32_t *summaries = lend(sums * sizeof *summaries), *worst = lend(table * sizeof *worst);
+    static const struct {
+        uint32_t blocks, short_by, number;
+        const char *what;
+    } refused[] = {{0, 0, NYOKAZERUBI_REFUSED_REPEATS, "no blocks"},
+                   {400, 0, NYOKAZERUBI_REFUSED_UNFIT, "too many blocks"},
+                   {BLOCKS, 1, NYOKAZERUBI_REFUSED_ROOM, "no room"}};
+    for (size_t at = 0; at < 3; at++) {
+        struct nyokazerubi_body_planned none = nyokazerubi_plan_body(image, camera->bytes, refused[at].blocks, order, 9, summaries,
+                                                                     sums - refused[at].short_by, worst, table);
+        hold(none.refusal.number == refused[at].number && none.body.n == 0, refused[at].what);
+    }
+    hold(order[0] == 0xa5, "a refusal writes nothing");
+    struct nyokazerubi_body_planned planned = nyokazerubi_plan_body(image, camera->bytes, BLOCKS, order, 9, summaries, sums, worst, table);
+    struct nyokazerubi_body body = planned.body;
+    hold(planned.refusal.number == 0 && body.n == 9 && body.levels == 8 && body.cycle == 320000 * BLOCKS && body.repeats == BLOCKS, "a body");
+    hold(memcmp(order, camera->order, 9) == 0 && memcmp(worst, camera->worst, table * sizeof *worst) == 0, "its order and worst times");
+
+    /* In the last block the limits are the camera's own, that much later. */
+    for (size_t cell = 0; cell < table; cell++) {
+        size_t position = POSITIONS - 9 + cell / 8, level = cell % 8;
+        struct nyokazerubi_limited limit = nyokazerubi_body_limit(body, summaries, sums, position, level);
+        hold(limit.refusal.number == 0 && limit.limit == (int64_t)camera->limits[cell] + 320000 * (BLOCKS - 1), "a limit");
+        struct nyokazerubi_limited bound = nyokazerubi_body_bound(body, summaries, sums, worst, table, position, level, 1);
+        hold(bound.refusal.number == 0 && bound.limit == limit.limit, "a coast of one");
+        bound = nyokazerubi_body_bound(body, summaries, sums, worst, table, position, level, 10);
+        hold(bound.refusal.number == 0 && bound.limit == NYOKAZERUBI_ABSENT_LONG, "a coast past the end");
+    }
+    hold(nyokazerubi_body_limit(body, summaries, sums, POSITIONS, 0).refusal.number == NYOKAZERUBI_REFUSED_READING, "no such position");
+    hold(nyokazerubi_body_bound(body, summaries, sums, worst, table, 0, 0, 17).refusal.number == NYOKAZERUBI_REFUSED_READING, "a coast of 17");
+
+    struct nyokazerubi_body_run *run = lend(sizeof *run);
+    uint32_t *durations = lend(POSITIONS * 8 * sizeof *durations), clock = 0;
+    uint8_t *levels = lend(POSITIONS), *given = lend(POSITIONS), *marks = lend(POSITIONS);
+    hold(nyokazerubi_body_start(run, body).number == 0 && run->position == 0 && !run->running, "a start");
+    for (size_t i = 0; i < POSITIONS; i++) {
+        struct nyokazerubi_given now = nyokazerubi_body_ask(run, order, 9, summaries, sums, worst, table);
+        hold(now.refusal.number == 0 && now.action == i / 9 * 9 + order[i % 9] && now.level < 8 && !now.late, "an action of a block");
+        uint32_t took = duration(camera, worst[i % 9 * 8 + now.level]);
+        for (size_t q = 0; q < 8; q++) durations[8 * i + q] = took;
+        levels[i] = (uint8_t)now.level;
+        clock += took;
+        hold(nyokazerubi_body_report(run, clock, worst, table).number == 0 && run->clock == clock, "its end");
+    }
+    hold(clock <= body.cycle && !run->overrun && !run->late, "no deadline is missed");
+    hold(nyokazerubi_body_ask(run, order, 9, summaries, sums, worst, table).refusal.number == NYOKAZERUBI_REFUSED_FINISHED, "the picture is done");
+    hold(nyokazerubi_body_report(run, clock, worst, table).number == NYOKAZERUBI_REFUSED_TURN, "none runs");
+    struct nyokazerubi_body_framed framed = nyokazerubi_body_dry_frame(image, camera->bytes, BLOCKS, durations, POSITIONS * 8, order, 9, given,
+                                                                       POSITIONS, marks, POSITIONS);
+    hold(framed.refusal.number == 0 && framed.end == clock && framed.decisions == run->decisions && framed.positions == POSITIONS, "its dry run");
+    hold(!framed.overrun && !framed.late && memcmp(given, levels, POSITIONS) == 0 && marks[0] == 1, "its levels");
+    framed = nyokazerubi_body_dry_frame(image, camera->bytes, BLOCKS, durations, POSITIONS * 8 - 1, order, 9, given, POSITIONS, marks, POSITIONS);
+    hold(framed.refusal.number == NYOKAZERUBI_REFUSED_ROOM && framed.positions == 0, "a duration less");
+    printf("%u blocks, %u decisions, end %u\n", body.repeats, run->decisions, clock);
+
+    /* A refused start, and a call on its record. */
+    body.repeats = 1621;
+    hold(nyokazerubi_body_start(run, body).number == NYOKAZERUBI_REFUSED_REPEATS && run->body.n == 0, "1621 blocks");
+    hold(nyokazerubi_body_report(run, 0, worst, table).number == NYOKAZERUBI_REFUSED_TURN, "a record of zero actions");
+    free(image), free(order), free(summaries), free(worst), free(run), free(durations), free(levels), free(given), free(marks);
+}
+
 /* New averages from the trace of the cycle. */
 static void refresh(struct camera *camera, const uint8_t *trace, size_t length) {
     uint8_t *fresh = lend(camera->bytes);
@@ -247,6 +334,7 @@ int main(void) {
         refresh(&camera, trace, 5 * camera.n);
     }
     rehearse(&camera, recording, met);
+    blocks(&camera);
     readings(&camera);
 
     /* A refused start, and a call on its record. */

@@ -20,7 +20,8 @@ enum {
     NAME,
     DURATION,
     ROOM,
-    READING
+    READING,
+    REPEATS
 };
 
 #define LAST_CLOCK 1073741823u
@@ -29,6 +30,8 @@ enum {
 #define RECORDS 65535u
 #define FRAMES 4096u
 #define ABSENT INT32_MIN
+#define MOST_REPEATS 1620u
+#define NUMBERS 3u
 
 #if __BYTE_ORDER__ != __ORDER_LITTLE_ENDIAN__
 #error "bytes are swapped on every read and write of an image"
@@ -230,11 +233,10 @@ static uint32_t image_shape(const uint8_t *image, size_t length, shape *s) {
     return length == shape_bytes(s) ? 0 : LENGTH;
 }
 
-/* Refusals 1 to 9; the shape and the order (room for 64) of an accepted image. */
-static uint32_t examine(const uint8_t *image, size_t length, shape *s, uint8_t *order) {
+/* Refusals 1 to 7; the shape, and what the order reads. */
+static inline uint32_t gather(const uint8_t *image, size_t length, shape *s, actions *of) {
     uint32_t refusal = image_shape(image, length, s);
     if (refusal) return refusal;
-    actions of;
     uint64_t absent = ~present(s->n), strangers = 0;
     uint32_t spare = image[5] & 7;
     uint64_t table = GUARD;
@@ -246,9 +248,9 @@ static uint32_t examine(const uint8_t *image, size_t length, shape *s, uint8_t *
         strangers |= mask & absent;
         spare |= word & 3;
         range |= word >> 2 > s->cycle;
-        of.masks[a] = mask;
-        of.deadlines[a] = deadline_of(s, word);
-        of.worst[a] = worst_in(pair_of(record, 0));
+        of->masks[a] = mask;
+        of->deadlines[a] = deadline_of(s, word);
+        of->worst[a] = worst_in(pair_of(record, 0));
         for (const uint8_t *at = record + 10, *end = record + s->stride - 2; at < end; at += 6) {
             uint64_t pair = get_pair(at);
             table &= kept(pair, before);
@@ -258,7 +260,14 @@ static uint32_t examine(const uint8_t *image, size_t length, shape *s, uint8_t *
     if (spare) return SPARE;
     if (range || strangers) return RANGE;
     if ((table & GUARD) != GUARD) return TABLE;
-    return arrange(&of, s->n, order);
+    return 0;
+}
+
+/* Refusals 1 to 9; the shape and the order (room for 64) of an accepted image. */
+static uint32_t examine(const uint8_t *image, size_t length, shape *s, uint8_t *order) {
+    actions of;
+    uint32_t refusal = gather(image, length, s, &of);
+    return refusal ? refusal : arrange(&of, s->n, order);
 }
 
 uint32_t fast_check(const uint8_t *image, size_t length, fast_counts *counts) {
@@ -648,6 +657,277 @@ uint32_t fast_rehearse(fast_totals *totals, size_t n, size_t levels, const int32
     totals->overruns += ran.overrun;
     totals->lates += ran.late;
     *line = ran;
+    return 0;
+}
+
+/* ---- A body repeated ---- */
+
+/* Refusals 1 to 8, 19, 9; the shape and the order (room for 64) of an accepted body. */
+static uint32_t examine_body(const uint8_t *image, size_t length, uint32_t repeats, shape *s, uint8_t *order) {
+    actions of;
+    uint32_t refusal = gather(image, length, s, &of);
+    if (refusal) return refusal;
+    /* Whether the body alone is unfit is of no account: the order is made all the same. */
+    if (arrange(&of, s->n, order) == LOOP) return LOOP;
+    uint32_t differ = 0;
+    uint64_t end = 0;
+    for (uint32_t a = 0; a < s->n; a++) {
+        differ |= of.deadlines[a] ^ s->cycle;
+        end += of.worst[a];
+    }
+    if (differ || repeats - 1 >= MOST_REPEATS) return REPEATS;
+    /* Its order is the body's, repeat by repeat, and the last action ends last. */
+    return repeats * end > s->cycle ? UNFIT : 0;
+}
+
+/* From the last position back: A and W add up; M is the greater of this worst time before the others at level 0, and
+ * this average before their M. */
+static inline void fill_body(const uint8_t *image, const shape *s, const uint8_t *arranged,
+                             uint32_t *restrict summaries, uint32_t *restrict worst) {
+    uint32_t levels = s->levels, lowest = 0, averages[8] = {0}, mixes[8] = {0};
+    for (uint32_t i = s->n; i-- > 0;) {
+        const uint8_t *record = record_of(s, image, arranged[i]), *at = record + 10;
+        uint32_t *row = worst + (size_t)i * levels, *entry = summaries + (size_t)i * levels * NUMBERS;
+        uint32_t after = lowest;
+        lowest += worst_in(get_pair(at));
+        for (uint32_t q = 0; q < levels; q++, at += 6, entry += NUMBERS) {
+            uint64_t pair = get_pair(at);
+            uint32_t safe = worst_in(pair) + after, mixed = average_in(pair) + mixes[q];
+            averages[q] += average_in(pair);
+            mixes[q] = safe > mixed ? safe : mixed;
+            row[q] = worst_in(pair);
+            entry[0] = averages[q];
+            entry[1] = lowest;
+            entry[2] = mixes[q];
+        }
+    }
+}
+
+uint32_t fast_plan_body(const uint8_t *image, size_t length, uint32_t repeats, uint8_t *restrict order,
+                        size_t order_room, uint32_t *restrict summaries, size_t summaries_room,
+                        uint32_t *restrict worst, size_t worst_room, fast_body *body) {
+    shape s;
+    uint8_t arranged[64];
+    uint32_t refusal = examine_body(image, length, repeats, &s, arranged);
+    if (refusal) return refusal;
+    size_t cells = (size_t)s.n * s.levels;
+    if (order_room < s.n || summaries_room < cells * NUMBERS || worst_room < cells) return ROOM;
+    memcpy(order, arranged, s.n);
+    fill_body(image, &s, arranged, summaries, worst);
+    *body = (fast_body){s.n, s.levels, s.cycle, repeats};
+    return 0;
+}
+
+/* 3 and 19. */
+static inline uint32_t body_refusal(fast_body body) {
+    if (!shape_fits(body.n, body.levels) || body.cycle - 1 >= LAST_CLOCK) return COUNT;
+    return body.repeats - 1 < MOST_REPEATS ? 0 : REPEATS;
+}
+
+/* What the whole bodies after one add at a level: the first to M, the second to A; the greater sum is M of them all. */
+typedef struct {
+    int64_t to_mix, to_average;
+} after;
+
+static inline after after_of(const uint32_t *summaries, uint32_t level, uint32_t bodies) {
+    const uint32_t *whole = summaries + level * NUMBERS;
+    uint32_t greater = whole[0] > whole[1] ? whole[0] : whole[1];
+    /* Without a body after it no sum of the second kind counts. */
+    int64_t to_average = bodies ? whole[2] + (int64_t)(bodies - 1) * greater : INT64_MIN / 2;
+    return (after){(int64_t)bodies * whole[1], to_average};
+}
+
+/* M from an entry's position on. */
+static inline int64_t mix_of(const uint32_t *entry, after a) {
+    int64_t safe = entry[2] + a.to_mix, mixed = entry[0] + a.to_average;
+    return safe > mixed ? safe : mixed;
+}
+
+uint32_t fast_body_limit(fast_body body, const uint32_t *summaries, size_t summaries_room, size_t position,
+                         size_t level, int64_t *limit) {
+    uint32_t refusal = body_refusal(body);
+    if (refusal) return refusal;
+    if (summaries_room < (size_t)body.n * body.levels * NUMBERS) return ROOM;
+    if (position >= (size_t)body.n * body.repeats || level >= body.levels) return READING;
+    uint32_t repeat = (uint32_t)position / body.n, place = (uint32_t)position - repeat * body.n;
+    after a = after_of(summaries, (uint32_t)level, body.repeats - 1 - repeat);
+    *limit = body.cycle - mix_of(summaries + (place * body.levels + (uint32_t)level) * NUMBERS, a);
+    return 0;
+}
+
+uint32_t fast_body_bound(fast_body body, const uint32_t *summaries, size_t summaries_room, const uint32_t *worst,
+                         size_t worst_room, size_t position, size_t level, size_t length, int64_t *bound) {
+    uint32_t refusal = body_refusal(body);
+    if (refusal) return refusal;
+    size_t cells = (size_t)body.n * body.levels, positions = (size_t)body.n * body.repeats;
+    if (summaries_room < cells * NUMBERS || worst_room < cells) return ROOM;
+    if (position >= positions || level >= body.levels || length - 1 >= COAST) return READING;
+    if (positions - position < length) {
+        *bound = INT64_MIN;
+        return 0;
+    }
+    uint32_t repeat = (uint32_t)position / body.n, place = (uint32_t)position - repeat * body.n;
+    uint32_t bodies = body.repeats - 1 - repeat, left = (uint32_t)length;
+    int64_t most = INT64_MIN, spent = 0;
+    for (;; place = 0, bodies--) {
+        after a = after_of(summaries, (uint32_t)level, bodies);
+        uint32_t end = left < body.n - place ? place + left : body.n;
+        left -= end - place;
+        for (size_t cell = (size_t)place * body.levels + level; place < end; place++, cell += body.levels) {
+            int64_t through = spent + mix_of(summaries + cell * NUMBERS, a);
+            if (through > most) most = through;
+            spent += worst[cell];
+        }
+        if (left == 0) break;
+    }
+    *bound = body.cycle - most;
+    return 0;
+}
+
+/* The actions up to the first that could begin too late for the level, or at which the one above fits; no coast past it
+ * qualifies. The first is known to be none. */
+static inline __attribute__((always_inline)) uint32_t body_coast(fast_body body, const uint32_t *summaries,
+                                                                 const uint32_t *worst, uint32_t place, uint32_t bodies,
+                                                                 uint32_t level, int64_t room, bool top) {
+    uint32_t rest = body.n - place + bodies * body.n, most = rest < COAST ? rest : COAST, grant = 1, at = place + 1;
+    size_t cell = (size_t)place * body.levels + level;
+    int64_t left = room - worst[cell];
+    cell += body.levels;
+    while (grant < most) {
+        if (at == body.n) {
+            at = 0;
+            bodies--;
+            cell = level;
+        }
+        after own = after_of(summaries, level, bodies), above = top ? own : after_of(summaries, level + 1, bodies);
+        uint32_t end = most - grant < body.n - at ? at + (most - grant) : body.n;
+        for (; at < end; at++, grant++, cell += body.levels) {
+            const uint32_t *entry = summaries + cell * NUMBERS;
+            if (mix_of(entry, own) > left || (!top && mix_of(entry + NUMBERS, above) <= room)) return grant;
+            left -= worst[cell];
+        }
+    }
+    return grant;
+}
+
+/* A decision at a place of a body with so many bodies after it. */
+static inline decision body_decide(fast_body body, const uint32_t *summaries, const uint32_t *worst, uint32_t place,
+                                   uint32_t bodies, uint64_t clock) {
+    /* What M may be at most. */
+    int64_t room = (int64_t)body.cycle - (int64_t)clock;
+    decision d = {body.levels, 1, false};
+    const uint32_t *row = summaries + (size_t)place * body.levels * NUMBERS;
+    while (d.level > 0 && mix_of(row + (d.level - 1) * NUMBERS, after_of(summaries, d.level - 1, bodies)) > room)
+        d.level--;
+    if (d.level == 0) {
+        d.late = true;
+        return d;
+    }
+    d.level--;
+    d.grant = d.level + 1 == body.levels ? body_coast(body, summaries, worst, place, bodies, d.level, room, true)
+                                         : body_coast(body, summaries, worst, place, bodies, d.level, room, false);
+    return d;
+}
+
+static inline bool body_in_range(const fast_body_run *run) {
+    /* What was stored a moment ago first; 64-bit sums: any field may hold any value. */
+    uint64_t reached = (uint64_t)run->position + run->running;
+    if (run->left > 15 || run->decisions > reached || run->clock > LAST_CLOCK || body_refusal(run->body)) return false;
+    return run->left + reached <= run->body.n * run->body.repeats && run->level < run->body.levels;
+}
+
+uint32_t fast_body_start(fast_body_run *run, fast_body body) {
+    uint32_t refusal = body_refusal(body);
+    *run = (fast_body_run){.body = refusal ? (fast_body){0} : body};
+    return refusal;
+}
+
+uint32_t fast_body_ask(fast_body_run *run, const uint8_t *order, size_t order_room, const uint32_t *summaries,
+                       size_t summaries_room, const uint32_t *worst, size_t worst_room, fast_given *given) {
+    if (!body_in_range(run)) return TURN;
+    fast_body body = run->body;
+    size_t cells = (size_t)body.n * body.levels;
+    if (order_room < body.n || summaries_room < cells * NUMBERS || worst_room < cells) return ROOM;
+    if (run->running) return TURN;
+    if (run->position == body.n * body.repeats) return FINISHED;
+    uint32_t repeat = run->position / body.n, before = repeat * body.n, place = run->position - before;
+    uint32_t action = before + order[place];
+    run->running = true;
+    if (run->left > 0) {
+        run->left--;
+        *given = (fast_given){action, run->level, false, false};
+        return 0;
+    }
+    decision d = body_decide(body, summaries, worst, place, body.repeats - 1 - repeat, run->clock);
+    run->level = d.level;
+    run->left = d.grant - 1;
+    run->decisions++;
+    run->late |= d.late;
+    *given = (fast_given){action, d.level, true, d.late};
+    return 0;
+}
+
+uint32_t fast_body_report(fast_body_run *run, uint32_t clock, const uint32_t *worst, size_t worst_room) {
+    if (!body_in_range(run)) return TURN;
+    fast_body body = run->body;
+    if (worst_room < (size_t)body.n * body.levels) return ROOM;
+    if (!run->running) return TURN;
+    if (clock < run->clock) return BACK;
+    if (clock > LAST_CLOCK) return CLOCK;
+    if (clock - run->clock > worst[run->position % body.n * body.levels + run->level]) {
+        run->overrun = true;
+        run->left = 0;
+    }
+    run->position++;
+    run->clock = clock;
+    run->running = false;
+    return 0;
+}
+
+uint32_t fast_body_dry_frame(const uint8_t *image, size_t length, uint32_t repeats, const uint32_t *durations,
+                             size_t durations_room, uint8_t *restrict order, size_t order_room,
+                             uint8_t *restrict given, size_t given_room, uint8_t *restrict marks, size_t marks_room,
+                             fast_body_dried *dried) {
+    shape s;
+    uint8_t arranged[64];
+    uint32_t refusal = examine_body(image, length, repeats, &s, arranged);
+    if (refusal) return refusal;
+    uint32_t n = s.n, levels = s.levels, positions = n * repeats;
+    size_t entries = (size_t)positions * levels;
+    if (order_room < n || given_room < positions || marks_room < positions || durations_room < entries) return ROOM;
+    uint32_t all = 0;
+    for (size_t at = 0; at < entries; at++) all |= durations[at];
+    if (all > LAST_TIME) return DURATION;
+    uint32_t summaries[64 * 8 * NUMBERS], worst[64 * 8];
+    memcpy(order, arranged, n);
+    fill_body(image, &s, arranged, summaries, worst);
+    fast_body body = {n, levels, s.cycle, repeats};
+    fast_body_dried c = {.positions = positions};
+    for (uint32_t i = 0, place = 0, bodies = repeats - 1; i < positions;) {
+        decision d = body_decide(body, summaries, worst, place, bodies, c.end);
+        c.decisions++;
+        c.late |= d.late;
+        uint8_t mark = 1;
+        for (uint32_t last = i + d.grant; i < last;) {
+            given[i] = (uint8_t)d.level;
+            marks[i] = mark;
+            mark = 0;
+            uint32_t duration = durations[(size_t)i * levels + d.level];
+            bool over = duration > worst[place * levels + d.level];
+            c.end += duration;
+            i++;
+            if (++place == n) {
+                place = 0;
+                bodies--;
+            }
+            /* An overrun cancels the rest of the coast. */
+            if (over) {
+                c.overrun = true;
+                break;
+            }
+        }
+    }
+    *dried = c;
     return 0;
 }
 

@@ -42,6 +42,24 @@ typedef struct {
     bool overrun, late;
 } fast_line;
 
+typedef struct {
+    uint32_t n, levels, cycle, repeats;
+} fast_body;
+
+typedef struct {
+    uint64_t clock;
+    fast_body body;
+    uint32_t position, level, left, decisions;
+    bool running, overrun, late;
+} fast_body_run;
+
+typedef struct {
+    uint32_t decisions;
+    uint64_t end;
+    uint32_t positions;
+    bool overrun, late;
+} fast_body_dried;
+
 /* What fast_speed_reading answers where the time is spent; no refusal has this number. */
 #define FAST_SPENT 255u
 
@@ -81,6 +99,27 @@ uint32_t fast_open_recording(const uint8_t *image, size_t length, size_t bytes, 
 uint32_t fast_rehearse(fast_totals *totals, size_t n, size_t levels, const int32_t *limits, size_t limits_room,
                        const uint32_t *worst, size_t worst_room, const int32_t *bounds, size_t bounds_room,
                        const uint8_t *frame, size_t frame_room, fast_line *line);
+
+uint32_t fast_plan_body(const uint8_t *image, size_t length, uint32_t repeats, uint8_t *order, size_t order_room,
+                        uint32_t *summaries, size_t summaries_room, uint32_t *worst, size_t worst_room,
+                        fast_body *body);
+
+uint32_t fast_body_limit(fast_body body, const uint32_t *summaries, size_t summaries_room, size_t position,
+                         size_t level, int64_t *limit);
+
+uint32_t fast_body_bound(fast_body body, const uint32_t *summaries, size_t summaries_room, const uint32_t *worst,
+                         size_t worst_room, size_t position, size_t level, size_t length, int64_t *bound);
+
+uint32_t fast_body_start(fast_body_run *run, fast_body body);
+
+uint32_t fast_body_ask(fast_body_run *run, const uint8_t *order, size_t order_room, const uint32_t *summaries,
+                       size_t summaries_room, const uint32_t *worst, size_t worst_room, fast_given *given);
+
+uint32_t fast_body_report(fast_body_run *run, uint32_t clock, const uint32_t *worst, size_t worst_room);
+
+uint32_t fast_body_dry_frame(const uint8_t *image, size_t length, uint32_t repeats, const uint32_t *durations,
+                             size_t durations_room, uint8_t *order, size_t order_room, uint8_t *given,
+                             size_t given_room, uint8_t *marks, size_t marks_room, fast_body_dried *dried);
 
 /* Answers 0 and the ratio, FAST_SPENT, or the number of the refusal. */
 uint32_t fast_speed_reading(const uint8_t *image, size_t length, size_t first, size_t last, size_t level,

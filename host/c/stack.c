@@ -9,12 +9,16 @@
 #include <string.h>
 
 enum { N = 64, L = 8, TABLE = N * L, BOUNDS = 16 * TABLE, IMAGE = 6 + N * (12 + 6 * L), RECORDS = 2000, ROOM = 1 << 18 };
+enum { REPEATS = 1620, ALL = N * REPEATS };
 
 static uint8_t image[IMAGE], fresh[IMAGE], order[N], given[N], marks[N], trace[5 * RECORDS], frame[4 * TABLE];
 static int32_t limits[TABLE], bounds[BOUNDS], none[BOUNDS];
 static uint32_t worst[TABLE], averages[TABLE], deadlines[N], durations[TABLE];
 static uint64_t masks[N];
 static size_t bytes;
+/* A body to be repeated, with what its dry run takes. */
+static uint8_t body_image[IMAGE], levels[ALL], body_marks[ALL];
+static uint32_t summaries[3 * TABLE], body_worst[TABLE], body_durations[2 * ALL];
 
 static void hold(int is_so, const char *what) {
     if (is_so) return;
@@ -36,6 +40,12 @@ static void profile(void) {
     for (size_t at = 0; at < RECORDS; at++) trace[5 * at] = (uint8_t)(128 + 2 * (at % N));
     for (size_t cell = 0; cell < TABLE; cell++) frame[4 * cell + 3] = (uint8_t)durations[cell];
     for (size_t at = 0; at < BOUNDS; at++) none[at] = NYOKAZERUBI_ABSENT_BOUND;
+
+    /* The same times over all repeats; what each action takes is over its worst time at one, within it at the next. */
+    for (uint32_t a = 0; a < N; a++) deadlines[a] = 0;
+    hold(nyokazerubi_write(N, 2, 10 * ALL, masks, N, deadlines, N, averages, TABLE, worst, TABLE, body_image, IMAGE).bytes == bytes,
+         "a body's image");
+    for (size_t at = 0; at < 2 * ALL; at++) body_durations[at] = at % 34 < 2 ? 11 : 9;
 }
 
 static void nothing(void) {}
@@ -57,6 +67,16 @@ static void dry_frame(void) {
 
 static void open_recording(void) {
     hold(nyokazerubi_open_recording(image, bytes, sizeof frame, order, N, limits, TABLE, worst, TABLE, bounds, BOUNDS).frames == 4, "4 frames");
+}
+
+static void plan_body(void) {
+    hold(nyokazerubi_plan_body(body_image, bytes, REPEATS, order, N, summaries, 3 * TABLE, body_worst, TABLE).body.n == N, "a body planned");
+}
+/* All repeats, with decisions after overruns and whole coasts between them. */
+static void body_dry_frame(void) {
+    struct nyokazerubi_body_framed framed = nyokazerubi_body_dry_frame(body_image, bytes, REPEATS, body_durations, 2 * ALL, order, N, levels, ALL,
+                                                                       body_marks, ALL);
+    hold(framed.positions == ALL && framed.overrun && framed.decisions > ALL / 16, "all repeats");
 }
 
 /* A frame on totals of its own, with all coasts and with none. The call takes so little that what its caller takes to make it counts: the same call
@@ -112,8 +132,9 @@ int main(void) {
     static const struct {
         const char *name;
         void (*job)(void);
-    } jobs[] = {{"check", check},     {"plan", plan},           {"refresh", refresh},
-                {"on_time", reading}, {"dry_frame", dry_frame}, {"open_recording", open_recording}};
+    } jobs[] = {{"check", check},         {"plan", plan},           {"refresh", refresh},
+                {"on_time", reading},     {"dry_frame", dry_frame}, {"open_recording", open_recording},
+                {"plan_body", plan_body}, {"body_dry_frame", body_dry_frame}};
     for (size_t at = 0; at < sizeof jobs / sizeof *jobs; at++) printf("nyokazerubi_%s %zu\n", jobs[at].name, again(jobs[at].job) - still);
     printf("nyokazerubi_dry_run %zu\n", most(dry_run, dry_alone) - still);
     size_t framed = most(rehearse, rehearse_alone);

@@ -11,9 +11,13 @@ pub const MOST_LEVELS: usize = 8;
 pub const LONGEST_COAST: usize = 16;
 pub const MOST_RECORDS: usize = 65_535;
 pub const MOST_FRAMES: usize = 4_096;
+pub const MOST_REPEATS: u32 = 1_620;
+pub const MOST_POSITIONS: usize = 103_680;
+pub const SUMMARY_NUMBERS: usize = 3;
 pub const LAST_CLOCK: u32 = 1_073_741_823;
 pub const LONGEST_TIME: u32 = 16_777_215;
 pub const ABSENT_BOUND: i32 = i32::MIN;
+pub const ABSENT_LONG: i64 = i64::MIN;
 
 /// The bytes of an image.
 pub const fn image_bytes(n: usize, levels: usize) -> usize {
@@ -40,6 +44,11 @@ pub const fn frame_bytes(n: usize, levels: usize) -> usize {
     4 * table_entries(n, levels)
 }
 
+/// The entries of the summaries of a body.
+pub const fn summaries_entries(n: usize, levels: usize) -> usize {
+    SUMMARY_NUMBERS * table_entries(n, levels)
+}
+
 pub const ACCEPTED: u32 = 0;
 pub const REFUSED_SHORT: u32 = 1;
 pub const REFUSED_VERSION: u32 = 2;
@@ -59,6 +68,7 @@ pub const REFUSED_NAME: u32 = 15;
 pub const REFUSED_DURATION: u32 = 16;
 pub const REFUSED_ROOM: u32 = 17;
 pub const REFUSED_READING: u32 = 18;
+pub const REFUSED_REPEATS: u32 = 19;
 
 #[derive(Clone, Copy, Debug, PartialEq, Eq)]
 #[repr(C)]
@@ -173,6 +183,56 @@ pub struct Line {
     pub decisions: u32,
     pub lowest: u32,
     pub end: u32,
+    pub overrun: bool,
+    pub late: bool,
+}
+
+/// A body repeated: 16 bytes, as planning answers it.
+#[derive(Clone, Copy, Debug, Default, PartialEq, Eq)]
+#[repr(C)]
+pub struct Body {
+    pub n: u32,
+    pub levels: u32,
+    pub cycle: u32,
+    pub repeats: u32,
+}
+
+#[derive(Clone, Copy, Debug, PartialEq, Eq)]
+#[repr(C)]
+pub struct BodyPlanned {
+    pub refusal: Refusal,
+    pub body: Body,
+}
+
+#[derive(Clone, Copy, Debug, PartialEq, Eq)]
+#[repr(C)]
+pub struct Limited {
+    pub refusal: Refusal,
+    pub limit: i64,
+}
+
+/// The run record of a body repeated: 48 bytes, the marks last.
+#[derive(Clone, Copy, Debug, Default, PartialEq, Eq)]
+#[repr(C)]
+pub struct BodyRun {
+    pub clock: u64,
+    pub body: Body,
+    pub position: u32,
+    pub level: u32,
+    pub left: u32,
+    pub decisions: u32,
+    pub running: bool,
+    pub overrun: bool,
+    pub late: bool,
+}
+
+#[derive(Clone, Copy, Debug, PartialEq, Eq)]
+#[repr(C)]
+pub struct BodyFramed {
+    pub refusal: Refusal,
+    pub decisions: u32,
+    pub end: u64,
+    pub positions: u32,
     pub overrun: bool,
     pub late: bool,
 }
@@ -307,6 +367,63 @@ extern "C" {
         frame: *const u8,
         frame_length: usize,
     ) -> Line;
+    pub fn nyokazerubi_plan_body(
+        image: *const u8,
+        image_length: usize,
+        repeats: u32,
+        order: *mut u8,
+        order_length: usize,
+        summaries: *mut u32,
+        summaries_length: usize,
+        worst_by_position: *mut u32,
+        worst_by_position_length: usize,
+    ) -> BodyPlanned;
+    pub fn nyokazerubi_body_limit(
+        body: Body,
+        summaries: *const u32,
+        summaries_length: usize,
+        position: usize,
+        level: usize,
+    ) -> Limited;
+    pub fn nyokazerubi_body_bound(
+        body: Body,
+        summaries: *const u32,
+        summaries_length: usize,
+        worst_by_position: *const u32,
+        worst_by_position_length: usize,
+        position: usize,
+        level: usize,
+        length: usize,
+    ) -> Limited;
+    pub fn nyokazerubi_body_start(run: *mut BodyRun, body: Body) -> Refusal;
+    pub fn nyokazerubi_body_ask(
+        run: *mut BodyRun,
+        order: *const u8,
+        order_length: usize,
+        summaries: *const u32,
+        summaries_length: usize,
+        worst_by_position: *const u32,
+        worst_by_position_length: usize,
+    ) -> Given;
+    pub fn nyokazerubi_body_report(
+        run: *mut BodyRun,
+        clock: u32,
+        worst_by_position: *const u32,
+        worst_by_position_length: usize,
+    ) -> Refusal;
+    pub fn nyokazerubi_body_dry_frame(
+        image: *const u8,
+        image_length: usize,
+        repeats: u32,
+        durations: *const u32,
+        durations_length: usize,
+        order: *mut u8,
+        order_length: usize,
+        given: *mut u8,
+        given_length: usize,
+        marks: *mut u8,
+        marks_length: usize,
+    ) -> BodyFramed;
     pub fn nyokazerubi_speed_reading(
         image: *const u8,
         image_length: usize,

@@ -1,6 +1,9 @@
 //! The calls of `c/fast.c`, from a shared library that is built and opened when asked for.
 
-use crate::calls::{Answer, Calls, Counts, Dried, Given, Line, Opened, Reading, Run, Tables, Totals};
+use crate::calls::{
+    Answer, Body, BodyDried, BodyRun, BodyTables, Calls, Counts, Dried, Given, Line, Opened, Reading, Run, Tables,
+    Totals,
+};
 use std::ffi::{c_char, c_int, c_void, CStr, CString};
 use std::os::unix::ffi::OsStrExt;
 use std::path::Path;
@@ -78,6 +81,21 @@ functions! {
     ) -> u32,
     rehearse: unsafe extern "C" fn(
         *mut Totals, usize, usize, *const i32, usize, *const u32, usize, *const i32, usize, *const u8, usize, *mut Line,
+    ) -> u32,
+    plan_body: unsafe extern "C" fn(
+        *const u8, usize, u32, *mut u8, usize, *mut u32, usize, *mut u32, usize, *mut Body,
+    ) -> u32,
+    body_limit: unsafe extern "C" fn(Body, *const u32, usize, usize, usize, *mut i64) -> u32,
+    body_bound: unsafe extern "C" fn(
+        Body, *const u32, usize, *const u32, usize, usize, usize, usize, *mut i64,
+    ) -> u32,
+    body_start: unsafe extern "C" fn(*mut BodyRun, Body) -> u32,
+    body_ask: unsafe extern "C" fn(
+        *mut BodyRun, *const u8, usize, *const u32, usize, *const u32, usize, *mut Given,
+    ) -> u32,
+    body_report: unsafe extern "C" fn(*mut BodyRun, u32, *const u32, usize) -> u32,
+    body_dry_frame: unsafe extern "C" fn(
+        *const u8, usize, u32, *const u32, usize, *mut u8, usize, *mut u8, usize, *mut u8, usize, *mut BodyDried,
     ) -> u32,
     speed_reading: unsafe extern "C" fn(*const u8, usize, usize, usize, usize, u32, *mut f64) -> u32,
     refresh: unsafe extern "C" fn(*const u8, usize, *const u8, usize, *mut u8, usize, *mut usize) -> u32,
@@ -340,6 +358,121 @@ impl Calls for C {
             )
         };
         answer(number, line)
+    }
+
+    fn plan_body(
+        &self,
+        image: &[u8],
+        repeats: u32,
+        order: &mut [u8],
+        summaries: &mut [u32],
+        worst_by_position: &mut [u32],
+    ) -> Answer<Body> {
+        let mut body = Body::default();
+        let number = unsafe {
+            (self.plan_body)(
+                image.as_ptr(),
+                image.len(),
+                repeats,
+                order.as_mut_ptr(),
+                order.len(),
+                summaries.as_mut_ptr(),
+                summaries.len(),
+                worst_by_position.as_mut_ptr(),
+                worst_by_position.len(),
+                &mut body,
+            )
+        };
+        answer(number, body)
+    }
+
+    fn body_limit(&self, body: Body, summaries: &[u32], position: usize, level: usize) -> Answer<i64> {
+        let mut limit = 0;
+        let number =
+            unsafe { (self.body_limit)(body, summaries.as_ptr(), summaries.len(), position, level, &mut limit) };
+        answer(number, limit)
+    }
+
+    fn body_bound(
+        &self,
+        body: Body,
+        summaries: &[u32],
+        worst_by_position: &[u32],
+        position: usize,
+        level: usize,
+        length: usize,
+    ) -> Answer<i64> {
+        let mut bound = 0;
+        let number = unsafe {
+            (self.body_bound)(
+                body,
+                summaries.as_ptr(),
+                summaries.len(),
+                worst_by_position.as_ptr(),
+                worst_by_position.len(),
+                position,
+                level,
+                length,
+                &mut bound,
+            )
+        };
+        answer(number, bound)
+    }
+
+    fn body_start(&self, run: &mut BodyRun, body: Body) -> u8 {
+        unsafe { (self.body_start)(run, body) as u8 }
+    }
+
+    fn body_ask(&self, run: &mut BodyRun, tables: BodyTables) -> Answer<Given> {
+        let mut asked = Given::default();
+        let number = unsafe {
+            (self.body_ask)(
+                run,
+                tables.order.as_ptr(),
+                tables.order.len(),
+                tables.summaries.as_ptr(),
+                tables.summaries.len(),
+                tables.worst_by_position.as_ptr(),
+                tables.worst_by_position.len(),
+                &mut asked,
+            )
+        };
+        // Field by field, as of a plain asking.
+        let Given { action, level, decided, late } = asked;
+        answer(number, Given { action, level, decided, late })
+    }
+
+    fn body_report(&self, run: &mut BodyRun, clock: u32, worst_by_position: &[u32]) -> u8 {
+        unsafe { (self.body_report)(run, clock, worst_by_position.as_ptr(), worst_by_position.len()) as u8 }
+    }
+
+    fn body_dry_frame(
+        &self,
+        image: &[u8],
+        repeats: u32,
+        durations: &[u32],
+        order: &mut [u8],
+        given: &mut [u8],
+        marks: &mut [u8],
+    ) -> Answer<BodyDried> {
+        let mut cycle = BodyDried::default();
+        let number = unsafe {
+            (self.body_dry_frame)(
+                image.as_ptr(),
+                image.len(),
+                repeats,
+                durations.as_ptr(),
+                durations.len(),
+                order.as_mut_ptr(),
+                order.len(),
+                given.as_mut_ptr(),
+                given.len(),
+                marks.as_mut_ptr(),
+                marks.len(),
+                &mut cycle,
+            )
+        };
+        answer(number, cycle)
     }
 
     fn speed_reading(&self, image: &[u8], first: usize, last: usize, level: usize, t: u32) -> Reading {

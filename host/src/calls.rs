@@ -4,8 +4,8 @@
 pub type Answer<T> = Result<T, u8>;
 
 pub use crate::boundary::{
-    Run, Totals, ABSENT_BOUND, LAST_CLOCK, LONGEST_COAST, LONGEST_TIME, MOST_ACTIONS, MOST_FRAMES, MOST_LEVELS,
-    MOST_RECORDS,
+    Body, BodyRun, Run, Totals, ABSENT_BOUND, ABSENT_LONG, LAST_CLOCK, LONGEST_COAST, LONGEST_TIME, MOST_ACTIONS,
+    MOST_FRAMES, MOST_LEVELS, MOST_POSITIONS, MOST_RECORDS, MOST_REPEATS, SUMMARY_NUMBERS,
 };
 
 /// The numbers of refusal, those of the boundary by their last word.
@@ -30,6 +30,7 @@ pub mod refused {
     pub const DURATION: u8 = of::REFUSED_DURATION as u8;
     pub const ROOM: u8 = of::REFUSED_ROOM as u8;
     pub const READING: u8 = of::REFUSED_READING as u8;
+    pub const REPEATS: u8 = of::REFUSED_REPEATS as u8;
 }
 
 /// Actions, levels and cycle of a profile.
@@ -82,6 +83,17 @@ pub struct Line {
     pub late: bool,
 }
 
+/// What the dry run of a body repeated answers.
+#[derive(Clone, Copy, Debug, Default, PartialEq, Eq)]
+#[repr(C)]
+pub struct BodyDried {
+    pub decisions: u32,
+    pub end: u64,
+    pub positions: u32,
+    pub overrun: bool,
+    pub late: bool,
+}
+
 /// The speed reading.
 #[derive(Clone, Copy, Debug)]
 pub enum Reading {
@@ -110,6 +122,14 @@ pub struct Tables<'a> {
     pub limits: &'a [i32],
     pub worst_by_position: &'a [u32],
     pub bounds: &'a [i32],
+}
+
+/// The tables that the run of a body repeated reads: the body's order, summaries n by L by 3, worst times n by L.
+#[derive(Clone, Copy, Debug)]
+pub struct BodyTables<'a> {
+    pub order: &'a [u8],
+    pub summaries: &'a [u32],
+    pub worst_by_position: &'a [u32],
 }
 
 /// The public calls. Lent slices are written only when there is no refusal, and keep their tails.
@@ -232,6 +252,50 @@ pub trait Calls {
     /// A frame of a recording run dry over the planned tables, and counted in the host's own totals. Refused, it counts in none.
     fn rehearse(&self, totals: &mut Totals, n: usize, levels: usize, tables: Tables, frame: &[u8]) -> Answer<Line>;
 
+    /// A body planned to be repeated: its order, the summaries of its rest by position and level, its worst times by position.
+    fn plan_body(
+        &self,
+        image: &[u8],
+        repeats: u32,
+        order: &mut [u8],
+        summaries: &mut [u32],
+        worst_by_position: &mut [u32],
+    ) -> Answer<Body>;
+
+    /// The limit at a position of all repeats and a level.
+    fn body_limit(&self, body: Body, summaries: &[u32], position: usize, level: usize) -> Answer<i64>;
+
+    /// The coast bound there for a length.
+    fn body_bound(
+        &self,
+        body: Body,
+        summaries: &[u32],
+        worst_by_position: &[u32],
+        position: usize,
+        level: usize,
+        length: usize,
+    ) -> Answer<i64>;
+
+    /// A start in the host's own record; the number of refusal, 0 for none.
+    fn body_start(&self, run: &mut BodyRun, body: Body) -> u8;
+
+    /// The next action and its level.
+    fn body_ask(&self, run: &mut BodyRun, tables: BodyTables) -> Answer<Given>;
+
+    /// The end of the running action; the number of refusal, 0 for none.
+    fn body_report(&self, run: &mut BodyRun, clock: u32, worst_by_position: &[u32]) -> u8;
+
+    /// A whole cycle of a body repeated from an image, over durations by position of all repeats and level.
+    fn body_dry_frame(
+        &self,
+        image: &[u8],
+        repeats: u32,
+        durations: &[u32],
+        order: &mut [u8],
+        given: &mut [u8],
+        marks: &mut [u8],
+    ) -> Answer<BodyDried>;
+
     /// The speed reading of positions `first` to `last` at a level and a time.
     fn speed_reading(&self, image: &[u8], first: usize, last: usize, level: usize, t: u32) -> Reading;
 
@@ -329,6 +393,50 @@ macro_rules! calls_of_module {
                 frame: &[u8],
             ) -> Answer<Line> {
                 $module::rehearse(totals, n, levels, tables, frame)
+            }
+            fn plan_body(
+                &self,
+                image: &[u8],
+                repeats: u32,
+                order: &mut [u8],
+                summaries: &mut [u32],
+                worst_by_position: &mut [u32],
+            ) -> Answer<Body> {
+                $module::plan_body(image, repeats, order, summaries, worst_by_position)
+            }
+            fn body_limit(&self, body: Body, summaries: &[u32], position: usize, level: usize) -> Answer<i64> {
+                $module::body_limit(body, summaries, position, level)
+            }
+            fn body_bound(
+                &self,
+                body: Body,
+                summaries: &[u32],
+                worst_by_position: &[u32],
+                position: usize,
+                level: usize,
+                length: usize,
+            ) -> Answer<i64> {
+                $module::body_bound(body, summaries, worst_by_position, position, level, length)
+            }
+            fn body_start(&self, run: &mut BodyRun, body: Body) -> u8 {
+                $module::body_start(run, body)
+            }
+            fn body_ask(&self, run: &mut BodyRun, tables: BodyTables) -> Answer<Given> {
+                $module::body_ask(run, tables)
+            }
+            fn body_report(&self, run: &mut BodyRun, clock: u32, worst_by_position: &[u32]) -> u8 {
+                $module::body_report(run, clock, worst_by_position)
+            }
+            fn body_dry_frame(
+                &self,
+                image: &[u8],
+                repeats: u32,
+                durations: &[u32],
+                order: &mut [u8],
+                given: &mut [u8],
+                marks: &mut [u8],
+            ) -> Answer<BodyDried> {
+                $module::body_dry_frame(image, repeats, durations, order, given, marks)
             }
             fn speed_reading(&self, image: &[u8], first: usize, last: usize, level: usize, t: u32) -> Reading {
                 $module::speed_reading(image, first, last, level, t)

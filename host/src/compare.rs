@@ -1,5 +1,7 @@
 //! Two implementations of the calls side by side over drawn inputs, with a tally of what was met.
 
+mod bodies;
+
 use crate::calls::{
     Answer, Calls, Counts, Given, Line, Reading, Run, Tables, Totals, LAST_CLOCK, LONGEST_COAST, MOST_ACTIONS,
     MOST_LEVELS,
@@ -17,7 +19,7 @@ pub struct Tally {
 }
 
 /// The numbers that each call can give.
-pub const NUMBERS: [(&str, &[u8]); 15] = [
+pub const NUMBERS: [(&str, &[u8]); 22] = [
     ("check", &[0, 1, 2, 3, 4, 5, 6, 7, 8, 9]),
     ("read", &[0, 1, 2, 3, 4, 5, 6, 7, 8, 9, 17]),
     ("write", &[0, 3, 6, 7, 8, 9, 17]),
@@ -30,13 +32,20 @@ pub const NUMBERS: [(&str, &[u8]); 15] = [
     ("dry frame", &[0, 1, 2, 3, 4, 5, 6, 7, 8, 9, 16, 17]),
     ("open recording", &[0, 1, 2, 3, 4, 5, 6, 7, 8, 9, 14, 17]),
     ("rehearse", &[0, 3, 11, 14, 16, 17]),
+    ("plan body", &[0, 1, 2, 3, 4, 5, 6, 7, 8, 9, 17, 19]),
+    ("body limit", &[0, 3, 17, 18, 19]),
+    ("body bound", &[0, 3, 17, 18, 19]),
+    ("body start", &[0, 3, 19]),
+    ("body ask", &[0, 10, 11, 17]),
+    ("body report", &[0, 11, 12, 13, 17]),
+    ("body dry frame", &[0, 1, 2, 3, 4, 5, 6, 7, 8, 9, 16, 17, 19]),
     ("on time", &[0]),
     ("reading", &[0, 1, 2, 3, 4, 5, 6, 7, 8, 9, 13, 18]),
     ("refresh", &[0, 1, 2, 3, 4, 5, 6, 7, 8, 9, 14, 15, 16, 17]),
 ];
 
-/// The events that a good set of inputs meets, beside every grant from 1 to 16 and every level as the lowest of a frame.
-pub const EVENTS: [&str; 23] = [
+/// The events that a good set of inputs meets, beside every grant from 1 to 16, of a body repeated too, and every level as the lowest of a frame.
+pub const EVENTS: [&str; 48] = [
     "on time",
     "not on time",
     "spent",
@@ -60,6 +69,31 @@ pub const EVENTS: [&str; 23] = [
     "total decisions out",
     "total overruns out",
     "total lates out",
+    "body late",
+    "body coasted",
+    "body not planned by anyone",
+    "body overrun",
+    "body no overrun",
+    "body frame late",
+    "body ends past the last clock",
+    "body frame with a tail",
+    "coast into the next repeat",
+    "bound",
+    "absent bound",
+    "limit below 0",
+    "N = 1",
+    "N = 1620",
+    "all repeats run",
+    "body n out",
+    "body L out",
+    "body cycle out",
+    "body N out",
+    "body position out",
+    "body clock out",
+    "body running out",
+    "body level out",
+    "body coast left out",
+    "body decisions out",
 ];
 
 impl Tally {
@@ -99,7 +133,7 @@ impl Tally {
                 gaps.push(format!("{call}: {no} is none of its numbers"));
             }
         }
-        let grants = (1..=LONGEST_COAST).map(|r| format!("grant {r}"));
+        let grants = (1..=LONGEST_COAST).flat_map(|r| [format!("grant {r}"), format!("body grant {r}")]);
         let lowest = (0..MOST_LEVELS).map(|level| format!("lowest {level}"));
         for event in EVENTS.iter().map(|event| event.to_string()).chain(grants).chain(lowest) {
             if !self.events.contains_key(&event) {
@@ -121,7 +155,7 @@ impl Display for Tally {
         }
         let events: Vec<String> = self.events.iter().map(|(event, count)| format!("{event} {count}")).collect();
         writeln!(out, "{}", events.join(", "))?;
-        let numbers: Vec<String> = (0..=18).map(|no| format!("{no}\u{d7}{}", self.met_at_all(no))).collect();
+        let numbers: Vec<String> = (0..=19).map(|no| format!("{no}\u{d7}{}", self.met_at_all(no))).collect();
         writeln!(out, "{} inputs: {}", self.inputs(), numbers.join(" "))
     }
 }
@@ -208,7 +242,7 @@ impl Pair<'_> {
         if counts.is_some() {
             self.cycles(&image)?;
         }
-        Ok(())
+        self.bodies(size)
     }
 
     /// The counts of an accepted image.

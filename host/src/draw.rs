@@ -1,4 +1,6 @@
-//! Inputs from a seed: profiles small, large, extreme and damaged, durations, traces, frames, run records, totals and tables.
+//! Inputs from a seed: profiles small, large, extreme and damaged, durations, traces, frames, run records, totals and tables; bodies to be repeated.
+
+mod bodies;
 
 use crate::calls::{
     Run, Totals, LAST_CLOCK, LONGEST_COAST, LONGEST_TIME, MOST_ACTIONS, MOST_FRAMES, MOST_LEVELS, MOST_RECORDS,
@@ -624,7 +626,11 @@ impl Draw {
 
     /// A clock for a report: near the last one, or at an edge.
     pub fn clock(&mut self, run: Run, longest: u32) -> u32 {
-        let last = run.clock;
+        self.clock_after(run.clock, longest)
+    }
+
+    /// The same after a last one, of any record.
+    pub fn clock_after(&mut self, last: u32, longest: u32) -> u32 {
         match self.between(0, 9) {
             0 => last,
             1 => last.saturating_sub(self.between(1, 3)),

@@ -5,7 +5,7 @@
 //! - [`reference`]: the calls by the definitions of the rules. Slow, plain, and the judge.
 //! - [`boundary`]: the header in Rust; [`product`]: the product's own calls, linked, each in a safe function.
 //! - [`fast`]: the same calls as a good engineer would write them for speed; [`c`] binds the same in C (`c/fast.c`).
-//! - [`text`]: what the three programs print.
+//! - [`text`]: what the four programs print.
 //! - [`draw`]: inputs from a seed; [`compare`]: two implementations side by side over such inputs; [`outside`]: vectors in files.
 
 pub mod boundary;
@@ -19,4 +19,7 @@ pub mod product;
 pub mod reference;
 pub mod text;
 
-pub use calls::{Answer, Calls, Counts, Dried, Given, Line, Opened, Reading, Run, Tables, Totals};
+pub use calls::{
+    Answer, Body, BodyDried, BodyRun, BodyTables, Calls, Counts, Dried, Given, Line, Opened, Reading, Run, Tables,
+    Totals,
+};

@@ -1,9 +1,11 @@
 //! Writes vectors: inputs with what the product must answer, in files that any program can read.
 
-use crate::calls::{Answer, Calls, Fast, Reading, Reference, LAST_CLOCK, LONGEST_TIME, MOST_FRAMES};
+use crate::calls::{
+    Answer, Calls, Fast, Reading, Reference, LAST_CLOCK, LONGEST_COAST, LONGEST_TIME, MOST_FRAMES, MOST_REPEATS,
+};
 use crate::draw::{big_endian, Draw, Pace, Size, Sketch, PACES};
 use crate::reference::{accept, Planned};
-use crate::text;
+use crate::text::{self, BodyPlan};
 use std::fs;
 use std::io;
 use std::path::Path;
@@ -29,6 +31,14 @@ struct Recording {
     recording: Vec<u8>,
 }
 
+/// One image to be repeated, with durations for a dry run.
+struct Repeated {
+    what: &'static str,
+    image: Vec<u8>,
+    repeats: u32,
+    durations: Vec<u8>,
+}
+
 /// What was written.
 #[derive(Clone, Debug, Default)]
 pub struct Written {
@@ -36,6 +46,7 @@ pub struct Written {
     pub traces: usize,
     pub readings: usize,
     pub recordings: usize,
+    pub bodies: usize,
     pub bytes: usize,
 }
 
@@ -47,6 +58,7 @@ Made from the definitions of the rules, by a seed.
 - tNN.profile, tNN.trace; then either tNN.refreshed, the new image, or tNN.refused, the line of the refusal.
 - readings.txt: an image in hexadecimal, first position, last position, level, time, and the reading: `spent`, `refused` and the number, or the 64 bits of the ratio in hexadecimal.
 - rNN.profile, rNN.recording; rNN.rehearse is what the rehearsing program prints for both.
+- bNN.body (an image), bNN.repeats; bNN.limits has the lines `position action limits..` that the program for a body repeated prints after its first, all of them or some, or the line of the refusal; bNN.bounds lines `position level length bound`; bNN.durations, and in bNN.dry what the dry run over them answers.
 ";
 
 /// Writes all vectors of a seed into a folder, which is made if it is not there.
@@ -67,6 +79,10 @@ pub fn write(folder: &Path, seed: u64) -> io::Result<Written> {
     page += "\n| recording | what | frame lines | last line |\n|---|---|---|---|\n";
     for recording in maker.recordings() {
         page += &maker.recording(&recording)?;
+    }
+    page += "\n| body | what | N | plan's first line | dry run's last line |\n|---|---|---|---|---|\n";
+    for body in maker.bodies() {
+        page += &maker.body(&body)?;
     }
     maker.file("README.md", page.as_bytes())?;
     Ok(maker.written)
@@ -349,5 +365,82 @@ impl Maker<'_> {
         recordings.push(Recording { what: "4,096 frames of one entry", image: image.clone(), recording: most });
         recordings.push(Recording { what: "4,097 frames", image, recording: over });
         recordings
+    }
+
+    /// The row of a body, whose files are written.
+    fn body(&mut self, case: &Repeated) -> io::Result<String> {
+        /// The most positions of which all are told.
+        const ALL: usize = 200;
+        let name = format!("b{:02}", self.written.bodies);
+        let Repeated { what, image, repeats, durations } = case;
+        let printed = text::repeat_plan(&Fast, image, *repeats);
+        let (first, lines) = printed.split_once('\n').expect("a first line");
+        let dry = text::repeat_dry_run(&Reference, image, *repeats, durations);
+        assert_eq!(dry, text::repeat_dry_run(&Fast, image, *repeats, durations), "{what}");
+        let (limits, bounds) = match BodyPlan::of(&Reference, image, *repeats) {
+            Err(number) => (format!("refused {number}\n"), String::new()),
+            Ok(plan) => {
+                let step = plan.positions().div_ceil(ALL);
+                let told = (0..plan.positions()).step_by(step).map(|position| plan.line(&Reference, position));
+                let told = told.collect::<String>();
+                assert!(step > 1 || told == lines, "{what}");
+                let bounds = (0..40).map(|_| self.bound(&plan)).collect();
+                (told, bounds)
+            }
+        };
+        self.file(&format!("{name}.body"), image)?;
+        self.file(&format!("{name}.repeats"), format!("{repeats}\n").as_bytes())?;
+        self.file(&format!("{name}.limits"), limits.as_bytes())?;
+        self.file(&format!("{name}.bounds"), bounds.as_bytes())?;
+        self.file(&format!("{name}.durations"), durations)?;
+        self.file(&format!("{name}.dry"), dry.as_bytes())?;
+        self.written.bodies += 1;
+        let last = dry.lines().last().unwrap_or("");
+        Ok(format!("| {name} | {what} | {repeats} | {first} | {last} |\n"))
+    }
+
+    /// The line of a drawn coast bound.
+    fn bound(&mut self, plan: &BodyPlan) -> String {
+        let (position, level) = (self.draw.index(plan.positions()), self.draw.index(plan.body.levels as usize));
+        let length = 1 + self.draw.index(LONGEST_COAST);
+        let bound = plan.bound(&Reference, position, level, length);
+        assert_eq!(bound, plan.bound(&Fast, position, level, length));
+        format!("{position} {level} {length} {bound}\n")
+    }
+
+    fn bodies(&mut self) -> Vec<Repeated> {
+        let mut bodies = Vec::new();
+        while bodies.len() < 60 {
+            let (size, repeats) = (self.draw.pick(&[Size::Tiny, Size::Small]), self.draw.repeats());
+            let image = self.draw.body_image(size, repeats);
+            let worst = BodyPlan::of(&Fast, &image, repeats)
+                .map(|plan| plan.worst[..(plan.body.n * plan.body.levels) as usize].repeat(plan.body.repeats as usize));
+            let worst = worst.unwrap_or_default();
+            // Of the longest that there may be only those at the end.
+            if worst.len() > 1000 {
+                continue;
+            }
+            let pace = self.draw.pick(&PACES);
+            let mut durations = big_endian(&self.draw.durations(&worst, pace));
+            if self.draw.once_in(12) {
+                durations.pop();
+            }
+            bodies.push(Repeated { what: "drawn", image, repeats, durations });
+        }
+        let one = Sketch {
+            n: 1,
+            levels: 2,
+            cycle: 3 * MOST_REPEATS,
+            masks: vec![0],
+            deadlines: vec![0],
+            averages: vec![1, 3],
+            worst: vec![2, 4],
+            ..Sketch::default()
+        };
+        let durations = big_endian(&self.draw.durations(&[2, 4].repeat(MOST_REPEATS as usize), Pace::Within));
+        bodies.push(Repeated { what: "one action 1,620 times", image: one.image(), repeats: MOST_REPEATS, durations });
+        let image = one.image();
+        bodies.push(Repeated { what: "1,621 times", image, repeats: MOST_REPEATS + 1, durations: Vec::new() });
+        bodies
     }
 }

@@ -2,7 +2,7 @@
 //! [`boundary`](crate::boundary); a slice crosses as a pointer and a count.
 
 use crate::boundary::*;
-use crate::calls::{self, Answer, Calls, Counts, Tables};
+use crate::calls::{self, Answer, BodyDried, BodyTables, Calls, Counts, Tables};
 
 /// The answer's values, or the number of its refusal, with which every value is the first one, 0 or no.
 #[inline(always)]
@@ -294,6 +294,110 @@ impl Calls for Product {
             )
         };
         answer(refusal, calls::Line { decisions, lowest, end, overrun, late }, calls::Line::default())
+    }
+
+    fn plan_body(
+        &self,
+        image: &[u8],
+        repeats: u32,
+        order: &mut [u8],
+        summaries: &mut [u32],
+        worst_by_position: &mut [u32],
+    ) -> Answer<Body> {
+        let BodyPlanned { refusal, body } = unsafe {
+            nyokazerubi_plan_body(
+                image.as_ptr(),
+                image.len(),
+                repeats,
+                order.as_mut_ptr(),
+                order.len(),
+                summaries.as_mut_ptr(),
+                summaries.len(),
+                worst_by_position.as_mut_ptr(),
+                worst_by_position.len(),
+            )
+        };
+        answer(refusal, body, Body::default())
+    }
+
+    fn body_limit(&self, body: Body, summaries: &[u32], position: usize, level: usize) -> Answer<i64> {
+        let Limited { refusal, limit } =
+            unsafe { nyokazerubi_body_limit(body, summaries.as_ptr(), summaries.len(), position, level) };
+        answer(refusal, limit, 0)
+    }
+
+    fn body_bound(
+        &self,
+        body: Body,
+        summaries: &[u32],
+        worst_by_position: &[u32],
+        position: usize,
+        level: usize,
+        length: usize,
+    ) -> Answer<i64> {
+        let Limited { refusal, limit } = unsafe {
+            nyokazerubi_body_bound(
+                body,
+                summaries.as_ptr(),
+                summaries.len(),
+                worst_by_position.as_ptr(),
+                worst_by_position.len(),
+                position,
+                level,
+                length,
+            )
+        };
+        answer(refusal, limit, 0)
+    }
+
+    fn body_start(&self, run: &mut BodyRun, body: Body) -> u8 {
+        unsafe { nyokazerubi_body_start(run, body).number as u8 }
+    }
+
+    fn body_ask(&self, run: &mut BodyRun, tables: BodyTables) -> Answer<calls::Given> {
+        let Given { refusal, action, level, decided, late } = unsafe {
+            nyokazerubi_body_ask(
+                run,
+                tables.order.as_ptr(),
+                tables.order.len(),
+                tables.summaries.as_ptr(),
+                tables.summaries.len(),
+                tables.worst_by_position.as_ptr(),
+                tables.worst_by_position.len(),
+            )
+        };
+        answer(refusal, calls::Given { action, level, decided, late }, calls::Given::default())
+    }
+
+    fn body_report(&self, run: &mut BodyRun, clock: u32, worst_by_position: &[u32]) -> u8 {
+        unsafe { nyokazerubi_body_report(run, clock, worst_by_position.as_ptr(), worst_by_position.len()).number as u8 }
+    }
+
+    fn body_dry_frame(
+        &self,
+        image: &[u8],
+        repeats: u32,
+        durations: &[u32],
+        order: &mut [u8],
+        given: &mut [u8],
+        marks: &mut [u8],
+    ) -> Answer<BodyDried> {
+        let BodyFramed { refusal, decisions, end, positions, overrun, late } = unsafe {
+            nyokazerubi_body_dry_frame(
+                image.as_ptr(),
+                image.len(),
+                repeats,
+                durations.as_ptr(),
+                durations.len(),
+                order.as_mut_ptr(),
+                order.len(),
+                given.as_mut_ptr(),
+                given.len(),
+                marks.as_mut_ptr(),
+                marks.len(),
+            )
+        };
+        answer(refusal, BodyDried { decisions, end, positions, overrun, late }, BodyDried::default())
     }
 
     fn speed_reading(&self, image: &[u8], first: usize, last: usize, level: usize, t: u32) -> calls::Reading {

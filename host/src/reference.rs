@@ -8,14 +8,19 @@ mod order;
 mod profile;
 mod recording;
 mod refresh;
+mod repeat;
 mod run;
 mod speed;
 
-pub use image::{accept, check, lookup, lookup_refusal, read, write};
+pub use image::{accept, accept_but_unfit, check, lookup, lookup_refusal, read, write};
 pub use limits::{plan, Planned};
 pub use order::{Follows, Order};
-pub use profile::Profile;
+pub use profile::{Profile, Set};
 pub use recording::{open_recording, rehearse, totals_out};
 pub use refresh::refresh;
-pub use run::{ask, asked, dry_run, fields_out, granted, in_range, report, start, Bounds};
+pub use repeat::{
+    body_ask, body_bound, body_dry_frame, body_fields_out, body_limit, body_report, body_start, plan_body, Summary,
+    Sums, Unrolled,
+};
+pub use run::{ask, asked, dry_run, fields_out, granted, in_range, report, start, Bounds, Limits};
 pub use speed::{on_time, speed_reading};

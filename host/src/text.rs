@@ -1,7 +1,8 @@
-//! What the three programs print.
+//! What the four programs print, and of a body repeated its dry run.
 
 use crate::calls::{
-    Answer, Calls, Counts, Dried, Line, Opened, Tables, Totals, LONGEST_COAST, MOST_ACTIONS, MOST_LEVELS,
+    Answer, Body, BodyDried, Calls, Counts, Dried, Line, Opened, Tables, Totals, LONGEST_COAST, MOST_ACTIONS,
+    MOST_LEVELS, SUMMARY_NUMBERS,
 };
 use std::fmt::Write;
 
@@ -60,10 +61,15 @@ pub fn dry_run(calls: &dyn Calls, image: &[u8], durations: &[u8]) -> String {
     cycle_lines(calls, image, durations).unwrap_or_else(refused)
 }
 
+/// Durations, high byte first; what is left over at the end is none.
+fn entries(bytes: &[u8]) -> Vec<u32> {
+    bytes.chunks_exact(4).map(|bytes| u32::from_be_bytes([bytes[0], bytes[1], bytes[2], bytes[3]])).collect()
+}
+
 fn cycle_lines(calls: &dyn Calls, image: &[u8], durations: &[u8]) -> Answer<String> {
     let (Counts { n, levels, .. }, plan) = planned(calls, image)?;
-    let entries = durations.chunks_exact(4).map(|bytes| u32::from_be_bytes([bytes[0], bytes[1], bytes[2], bytes[3]]));
-    let durations: Vec<u32> = entries.take(n * levels).collect();
+    let mut durations = entries(durations);
+    durations.truncate(n * levels);
     let (mut given, mut marks) = ([0; MOST_ACTIONS], [0; MOST_ACTIONS]);
     let cycle = calls.dry_run(n, levels, plan.tables(), &durations, &mut given, &mut marks)?;
     let mut text = String::new();
@@ -98,5 +104,81 @@ fn frame_lines(calls: &dyn Calls, image: &[u8], recording: &[u8]) -> Answer<Stri
     }
     let Totals { frames, decisions, overruns, lates } = totals;
     writeln!(text, "{frames} {decisions} {overruns} {lates}").expect("text grows");
+    Ok(text)
+}
+
+/// A body planned, with the tables that its limits and coast bounds are worked out from.
+pub struct BodyPlan {
+    pub body: Body,
+    pub order: Vec<u8>,
+    pub summaries: Vec<u32>,
+    pub worst: Vec<u32>,
+}
+
+impl BodyPlan {
+    pub fn of(calls: &dyn Calls, image: &[u8], repeats: u32) -> Answer<BodyPlan> {
+        const CELLS: usize = MOST_ACTIONS * MOST_LEVELS;
+        let (mut order, mut summaries) = (vec![0; MOST_ACTIONS], vec![0; CELLS * SUMMARY_NUMBERS]);
+        let mut worst = vec![0; CELLS];
+        let body = calls.plan_body(image, repeats, &mut order, &mut summaries, &mut worst)?;
+        Ok(BodyPlan { body, order, summaries, worst })
+    }
+
+    pub fn positions(&self) -> usize {
+        self.body.n as usize * self.body.repeats as usize
+    }
+
+    /// The action at a position, by its number in the unrolled profile.
+    pub fn action(&self, position: usize) -> usize {
+        let n = self.body.n as usize;
+        position / n * n + usize::from(self.order[position % n])
+    }
+
+    /// The line of a position: its action, and its limits.
+    pub fn line(&self, calls: &dyn Calls, position: usize) -> String {
+        let mut line = format!("{position} {}", self.action(position));
+        for level in 0..self.body.levels as usize {
+            let limit = calls.body_limit(self.body, &self.summaries, position, level).expect("it is there");
+            write!(line, " {limit}").expect("text grows");
+        }
+        line + "\n"
+    }
+
+    /// A coast bound of a position and a level that are there.
+    pub fn bound(&self, calls: &dyn Calls, position: usize, level: usize, length: usize) -> i64 {
+        let bound = calls.body_bound(self.body, &self.summaries, &self.worst, position, level, length);
+        bound.expect("it is there")
+    }
+}
+
+/// The program that plans a body repeated, given the image on its standard input.
+pub fn repeat_plan(calls: &dyn Calls, image: &[u8], repeats: u32) -> String {
+    match BodyPlan::of(calls, image, repeats) {
+        Err(number) => refused(number),
+        Ok(plan) => {
+            let Body { n, levels, cycle, repeats } = plan.body;
+            let lines: String = (0..plan.positions()).map(|position| plan.line(calls, position)).collect();
+            format!("{n} {levels} {cycle} {repeats}\n") + &lines
+        }
+    }
+}
+
+/// The dry run of a body repeated, as the dry-run program prints one.
+pub fn repeat_dry_run(calls: &dyn Calls, image: &[u8], repeats: u32, durations: &[u8]) -> String {
+    body_lines(calls, image, repeats, durations).unwrap_or_else(refused)
+}
+
+fn body_lines(calls: &dyn Calls, image: &[u8], repeats: u32, durations: &[u8]) -> Answer<String> {
+    let plan = BodyPlan::of(calls, image, repeats)?;
+    let mut order = vec![0; plan.body.n as usize];
+    let (mut given, mut marks) = (vec![0; plan.positions()], vec![0; plan.positions()]);
+    let cycle = calls.body_dry_frame(image, repeats, &entries(durations), &mut order, &mut given, &mut marks)?;
+    assert_eq!(order, plan.order[..order.len()], "one order");
+    let mut text = String::new();
+    for i in 0..cycle.positions as usize {
+        writeln!(text, "{i} {} {} {}", plan.action(i), given[i], marks[i]).expect("text grows");
+    }
+    let BodyDried { decisions, end, overrun, late, .. } = cycle;
+    writeln!(text, "{decisions} {end} {} {}", u8::from(overrun), u8::from(late)).expect("text grows");
     Ok(text)
 }

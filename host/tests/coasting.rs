@@ -1,20 +1,50 @@
 //! Demand 3 by enumeration: for durations from zero to worst no deadline is missed, every level is that of the manager asked before
-//! the action, and no way of coasting that can't differ decides less often. Of the definitions and of the product.
+//! the action, and no way of coasting that can't differ decides less often. Of the definitions and of the product, of a body repeated too.
 
 mod common;
 
-use nyokazerubi_host::calls::{Calls, Dried, Reference, Tables, LONGEST_COAST};
+use nyokazerubi_host::calls::{Answer, Calls, Dried, Reference, Tables, LONGEST_COAST};
 use nyokazerubi_host::draw::{Draw, Size, Sketch};
 use nyokazerubi_host::product::Product;
-use nyokazerubi_host::reference::Planned;
+use nyokazerubi_host::reference::{accept_but_unfit, Planned, Unrolled};
 use std::collections::HashMap;
+
+/// What a cycle is run by: the planner's limits, worst times and coast bounds; or the image of a body that is repeated so often.
+enum Ran {
+    Tables(Vec<i32>, Vec<u32>, Vec<i32>),
+    Repeated(Vec<u8>, u32),
+}
+
+impl Ran {
+    /// The dry run over durations by position and level.
+    fn dry(
+        &self,
+        calls: &dyn Calls,
+        planned: &Planned,
+        durations: &[u32],
+        given: &mut [u8],
+        marks: &mut [u8],
+    ) -> Answer<Dried> {
+        match self {
+            Ran::Tables(limits, worst, bounds) => {
+                let tables = Tables { limits, worst_by_position: worst, bounds };
+                calls.dry_run(planned.n, planned.levels, tables, durations, given, marks)
+            }
+            Ran::Repeated(image, repeats) => {
+                let cycle = calls.body_dry_frame(image, *repeats, durations, &mut [0; 64], given, marks)?;
+                assert_eq!(cycle.positions as usize, planned.n);
+                let (decisions, end) = (cycle.decisions, cycle.end as u32);
+                Ok(Dried { decisions, end, overrun: cycle.overrun, late: cycle.late })
+            }
+        }
+    }
+}
 
 /// A planned profile with what was found about it.
 struct Trial {
     planned: Planned,
     limits: Vec<Vec<i64>>,
-    /// The planner's limits, worst times and coast bounds.
-    tables: (Vec<i32>, Vec<u32>, Vec<i32>),
+    ran: Ran,
     steady: HashMap<(usize, i64, usize), bool>,
     cycles: usize,
 }
@@ -31,9 +61,25 @@ impl Trial {
         assert!(answer.is_ok(), "the product's plan of {sketch:?}");
         assert_eq!(planned, (order, limits.clone(), worst.clone(), bounds.clone()), "the product's plan of {sketch:?}");
         let planned = Planned::of(&common::profile(sketch));
-        let by_definition = planned.limits();
-        let tables = (limits, worst, bounds);
-        Some(Trial { planned, limits: by_definition, tables, steady: HashMap::new(), cycles: 0 })
+        Some(Trial::of(planned, Ran::Tables(limits, worst, bounds)))
+    }
+
+    /// Of a body repeated, as it is unrolled; none if it is refused.
+    fn repeated(image: &[u8], repeats: u32, most: usize) -> Option<Trial> {
+        let profile = accept_but_unfit(image).ok()?;
+        if repeats == 0 || profile.n * repeats as usize > most {
+            return None;
+        }
+        let cells = profile.n * profile.levels;
+        let (mut order, mut summaries, mut worst) = (vec![0; profile.n], vec![0; 3 * cells], vec![0; cells]);
+        Product.plan_body(image, repeats, &mut order, &mut summaries, &mut worst).ok()?;
+        let planned = Unrolled::of(&profile, repeats as usize).planned;
+        Some(Trial::of(planned, Ran::Repeated(image.to_vec(), repeats)))
+    }
+
+    fn of(planned: Planned, ran: Ran) -> Trial {
+        let limits = planned.limits();
+        Trial { planned, limits, ran, steady: HashMap::new(), cycles: 0 }
     }
 
     /// The manager asked at position i and time t.
@@ -83,8 +129,7 @@ impl Trial {
         let wanted = Dried { decisions, end: clocks[n] as u32, overrun: false, late: false };
         for calls in [&Reference as &dyn Calls, &Product] {
             let (mut given, mut marks) = (vec![9; n], vec![9; n]);
-            let tables = Tables { limits: &self.tables.0, worst_by_position: &self.tables.1, bounds: &self.tables.2 };
-            let answer = calls.dry_run(n, width, tables, &table, &mut given, &mut marks);
+            let answer = self.ran.dry(calls, &self.planned, &table, &mut given, &mut marks);
             assert_eq!(answer, Ok(wanted), "{:?} {durations:?}", self.planned);
             assert!((0..n).all(|i| given[i] as usize == levels[i]), "{:?} {durations:?}", self.planned);
             assert!((0..n).all(|i| clocks[i + 1] <= self.planned.deadline[i]), "{:?} {durations:?}", self.planned);
@@ -148,6 +193,28 @@ fn drawn_profiles() {
     }
     println!("{trials} profiles, {cycles} cycles, up to {longest} each, {bounds} bounds of two and more");
     assert!(bounds > trials && longest > 3000);
+}
+
+/// Bodies of few actions and short times repeated, up to seven positions in all.
+#[test]
+fn drawn_bodies() {
+    let mut draw = Draw::new(6);
+    let (mut trials, mut cycles, mut bounds, mut longest) = (0, 0, 0, 0);
+    while trials < 2000 {
+        let repeats = draw.between(2, 4);
+        let image = draw.body_image(Size::Tiny, repeats);
+        let Some(mut trial) = Trial::repeated(&image, repeats, 7) else { continue };
+        if trial.planned.worst.iter().flatten().any(|&time| time > 2) {
+            continue;
+        }
+        trial.all_cycles(&mut Vec::new(), &mut Vec::new());
+        trials += 1;
+        cycles += trial.cycles;
+        longest = longest.max(trial.cycles);
+        bounds += trial.steady.iter().filter(|((_, _, r), holds)| *r > 1 && **holds).count();
+    }
+    println!("{trials} bodies, {cycles} cycles, up to {longest} each, {bounds} bounds of two and more");
+    assert!(bounds > trials && longest > 500);
 }
 
 /// Two actions, two levels, all times up to 2 by the table rule, all deadlines, all cycles up to 5.

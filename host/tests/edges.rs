@@ -3,7 +3,8 @@
 mod common;
 
 use nyokazerubi_host::calls::{
-    Calls, Counts, Dried, Line, Opened, Reading, Run, Tables, Totals, LAST_CLOCK, LONGEST_TIME, MOST_RECORDS,
+    Body, BodyDried, BodyRun, BodyTables, Calls, Counts, Dried, Line, Opened, Reading, Run, Tables, Totals,
+    ABSENT_LONG, LAST_CLOCK, LONGEST_TIME, MOST_RECORDS, MOST_REPEATS,
 };
 use nyokazerubi_host::draw::{big_endian, Sketch};
 
@@ -368,4 +369,256 @@ fn lowest_levels() {
         assert_eq!(rehearse([0, 0, 5, 0]), (2, 1, 5, true));
         assert_eq!(rehearse([0, 0, 0, 6]), (1, 1, 6, true));
     });
+}
+
+/// A body of Three, its deadlines as told.
+fn body_of_three(cycle: u32, deadlines: [u32; 3]) -> Vec<u8> {
+    Sketch {
+        n: 3,
+        levels: 2,
+        cycle,
+        masks: vec![0, 1, 2],
+        deadlines: deadlines.to_vec(),
+        averages: vec![2, 6, 2, 6, 2, 6],
+        worst: vec![4, 8, 4, 8, 4, 8],
+        ..Sketch::default()
+    }
+    .image()
+}
+
+/// The refusals of planning a body and of its dry run in their order: the image's own but 9, repeats, 9, room, duration. Nothing is written with one.
+#[test]
+fn refusals_of_a_body_in_order() {
+    on_all_sides(|calls| {
+        let plan = |image: &[u8], repeats: u32, rooms: [usize; 3]| {
+            let mut lent = (vec![7; rooms[0]], vec![7; rooms[1]], vec![7; rooms[2]]);
+            let answer = calls.plan_body(image, repeats, &mut lent.0, &mut lent.1, &mut lent.2);
+            let untouched = lent == (vec![7; rooms[0]], vec![7; rooms[1]], vec![7; rooms[2]]);
+            assert_eq!(answer.is_err(), untouched);
+            answer.err().unwrap_or(0)
+        };
+        let frame = |image: &[u8], repeats: u32, entries: usize, rooms: [usize; 3]| {
+            let mut durations = vec![1; entries];
+            durations[11.min(entries - 1)] = LONGEST_TIME + 1;
+            let mut lent = (vec![7; rooms[0]], vec![7; rooms[1]], vec![7; rooms[2]]);
+            let answer = calls.body_dry_frame(image, repeats, &durations, &mut lent.0, &mut lent.1, &mut lent.2);
+            assert_eq!(lent, (vec![7; rooms[0]], vec![7; rooms[1]], vec![7; rooms[2]]));
+            answer.expect_err("a refusal")
+        };
+        let (whole, none) = ([3, 18, 6], [0; 3]);
+        let same = body_of_three(24, [0, 24, 0]);
+        assert_eq!(plan(&same, 2, whole), 0);
+        for repeats in [0, MOST_REPEATS + 1, u32::MAX] {
+            // 19 before 9 and 17, after the image's own.
+            for image in [&same, &body_of_three(23, [0; 3]), &body_of_three(11, [0; 3]), &body_of_three(24, [0, 23, 0])]
+            {
+                assert_eq!([plan(image, repeats, none), frame(image, repeats, 1, none)], [19, 19]);
+            }
+            assert_eq!([plan(&same[..77], repeats, none), plan(&same[..5], repeats, none)], [4, 1]);
+        }
+        for deadline in [1, 12, 23] {
+            let own = body_of_three(24, [0, 0, deadline]);
+            assert_eq!([plan(&own, 2, none), plan(&own, 1, whole), frame(&own, 1, 1, none)], [19; 3]);
+        }
+        // Twelve units a repeat: two fit 24, and not 23.
+        let tight = body_of_three(23, [23, 0, 0]);
+        assert_eq!([plan(&tight, 1, whole), plan(&tight, 2, none), frame(&tight, 2, 1, none)], [0, 9, 9]);
+        assert_eq!([plan(&same, 3, none), frame(&same, MOST_REPEATS, 1, none)], [9, 9]);
+        for place in 0..3 {
+            let (mut rooms, mut frames) = (whole, [3, 6, 6]);
+            rooms[place] -= 1;
+            frames[place] -= 1;
+            assert_eq!([plan(&same, 2, rooms), frame(&same, 2, 12, frames)], [17, 17]);
+        }
+        assert_eq!([frame(&same, 2, 11, [3, 6, 6]), frame(&same, 2, 12, [3, 6, 6])], [17, 16]);
+        let mut lent = (vec![7; 4], vec![7; 19], vec![7; 7]);
+        let body = calls.plan_body(&same, 2, &mut lent.0, &mut lent.1, &mut lent.2);
+        assert_eq!(body, Ok(Body { n: 3, levels: 2, cycle: 24, repeats: 2 }));
+        assert_eq!(lent.0, [0, 1, 2, 7]);
+        assert_eq!(lent.1, [6, 12, 12, 18, 12, 20, 4, 8, 8, 12, 8, 14, 2, 4, 4, 6, 4, 8, 7]);
+        assert_eq!(lent.2, [4, 8, 4, 8, 4, 8, 7]);
+    });
+}
+
+/// Limits and coast bounds: what is refused, and in which order; the longest sums that there may be, of a plan and of no plan.
+#[test]
+fn limits_of_a_body() {
+    on_all_sides(|calls| {
+        let body = Body { n: 2, levels: 3, cycle: 9, repeats: 4 };
+        let limit = |body: Body, room: usize, position: usize, level: usize| {
+            calls.body_limit(body, &[1; 18][..room], position, level).err().unwrap_or(0)
+        };
+        let bound = |body: Body, rooms: [usize; 2], position: usize, level: usize, length: usize| {
+            let (summaries, worst) = (&[1; 18][..rooms[0]], &[1; 6][..rooms[1]]);
+            calls.body_bound(body, summaries, worst, position, level, length).err().unwrap_or(0)
+        };
+        let counts = [
+            Body { n: 0, ..body },
+            Body { n: 65, ..body },
+            Body { levels: 0, ..body },
+            Body { levels: 9, ..body },
+            Body { cycle: 0, ..body },
+            Body { cycle: LAST_CLOCK + 1, ..body },
+            Body { n: u32::MAX, repeats: 0, ..body },
+        ];
+        for out in counts {
+            assert_eq!([limit(out, 0, 99, 99), bound(out, [0, 0], 99, 99, 99)], [3, 3], "{out:?}");
+        }
+        for repeats in [0, MOST_REPEATS + 1, u32::MAX] {
+            let out = Body { repeats, ..body };
+            assert_eq!([limit(out, 0, 99, 99), bound(out, [0, 0], 99, 99, 99)], [19, 19], "{out:?}");
+        }
+        assert_eq!([limit(body, 17, 99, 99), limit(body, 18, 7, 2)], [17, 0]);
+        assert_eq!([bound(body, [17, 6], 99, 99, 99), bound(body, [18, 5], 99, 99, 99)], [17, 17]);
+        for (position, level) in [(8, 0), (0, 3), (usize::MAX, 0), (0, usize::MAX), (1 << 32, 0), (0, 1 << 32)] {
+            let numbers = [limit(body, 18, position, level), bound(body, [18, 6], position, level, 1)];
+            assert_eq!(numbers, [18, 18], "{position} {level}");
+        }
+        for (length, number) in [(0, 18), (1, 0), (16, 0), (17, 18), (usize::MAX, 18), (1 << 32 | 1, 18)] {
+            assert_eq!(bound(body, [18, 6], 0, 0, length), number, "{length}");
+        }
+        // A coast up to the last position, and one past it.
+        assert_ne!(calls.body_bound(body, &[1; 18], &[1; 6], 5, 0, 3), Ok(ABSENT_LONG));
+        assert_eq!(calls.body_bound(body, &[1; 18], &[1; 6], 5, 0, 4), Ok(ABSENT_LONG));
+
+        // Entries of all bits: at the first position 1,619 bodies come after.
+        let most = Body { n: 64, levels: 8, cycle: 1, repeats: MOST_REPEATS };
+        let all = i64::from(u32::MAX);
+        let (summaries, worst) = (vec![u32::MAX; 1536], vec![u32::MAX; 512]);
+        assert_eq!(calls.body_limit(most, &summaries, 0, 7), Ok(1 - 1620 * all));
+        assert_eq!(calls.body_limit(most, &summaries, 103_679, 7), Ok(1 - all));
+        assert_eq!(calls.body_bound(most, &summaries, &worst, 0, 7, 16), Ok(1 - 1635 * all));
+        assert_eq!(calls.body_bound(most, &summaries, &worst, 103_664, 7, 16), Ok(1 - 16 * all));
+        assert_eq!(calls.body_bound(most, &summaries, &worst, 103_665, 7, 16), Ok(ABSENT_LONG));
+    });
+}
+
+/// On tables of anyone the least of a coast may be at its start: the bound is then that of every longer coast too.
+#[test]
+fn bounds_of_a_body_never_rise() {
+    on_all_sides(|calls| {
+        // M by place: 9, 0, 5.
+        let (summaries, worst) = ([0, 0, 9, 0, 0, 0, 0, 0, 5], [1, 1, 1]);
+        let body = Body { n: 3, levels: 1, cycle: 20, repeats: 1 };
+        let limits = [0, 1, 2].map(|position| calls.body_limit(body, &summaries, position, 0));
+        assert_eq!(limits, [Ok(11), Ok(20), Ok(15)]);
+        let bounds = [1, 2, 3].map(|length| calls.body_bound(body, &summaries, &worst, 0, 0, length));
+        assert_eq!(bounds, [Ok(11); 3]);
+        let bounds = [1, 2].map(|length| calls.body_bound(body, &summaries, &worst, 1, 0, length));
+        assert_eq!(bounds, [Ok(20), Ok(14)]);
+        // Late at 12: no length qualifies, though the limits after it are higher.
+        let tables = BodyTables { order: &[2, 0, 1], summaries: &summaries, worst_by_position: &worst };
+        let mut run = BodyRun { clock: 12, body, ..BodyRun::default() };
+        let given = calls.body_ask(&mut run, tables).expect("a turn");
+        assert_eq!((given.action, given.level, given.late, run.left, run.late), (2, 0, true, 0, true));
+        let mut run = BodyRun { clock: 11, body, ..BodyRun::default() };
+        let given = calls.body_ask(&mut run, tables).expect("a turn");
+        assert_eq!((given.late, run.left, run.late), (false, 2, false));
+    });
+}
+
+/// Each field of the run record of a body at its last accepted value and one over, asked and reported; a refused start leaves zero actions.
+#[test]
+fn body_run_records() {
+    on_all_sides(|calls| {
+        let tables = BodyTables { order: &[0; 64], summaries: &[0; 1536], worst_by_position: &[0; 512] };
+        let refused = |run: BodyRun| {
+            let (mut asked, mut reported) = (run, run);
+            let answer = calls.body_ask(&mut asked, tables);
+            let number = calls.body_report(&mut reported, run.clock as u32, &[0; 512]);
+            assert!(answer.is_ok() || asked == run);
+            assert!(number == 0 || reported == run);
+            answer.err() == Some(11) && number == 11
+        };
+        let of = |body: Body| BodyRun { body, ..BodyRun::default() };
+        let body = Body { n: 20, levels: 3, cycle: 9, repeats: 5 };
+        let still = of(body);
+        let runs = BodyRun { running: true, ..still };
+        assert!(!refused(still) && !refused(runs));
+        for (good, bad) in [
+            (of(Body { n: 64, ..body }), of(Body { n: 65, ..body })),
+            (of(Body { n: 1, ..body }), of(Body { n: 0, ..body })),
+            (of(Body { levels: 8, ..body }), of(Body { levels: 9, ..body })),
+            (of(Body { levels: 1, ..body }), of(Body { levels: 0, ..body })),
+            (of(Body { cycle: LAST_CLOCK, ..body }), of(Body { cycle: LAST_CLOCK + 1, ..body })),
+            (of(Body { cycle: 1, ..body }), of(Body { cycle: 0, ..body })),
+            (of(Body { repeats: 1620, ..body }), of(Body { repeats: 1621, ..body })),
+            (of(Body { repeats: 1, ..body }), of(Body { repeats: 0, ..body })),
+            // So many that positions would be few in 32 bits.
+            (of(body), of(Body { repeats: 1 << 30, ..body })),
+            (BodyRun { position: 100, ..still }, BodyRun { position: 101, ..still }),
+            (BodyRun { position: 99, ..runs }, BodyRun { position: 100, ..runs }),
+            (BodyRun { position: 99, ..runs }, BodyRun { position: u32::MAX, ..runs }),
+            (BodyRun { clock: LAST_CLOCK.into(), ..still }, BodyRun { clock: u64::from(LAST_CLOCK) + 1, ..still }),
+            (BodyRun { clock: 5, ..still }, BodyRun { clock: 1 << 32 | 5, ..still }),
+            (BodyRun { level: 2, ..still }, BodyRun { level: 3, ..still }),
+            (BodyRun { left: 15, ..still }, BodyRun { left: 16, ..still }),
+            (BodyRun { left: 15, ..runs }, BodyRun { left: u32::MAX, ..runs }),
+            (BodyRun { position: 98, left: 2, ..still }, BodyRun { position: 98, left: 3, ..still }),
+            (BodyRun { position: 98, left: 1, ..runs }, BodyRun { position: 98, left: 2, ..runs }),
+            (BodyRun { position: 45, decisions: 45, ..still }, BodyRun { position: 45, decisions: 46, ..still }),
+            (BodyRun { position: 45, decisions: 46, ..runs }, BodyRun { position: 45, decisions: 47, ..runs }),
+        ] {
+            assert!(!refused(good), "{good:?}");
+            assert!(refused(bad), "{bad:?}");
+        }
+        for (body, number) in [(Body { n: 0, repeats: 0, ..body }, 3), (Body { repeats: 1621, ..body }, 19)] {
+            let mut run = runs;
+            assert_eq!((calls.body_start(&mut run, body), run), (number, BodyRun::default()));
+            assert!(refused(run));
+        }
+        let mut run = BodyRun { clock: u64::MAX, late: true, ..runs };
+        assert_eq!((calls.body_start(&mut run, body), run), (0, still));
+    });
+}
+
+/// The order of a run call's refusals: range, room, turn, finished, back, clock.
+#[test]
+fn refusals_of_a_body_run_in_order() {
+    on_all_sides(|calls| {
+        let ask = |mut run: BodyRun, rooms: [usize; 3]| {
+            let (order, summaries, worst) = (&[0; 2][..rooms[0]], &[0; 6][..rooms[1]], &[0; 2][..rooms[2]]);
+            let tables = BodyTables { order, summaries, worst_by_position: worst };
+            calls.body_ask(&mut run, tables).err().unwrap_or(0)
+        };
+        let report = |mut run: BodyRun, clock: u32, room: usize| calls.body_report(&mut run, clock, &[0; 2][..room]);
+        let still = BodyRun { clock: 9, body: Body { n: 2, levels: 1, cycle: 9, repeats: 3 }, ..BodyRun::default() };
+        let runs = BodyRun { running: true, ..still };
+        let over = BodyRun { level: 1, ..runs };
+        let done = BodyRun { position: 6, ..still };
+        let whole = [2, 6, 2];
+        for short in [[1, 6, 2], [2, 5, 2], [2, 6, 1]] {
+            assert_eq!([ask(over, short), ask(runs, short), ask(done, short), ask(still, short)], [11, 17, 17, 17]);
+        }
+        assert_eq!([ask(runs, whole), ask(done, whole), ask(still, whole)], [11, 10, 0]);
+        assert_eq!([report(over, 0, 1), report(still, 0, 1), report(still, 0, 2)], [11, 17, 11]);
+        assert_eq!([report(runs, 8, 1), report(runs, 8, 2), report(runs, LAST_CLOCK + 1, 2)], [17, 12, 13]);
+        assert_eq!([report(runs, 9, 2), report(runs, LAST_CLOCK, 2)], [0, 0]);
+    });
+}
+
+/// The longest frame: 64 actions 1,620 times, each too long, so that each is decided, and late. Its end needs 41 bits. By the definitions alone it
+/// would take long.
+#[test]
+fn the_longest_body() {
+    for (name, calls) in common::sides().into_iter().filter(|(name, _)| *name != "reference") {
+        println!("{name}");
+        let mut sketch = full(vec![0; 64], 0, 1, 64 * MOST_REPEATS);
+        (sketch.levels, sketch.averages, sketch.worst) = (1, vec![0; 64], vec![1; 64]);
+        let positions = 64 * MOST_REPEATS as usize;
+        let (mut order, mut given, mut marks) = (vec![9; 65], vec![9; positions + 1], vec![9; positions + 1]);
+        let mut frame = |durations: &[u32]| {
+            let answer =
+                calls.body_dry_frame(&sketch.image(), MOST_REPEATS, durations, &mut order, &mut given, &mut marks);
+            assert_eq!((given[positions], marks[positions], order[64]), (9, 9, 9));
+            (answer, marks[..positions].iter().filter(|&&mark| mark == 1).count())
+        };
+        let end = 103_680 * u64::from(LONGEST_TIME);
+        let dried = BodyDried { decisions: 103_680, end, positions: 103_680, overrun: true, late: true };
+        assert_eq!(frame(&vec![LONGEST_TIME; positions]), (Ok(dried), positions));
+        // Within worst: sixteen at a time.
+        let dried = BodyDried { decisions: 6480, end: 103_680, positions: 103_680, overrun: false, late: false };
+        assert_eq!(frame(&vec![1; positions]), (Ok(dried), 6480));
+        assert_eq!(frame(&vec![1; positions - 1]).0, Err(17));
+    }
 }

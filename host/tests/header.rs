@@ -1,7 +1,11 @@
 //! `src/boundary.rs` is the header word for word: the same numbers, the same fields and the same calls, by name and in order.
 
-use nyokazerubi_host::boundary::{bounds_entries, frame_bytes, image_bytes, table_entries, trace_bytes, MOST_RECORDS};
+use nyokazerubi_host::boundary::{
+    bounds_entries, frame_bytes, image_bytes, summaries_entries, table_entries, trace_bytes, Body, BodyFramed,
+    BodyPlanned, BodyRun, Limited, MOST_ACTIONS, MOST_POSITIONS, MOST_RECORDS, MOST_REPEATS,
+};
 use std::fs;
+use std::mem::{offset_of, size_of};
 use std::path::Path;
 
 fn file(path: &str) -> String {
@@ -43,7 +47,10 @@ fn names(list: &str, by: char, name: fn(&str) -> String) -> Vec<String> {
 
 #[test]
 fn numbers() {
-    let digits = |text: &str| text.trim().trim_end_matches('u').replace('_', "");
+    let digits = |text: &str| {
+        let number = text.split("/*").next().expect("a number");
+        number.trim().trim_end_matches('u').replace('_', "")
+    };
     let of_header: Vec<(String, String)> = between(&header(), "enum {", "};")[0]
         .split(',')
         .map(|part| part.split_once('=').expect("a number"))
@@ -55,7 +62,7 @@ fn numbers() {
         .filter(|(name, _)| *name == "ACCEPTED" || name.starts_with("REFUSED_"))
         .map(|(name, number)| (name.to_string(), digits(number)))
         .collect();
-    assert_eq!(of_header.len(), 19);
+    assert_eq!(of_header.len(), 20);
     assert_eq!(of_header, of_rust);
     let (text, rust) = (header(), boundary());
     for name in [
@@ -65,6 +72,9 @@ fn numbers() {
         "LONGEST_COAST",
         "MOST_RECORDS",
         "MOST_FRAMES",
+        "MOST_REPEATS",
+        "MOST_POSITIONS",
+        "SUMMARY_NUMBERS",
         "LAST_CLOCK",
         "LONGEST_TIME",
     ] {
@@ -88,12 +98,47 @@ fn sizes() {
         .map(|part| part.split_once('(').expect("parameters"))
         .map(|(name, list)| (name.to_string(), names(list, ',', rust_name)))
         .collect();
-    assert_eq!(of_header.len(), 5);
+    assert_eq!(of_header.len(), 6);
     assert_eq!(of_header, of_rust);
     // As the header's memory table has them in bytes, of the encoder and of the most.
     let of = |n, levels| [image_bytes(n, levels), 4 * table_entries(n, levels), 4 * bounds_entries(n, levels)];
     assert_eq!([of(9, 8), of(64, 8)], [[546, 288, 4608], [3846, 2048, 32768]]);
     assert_eq!([frame_bytes(9, 8), frame_bytes(64, 8), trace_bytes(MOST_RECORDS)], [288, 2048, 327_675]);
+    assert_eq!([4 * summaries_entries(9, 8), 4 * summaries_entries(64, 8)], [864, 6144]);
+    assert_eq!(MOST_POSITIONS, MOST_ACTIONS * MOST_REPEATS as usize);
+    // Of a body repeated, to plan and run it; and the durations of a dry run.
+    let body = |n, levels| {
+        let tables = 4 * table_entries(n, levels) + 4 * summaries_entries(n, levels);
+        [
+            image_bytes(n, levels) + n + tables + size_of::<BodyRun>(),
+            4 * table_entries(n * MOST_REPEATS as usize, levels),
+        ]
+    };
+    assert_eq!([body(9, 8), body(64, 8)], [[1755, 466_560], [12_150, 3_317_760]]);
+}
+
+/// The records of a body repeated lie as other hosts have them.
+#[test]
+fn layout() {
+    assert_eq!([size_of::<Body>(), size_of::<BodyPlanned>(), size_of::<Limited>()], [16, 20, 16]);
+    assert_eq!([size_of::<BodyRun>(), size_of::<BodyFramed>()], [48, 24]);
+    assert_eq!([offset_of!(BodyRun, body), offset_of!(BodyRun, position), offset_of!(BodyRun, running)], [8, 24, 40]);
+    assert_eq!(
+        [offset_of!(Limited, limit), offset_of!(BodyFramed, end), offset_of!(BodyFramed, positions)],
+        [8, 8, 16]
+    );
+}
+
+/// The words of a name of Rust, as the header has them.
+fn words(name: &str) -> String {
+    let mut words = String::new();
+    for letter in name.chars() {
+        if letter.is_uppercase() && !words.is_empty() {
+            words.push('_');
+        }
+        words.extend(letter.to_lowercase());
+    }
+    words
 }
 
 #[test]
@@ -107,9 +152,9 @@ fn fields() {
     let of_rust: Vec<(String, Vec<String>)> = between(&boundary(), "pub struct ", "}")
         .iter()
         .map(|part| part.split_once(" {").expect("fields"))
-        .map(|(name, list)| (name.to_lowercase(), names(list, ',', rust_name)))
+        .map(|(name, list)| (words(name), names(list, ',', rust_name)))
         .collect();
-    assert_eq!(of_header.len(), 14);
+    assert_eq!(of_header.len(), 19);
     assert_eq!(of_header, of_rust);
 }
 
@@ -127,6 +172,6 @@ fn calls() {
         .map(|part| part.split_once('(').expect("parameters"))
         .map(|(name, list)| (name.to_string(), names(list.rsplit_once(')').expect("an end").0, ',', rust_name)))
         .collect();
-    assert_eq!(of_header.len(), 18);
+    assert_eq!(of_header.len(), 25);
     assert_eq!(of_header, of_rust);
 }

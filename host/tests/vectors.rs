@@ -3,7 +3,7 @@
 mod common;
 
 use nyokazerubi_host::calls::{Calls, Reading};
-use nyokazerubi_host::text;
+use nyokazerubi_host::text::{self, BodyPlan};
 use std::fs;
 use std::path::Path;
 
@@ -54,6 +54,48 @@ fn recordings_in(calls: &dyn Calls, folder: &Path) -> usize {
         assert_eq!(text::rehearse(calls, &image, &recording), text(folder, name, "rehearse"), "rehearsal of {name}");
     }
     names.len()
+}
+
+/// The bodies of a folder, and in it those of their request.
+fn bodies(calls: &dyn Calls) -> usize {
+    let folder = common::vectors("test_repeats");
+    [folder.clone(), folder.join("e3")].iter().map(|folder| bodies_in(calls, folder)).sum()
+}
+
+fn bodies_in(calls: &dyn Calls, folder: &Path) -> usize {
+    let names = cases(folder, ".body");
+    for name in &names {
+        let image = bytes(folder, name, "body");
+        let repeats = text(folder, name, "repeats").trim().parse().expect("a number of repeats");
+        let limits = text(folder, name, "limits");
+        match BodyPlan::of(calls, &image, repeats) {
+            Err(number) => assert_eq!(limits, format!("refused {number}\n"), "plan of {name}"),
+            Ok(plan) => body(calls, folder, name, &plan, &limits),
+        }
+        // Where all positions are told, they are what the program prints.
+        let printed = text::repeat_plan(calls, &image, repeats);
+        if limits.lines().count() + 1 == printed.lines().count() {
+            assert_eq!(printed.split_once('\n').expect("a first line").1, limits, "program on {name}");
+        }
+        if folder.join(format!("{name}.dry")).exists() {
+            let dry = text::repeat_dry_run(calls, &image, repeats, &bytes(folder, name, "durations"));
+            assert_eq!(dry, text(folder, name, "dry"), "dry run of {name}");
+        }
+    }
+    names.len()
+}
+
+/// The limits and the coast bounds that are told of a body.
+fn body(calls: &dyn Calls, folder: &Path, name: &str, plan: &BodyPlan, limits: &str) {
+    for line in limits.lines() {
+        let position = line.split(' ').next().expect("a position").parse().expect("a number");
+        assert_eq!(plan.line(calls, position), format!("{line}\n"), "limits of {name}");
+    }
+    for line in text(folder, name, "bounds").lines() {
+        let numbers: Vec<i64> = line.split(' ').map(|number| number.parse().expect("a number")).collect();
+        let [position, level, length] = [0, 1, 2].map(|field| numbers[field] as usize);
+        assert_eq!(plan.bound(calls, position, level, length), numbers[3], "bound of {name}: {line}");
+    }
 }
 
 /// What a refresh must answer: the new image, or with a refusal its number, from its line.
@@ -118,6 +160,13 @@ fn programs_agree() {
 fn recordings_agree() {
     for (name, calls) in common::sides() {
         assert!(recordings(&*calls) >= 27, "{name}");
+    }
+}
+
+#[test]
+fn bodies_agree() {
+    for (name, calls) in common::sides() {
+        assert!(bodies(&*calls) >= 35, "{name}");
     }
 }
 

@@ -94,6 +94,21 @@ fn refused_start(calls: &dyn Calls) {
     }
 }
 
+/// Three twice, by hand: twelve units a repeat at level 0, and of the limits those of the second repeat are Three's own in a cycle of 40.
+fn twice_three(calls: &dyn Calls) {
+    let image = common::three(40);
+    let wanted = "3 2 40 2\n0 0 16 2\n1 1 20 8\n2 2 24 14\n3 3 28 20\n4 4 32 26\n5 5 36 32\n";
+    assert_eq!(text::repeat_plan(calls, &image, 2), wanted);
+    assert_eq!(text::repeat_plan(calls, &common::three(23), 2), "refused 9\n");
+    assert_eq!(text::repeat_plan(calls, &image, 0), "refused 19\n");
+    assert_eq!(text::repeat_plan(calls, &common::case_8(), 1), "refused 19\n");
+    // The encoder's own plan, once; its image 1,620 times in its cycle is unfit.
+    let once = text::repeat_plan(calls, &common::encoder(), 1);
+    let plain = text::plan(calls, &common::encoder());
+    assert_eq!(once.split_once('\n').expect("lines").1, plain.split_once('\n').expect("lines").1);
+    assert_eq!(text::repeat_plan(calls, &common::encoder(), 2), "refused 9\n");
+}
+
 /// The archive is of the boundary that the header declares.
 #[test]
 fn boundary_of_the_product() {
@@ -147,5 +162,6 @@ fn values_hold() {
         encoder(calls);
         bounds(calls);
         refused_start(calls);
+        twice_three(calls);
     }
 }

@@ -9,12 +9,16 @@ fn vectors_are_written() {
     let folder = Path::new(env!("CARGO_TARGET_TMPDIR")).join("written");
     let written = outside::write(&folder, 1).expect("the folder takes files");
     assert!(written.cases >= 300 && written.traces >= 24 && written.readings >= 40, "{written:?}");
-    assert!(written.recordings >= 27 && written.bytes < 1_500_000, "{written:?}");
+    assert!(written.recordings >= 27 && written.bodies >= 60 && written.bytes < 1_600_000, "{written:?}");
     let page = fs::read_to_string(folder.join("README.md")).expect("README.md");
     for number in [1, 2, 3, 4, 5, 6, 7, 8, 9, 16, 17] {
         assert!(page.contains(&format!("| refused {number} |\n")), "refused {number}");
     }
     for row in ["| drawn | 0 | refused 14 |", "| drawn | 0 | 0 0 0 0 |", "| 4,097 frames | 0 | refused 14 |"] {
+        assert!(page.contains(row), "{row}");
+    }
+    for row in ["| 1,621 times | 1621 | refused 19 | refused 19 |", "| one action 1,620 times | 1620 | 1 2 4860 1620 |"]
+    {
         assert!(page.contains(row), "{row}");
     }
     let most = fs::read_to_string(folder.join("r60.rehearse")).expect("r60.rehearse");

@@ -111,6 +111,12 @@ END {
     for (i = 1; i <= count; i++) if (names[i] ~ /^nyokazerubi_/) {
         print names[i], cost(names[i]) + BELOW
         found = 1
+        # The turns above are those of 64 actions; a body repeated may have a thousand times as many.
+        if (names[i] ~ /^nyokazerubi_(plan_)?body/)
+            for (k = 1; k <= count; k++) if (reach[names[i], names[k]] && reach[names[k], names[k]]) {
+                print "stack.awk: " names[i] " leads to " names[k] ", which leads back to itself" > "/dev/stderr"
+                failed = 1
+            }
     }
     if (!found) { print "stack.awk: no exported call" > "/dev/stderr"; failed = 1 }
     exit failed

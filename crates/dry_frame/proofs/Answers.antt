@@ -17,7 +17,7 @@ use Rattle.rules.specs.Run.{Run}
 use Rattle.rules.specs.Dry.{LongEntry, dry-call, frame-call}
 use Rattle.rules.proofs.Differences.{not-above}
 use Rattle.rules.proofs.Refusals.{Sound, accepted-sound, accepted-parts, first-stops, first-goes-on, image-numbered}
-use Rattle.rules.proofs.Accepted.{some-level}
+use Rattle.rules.proofs.Accepted.{some-level, not-unfit}
 use Rattle.rules.specs.declared.Refusal.{Refusal}
 use Rattle.fields.specs.Fields.{splice}
 use Rattle.fields.proofs.Tabs.{tab-ext}
@@ -207,7 +207,7 @@ module _ {s : List ℕ} {lent : LentTables} {p : Planned} (P : Planning s lent p
         abbrev answer : Framed
         answer = record { refusal = p .refusal; n = p .n; decisions = q .decisions; end = q .end; overrun = q .overrun; late = q .late }
 
-        cycled : Cycled s durations (P .plans .o) before after answer
+        cycled : Cycled (profile s) durations (P .plans .o) before after answer
         cycled =
             let o = P .plans .o in
             let ends = same-end s durations o zeros written level in
@@ -236,5 +236,5 @@ module _ {s : List ℕ} {lent : LentTables} {p : Planned} (P : Planning s lent p
               overrun = kept-new _ _ _ none (cycled .overrun);
               late = kept-new _ _ _ none (cycled .late);
               counted = λ _. count-is cycled;
-              demand = λ _. promise cycled (P .plans .the-order none) (accepted-sound s .1 (sound none));
+              demand = λ _. promise cycled level (sound none .not-table) (P .plans .the-order none) (not-unfit (profile s) (sound none .not-unfit));
             }

@@ -7,16 +7,15 @@ use native.Mathlib.Omega.{arith}
 use lib.ListN.{getD}
 use Rattle.rules.specs.Numbers.{longest-coast}
 use Rattle.rules.specs.Words.{sum, tab, one-if}
-use Rattle.rules.specs.Image.{profile}
-use Rattle.rules.specs.Order.{Order, TheOrder}
+use Rattle.rules.specs.Image.{Profile, profile}
+use Rattle.rules.specs.Order.{Order, TheOrder, Fit}
 use Rattle.rules.specs.Limits.{tables, LentTables, planner-tables, planned}
-use Rattle.rules.specs.Refusals.{Accepted}
+use Rattle.rules.specs.Refusals.{Table}
 use Rattle.rules.specs.Run.{Run, decides, lent}
 use Rattle.rules.specs.Dry.{before, cell, dry-levels, dry-marks, dry-end}
 use Rattle.rules.specs.Demand.{Kept}
 use Rattle.rules.proofs.Sums.{sum-same}
-use Rattle.rules.proofs.Refusals.{accepted-sound}
-use Rattle.rules.proofs.Accepted.{policy, accepted-demand}
+use Rattle.rules.proofs.Accepted.{policy, fit-demand}
 use Rattle.rules.proofs.Demand.Record.{decisions-are}
 use Rattle.rules.proofs.Demand.Alike.{before-alike}
 use Rattle.rules.proofs.Demand.Along.{kept-alike}
@@ -57,47 +56,49 @@ module _ (s durations : List ℕ) (o : Order (profile s .n)) (old : LentTables) 
   unfolding dry-end lent
   same-end = same-run (profile s .n) (le-refl _)
 
--- ---- the lists and the answer after the cycle
+-- ---- the lists and the answer after the cycle of any profile in an order, a body unrolled too
+
+-- the record before position i
+abbrev pub cycle-at : (F : Profile) (durations : List ℕ) → Order (F .n) → ℕ → Run
+cycle-at F durations o i = before longest-coast (planned (tables F o)) (tables F o .worst) (cell durations (F .levels)) 0 i
 
 -- what the cycle wrote, and what is answered of its last record
-pub record Cycled (s durations : List ℕ) (o : Order (profile s .n)) (before after : FrameLists) (r : Framed) : Type 0 where
-  pub levels : after .levels ≡ splice (before .levels) 0 (tab (λ j. run-at s durations o (suc j) .level) (profile s .n))
-  pub decided : after .decided ≡ splice (before .decided) 0 (tab (λ j. one-if (decides (run-at s durations o j))) (profile s .n))
-  pub decisions : r .decisions ≡ run-at s durations o (profile s .n) .decisions
-  pub end : r .end ≡ run-at s durations o (profile s .n) .clock
-  pub overrun : r .overrun ≡ run-at s durations o (profile s .n) .overrun
-  pub late : r .late ≡ run-at s durations o (profile s .n) .late
+pub record Cycled (F : Profile) (durations : List ℕ) (o : Order (F .n)) (before after : FrameLists) (r : Framed) : Type 0 where
+  pub levels : after .levels ≡ splice (before .levels) 0 (tab (λ j. cycle-at F durations o (suc j) .level) (F .n))
+  pub decided : after .decided ≡ splice (before .decided) 0 (tab (λ j. one-if (decides (cycle-at F durations o j))) (F .n))
+  pub decisions : r .decisions ≡ cycle-at F durations o (F .n) .decisions
+  pub end : r .end ≡ cycle-at F durations o (F .n) .clock
+  pub overrun : r .overrun ≡ cycle-at F durations o (F .n) .overrun
+  pub late : r .late ≡ cycle-at F durations o (F .n) .late
 
-module _ {s durations : List ℕ} {o : Order (profile s .n)} {before after : FrameLists} {r : Framed} (c : Cycled s durations o before after r) where
-  got-is : (j : ℕ) → j < profile s .n → run-at s durations o (suc j) .level ≡ level-got after j
-  got-is j l = sym (tab-written (λ j. run-at s durations o (suc j) .level) (before .levels) (profile s .n) 0 (c .levels) j l)
+module _ {F : Profile} {durations : List ℕ} {o : Order (F .n)} {before after : FrameLists} {r : Framed} (c : Cycled F durations o before after r) where
+  got-is : (j : ℕ) → j < F .n → cycle-at F durations o (suc j) .level ≡ level-got after j
+  got-is j l = sym (tab-written (λ j. cycle-at F durations o (suc j) .level) (before .levels) (F .n) 0 (c .levels) j l)
 
-  took-is : (j : ℕ) → j < profile s .n
-      → cell durations (profile s .levels) j (run-at s durations o (suc j) .level) ≡ time-taken durations (profile s .levels) after j
-  took-is j l = ap (cell durations (profile s .levels) j) (got-is j l)
+  took-is : (j : ℕ) → j < F .n → cell durations (F .levels) j (cycle-at F durations o (suc j) .level) ≡ time-taken durations (F .levels) after j
+  took-is j l = ap (cell durations (F .levels) j) (got-is j l)
 
-  pub count-is : r .decisions ≡ sum (profile s .n) (λ j. getD (after .decided) j 0)
+  pub count-is : r .decisions ≡ sum (F .n) (λ j. getD (after .decided) j 0)
   count-is =
-      let S = tables (profile s) o in
-      let mark : (ℕ → ℕ) = λ j. one-if (decides (run-at s durations o j)) in
+      let S = tables F o in
+      let mark : (ℕ → ℕ) = λ j. one-if (decides (cycle-at F durations o j)) in
       c .decisions
-      ∙ decisions-are longest-coast (planned S) (S .worst) (cell durations (profile s .levels)) 0 (profile s .n)
-      ∙ sum-same (profile s .n) _ _ (λ j l. sym (tab-written mark (before .decided) (profile s .n) 0 (c .decided) j l))
+      ∙ decisions-are longest-coast (planned S) (S .worst) (cell durations (F .levels)) 0 (F .n)
+      ∙ sum-same (F .n) _ _ (λ j l. sym (tab-written mark (before .decided) (F .n) 0 (c .decided) j l))
 
-  -- Demand 3 of an accepted image in its order.
-  pub promise : TheOrder (profile s) o → Accepted s
-      → ((j : ℕ) → j < profile s .n → time-taken durations (profile s .levels) after j ≤ tables (profile s) o .worst j (level-got after j))
-      → Promised (tables (profile s) o) (time-taken durations (profile s .levels) after) (level-got after) r
-  promise x a within =
-      let sound = accepted-sound s .0 a in
-      let P = policy x (sound .not-count) (sound .not-table) in
-      let took = time-taken durations (profile s .levels) after in
-      let three = accepted-demand s a x (cell durations (profile s .levels)) (λ j l. rw (got-is j l) (within j l)) in
+  -- Demand 3 of what was given and answered, where a fit profile has it of the record.
+  pub promise : 0 < F .levels → (table : Table F → ⊥) → (x : TheOrder F o) → Fit F
+      → ((j : ℕ) → j < F .n → time-taken durations (F .levels) after j ≤ tables F o .worst j (level-got after j))
+      → Promised (tables F o) (time-taken durations (F .levels) after) (level-got after) r
+  promise level table x fit within =
+      let P = policy x level table in
+      let took = time-taken durations (F .levels) after in
+      let three = fit-demand x level table 0 fit (cell durations (F .levels)) (λ j l. rw (got-is j l) (within j l)) in
       record {
         policy = P;
         mixed = refl;
         kept = subst (Kept longest-coast P 0 took (level-got after)) (sym (c .decisions)) (kept-alike _ _ took-is got-is (three .kept));
-        ends = c .end ∙ three .ends ∙ ap (λ (x : ℕ). 0 + x) (sum-same (profile s .n) _ _ took-is);
+        ends = c .end ∙ three .ends ∙ ap (λ (x : ℕ). 0 + x) (sum-same (F .n) _ _ took-is);
         no-overrun = c .overrun ∙ three .no-overrun;
         no-late = c .late ∙ three .no-late;
       }

@@ -36,7 +36,7 @@ made-one p q r s t u = cc
 abbrev lists : List ℕ → List ℕ → List ℕ → FrameLists
 lists order levels decided = record { order = order; levels = levels; decided = decided }
 
-lists-one : {a a′ b b′ c c′ : List ℕ} → a ≡ a′ → b ≡ b′ → c ≡ c′ → lists a b c ≡ lists a′ b′ c′
+pub lists-one : {a a′ b b′ c c′ : List ℕ} → a ≡ a′ → b ≡ b′ → c ≡ c′ → lists a b c ≡ lists a′ b′ c′
 lists-one p q r = cc
 
 module _ {s durations : List ℕ} {before after₁ after₂ : FrameLists} {r t : Framed}

@@ -38,7 +38,7 @@ ask-numbered T r = by (rules.ask-refusal T r) (eqb (rules.ask-refusal T r) 0) _ 
     by k true action level decided late s e = tt
     by k false action level decided late s e = eqb-false k 0 e
 
-back : (x : rules.Answer) (r : Run) (g : flat.Given) → Numbered x → Asks x r g → with-run (answer-from g) (run-of r) ≡ x
+back : (x : rules.Answer) (r : Run) (g : flat.Given) → Numbered x → Asks x (run-of r) g → with-run (answer-from g) (run-of r) ≡ x
 back (rules.refused k s) r g some a =
     ap (λ (h : flat.Given). with-run (answer-from h) (run-of r)) (a .given)
     ∙ ap (λ (b : Bool). with-run (cond b (Given 0 0 false false) (Refused (record { number = k }))) (run-of r)) (ne-eqb k 0 some)

@@ -34,7 +34,7 @@ by-value (host-reported worst t a) = reported worst t a
 
 -- Made where the record was r, it answered as its contract says: that of `nyokazerubi_ask`, and that of `nyokazerubi_report`.
 abbrev pub HostAnswers : HostMade → Run → Type 0
-HostAnswers (host-asked T g r′) r = Asks (ask T (run-of r)) r′ g
+HostAnswers (host-asked T g r′) r = Asks (ask T (run-of r)) (run-of r′) g
 HostAnswers (host-reported worst t a) r = next-of a ≡ report worst t (run-of r)
 
 -- Calls made one after another, the record r before them and s after. Any of them may be refused; those accepted are lent the tables T.

@@ -1,13 +1,14 @@
 -- The order of an image's actions, judged on its columns.
-use mathlib.Core.Path.{_≡_, _∙_}
-use mathlib.Core.List.{List}
-use mathlib.Core.Logic.{inr}
+use mathlib.Core.Path.{_≡_, refl, _∙_}
+use mathlib.Core.List.{List, [], _∷_}
+use mathlib.Core.Logic.{inl, inr, _↔_, _≢_}
 use Prim.Native.Nat.{ℕ}
 use native.Mathlib.Nat.{le-refl, mul-one}
 use native.Mathlib.Omega.{arith}
 use lib.ListN.{getD}
-use Rattle.rules.specs.Image.{due, profile}
-use Rattle.rules.specs.Refusals.{First}
+use Rattle.rules.specs.Image.{Profile, due, profile}
+use Rattle.rules.specs.Numbers.{refused-loop, refused-unfit}
+use Rattle.rules.specs.Refusals.{_when_, First, Looped, Unfit}
 use Rattle.rules.proofs.Refusals.{first-none}
 use Rattle.rules.proofs.Order.Alike.{Alike, alike-back}
 use Rattle.sets.proofs.Laws.{below-exact}
@@ -57,13 +58,46 @@ module _ {s : List ℕ} {h : Header} {m d w : List ℕ} (x : Opened s h) (y : Co
   verdict v = verdict-alike (alike-back alike) v
 
 -- without a refusal the header's counts are found, and the actions in order
-pub found : {s : List ℕ} {h : Header} {r : Checked} {k : ℕ} → HeaderOf s h → Verdict (profile s) k (r .order) → k ≡ 0
+pub found : {s : List ℕ} {h : Header} {r : Checked} {k : ℕ} → HeaderOf s h → Verdict (profile s) k (r .order) → k ≢ refused-loop
     → r .n ≡ h .n → r .levels ≡ h .levels → r .cycle ≡ h .cycle → Found s r
 unfolding profile
-found x v e n levels cycle = record {
+found x v loopless n levels cycle = record {
   n = n ∙ x .n;
   levels = levels ∙ x .levels;
   cycle = cycle ∙ x .cycle;
-  order = v .order (λ z. omega arith);
+  order = v .order loopless;
   rest = v .rest;
 }
+
+-- ---- 8, and then 9
+
+-- The order gives 8 exactly if its verdict is 8.
+pub loop-given : {F : Profile} {k : ℕ} {l : List ℕ} → Verdict F k l → k ≡ refused-loop → First (refused-loop when Looped F ∷ []) k
+loop-given {F} {k} v e = by (v .number)
+  where
+    other : First (refused-unfit when Unfit F ∷ []) k → ⊥
+    other (inl p) = omega (arith, p .1)
+    other (inr p) = omega (arith, p .1)
+
+    by : First (refused-loop when Looped F ∷ refused-unfit when Unfit F ∷ []) k → First (refused-loop when Looped F ∷ []) k
+    by (inl p) = inl p
+    by (inr p) = absurd (other (p .1))
+
+module _ {F : Profile} {k : ℕ} {l : List ℕ} (v : Verdict F k l) (loopless : k ≢ refused-loop) where
+  after-loop : (Looped F → ⊥) × First (refused-unfit when Unfit F ∷ []) k
+  after-loop = by (v .number)
+    where
+      by : First (refused-loop when Looped F ∷ refused-unfit when Unfit F ∷ []) k
+          → (Looped F → ⊥) × First (refused-unfit when Unfit F ∷ []) k
+      by (inl p) = absurd (loopless (p .1))
+      by (inr p) = p
+
+  pub none-given : First (refused-loop when Looped F ∷ []) 0
+  none-given = inr (after-loop .0, refl)
+
+  pub unfit-told : (k ≡ refused-unfit) ↔ Unfit F
+  unfit-told = by (after-loop .1)
+    where
+      by : First (refused-unfit when Unfit F ∷ []) k → (k ≡ refused-unfit) ↔ Unfit F
+      by (inl p) = ((λ e. p .0), (λ u. p .1))
+      by (inr p) = ((λ e. absurd (omega (arith, p .1))), (λ u. absurd (p .0 u)))

@@ -1,10 +1,11 @@
 -- What the whole check answers.
 use Prim.Native.Nat.{ℕ}
 use mathlib.Core.Path.{_≡_}
-use mathlib.Core.Logic.{_≢_}
+use mathlib.Core.Bool.{true, false}
+use mathlib.Core.Logic.{_≢_, _↔_}
 use mathlib.Core.List.{List, [], _∷_, _++_}
 use lib.ListN.{replicate}
-use Rattle.rules.specs.Numbers.{most-actions, refused-version, refused-count, refused-length, refused-spare, refused-range, refused-table, refused-loop, refused-unfit}
+use Rattle.rules.specs.Numbers.{most-actions, refused-version, refused-count, refused-length, refused-spare, refused-range, refused-table, refused-loop}
 use Rattle.rules.specs.Image.{profile}
 use Rattle.rules.specs.Order.{Order, TheOrder}
 use Rattle.rules.specs.Refusals.{Ground, _when_, First, Count, Range, Table, Looped, Unfit, Version, Length, Spare, image-checks}
@@ -19,17 +20,18 @@ abbrev pub record-checks : List ℕ → List Ground
 record-checks s = refused-spare when Spare s ∷ refused-range when Range (profile s) ∷ refused-table when Table (profile s) ∷ []
 
 abbrev pub order-checks : List ℕ → List Ground
-order-checks s = refused-loop when Looped (profile s) ∷ refused-unfit when Unfit (profile s) ∷ []
+order-checks s = refused-loop when Looped (profile s) ∷ []
 
 abbrev pub rest-checks : List ℕ → List Ground
 rest-checks s = record-checks s ++ order-checks s
 
--- with a refusal: nothing else is said
+-- with a refusal nothing else is said
 pub record Blank (r : Checked) : Type 0 where
   pub n : r .n ≡ 0
   pub levels : r .levels ≡ 0
   pub cycle : r .cycle ≡ 0
   pub order : r .order ≡ replicate most-actions 0
+  pub unfit : r .unfit ≡ false
 
 -- without one: the profile's n, levels and cycle, and its actions in order, then 0
 pub record Found (s : List ℕ) (r : Checked) : Type 0 where
@@ -44,6 +46,11 @@ pub record CheckAnswers (row : List Ground) (s : List ℕ) (r : Checked) : Type 
   pub number : First row (r .refusal .number)
   pub refused : r .refusal .number ≢ 0 → Blank r
   pub accepted : r .refusal .number ≡ 0 → Found s r
+
+-- and without a refusal whether the profile is unfit
+pub record BodyAnswers (row : List Ground) (s : List ℕ) (r : Checked) : Type 0 where
+  pub answers : CheckAnswers row s r
+  pub unfit : r .refusal .number ≡ 0 → (r .unfit ≡ true) ↔ Unfit (profile s)
 
 -- r is what the whole check answers
 abbrev pub Judged : List ℕ → Checked → Type 0

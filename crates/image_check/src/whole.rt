@@ -7,9 +7,9 @@ use image_fields::scan;
 use rules::Refusal;
 ghost use mathlib.Core.Path.{_≡_};
 ghost use Rattle.rules.specs.Image.{mask-of, deadline-of};
-ghost use Rattle.rules.specs.Refusals.{First};
+ghost use Rattle.rules.specs.Refusals.{First, loop-checks};
 ghost use Rattle.image_fields.specs.Reading.{HeaderOf, Opened, Column, Columns};
-ghost use Rattle.image_check.specs.Checks.{head-checks, record-checks, rest-checks, Blank, CheckAnswers, Judged};
+ghost use Rattle.image_check.specs.Checks.{head-checks, record-checks, rest-checks, Blank, BodyAnswers, Judged};
 
 // What a refused image answers.
 fn refused(refusal: Refusal) -> Checked
@@ -21,6 +21,7 @@ fn refused(refusal: Refusal) -> Checked
         levels: 0,
         cycle: 0,
         order: [0u8; 64],
+        unfit: false,
     }
 }
 
@@ -78,7 +79,7 @@ fn record_refusal(image: &[u8], head: Header, masks: &[u64], deadlines: &[u32]) 
     Refusal { number: 0 }
 }
 
-// 5 to 9, by the image's columns.
+// 5 to 8, by the image's columns, and whether 9 would be given.
 fn checked_columns(
     image: &[u8],
     head: Header,
@@ -87,7 +88,7 @@ fn checked_columns(
     worst: &[u32],
 ) -> Checked
     requires { ⌜ Opened (now image) head × Columns (now image) (head .n) (now masks) (now deadlines) (now worst) ⌝ }
-    ensures { λ r. ⌜ CheckAnswers (rest-checks (now (image .entry))) (now (image .entry)) r ⌝ }
+    ensures { λ r. ⌜ BodyAnswers (rest-checks (now (image .entry))) (now (image .entry)) r ⌝ }
 {
     let refusal = record_refusal(image, head, masks, deadlines);
     if refusal.number != 0 {
@@ -95,7 +96,7 @@ fn checked_columns(
     }
     let judged = order::judge(masks, deadlines, head.cycle, worst, 1, head.n);
     let number = judged.refusal;
-    if number != 0 {
+    if number == rules::REFUSED_LOOP {
         return refused(Refusal { number });
     }
     let order = judged.order;
@@ -105,13 +106,14 @@ fn checked_columns(
         levels: head.levels,
         cycle: head.cycle,
         order,
+        unfit: number == rules::REFUSED_UNFIT,
     }
 }
 
-// 5 to 9.
+// The same, from the image itself.
 fn checked_records(image: &[u8], head: Header) -> Checked
     requires { ⌜ Opened (now image) head ⌝ }
-    ensures { λ r. ⌜ CheckAnswers (rest-checks (now (image .entry))) (now (image .entry)) r ⌝ }
+    ensures { λ r. ⌜ BodyAnswers (rest-checks (now (image .entry))) (now (image .entry)) r ⌝ }
 {
     let mut masks = [0u64; 64];
     let mut deadlines = [0u32; 64];
@@ -127,9 +129,9 @@ fn checked_records(image: &[u8], head: Header) -> Checked
     checked_columns(image, head, &masks, &deadlines, &worst)
 }
 
-// The whole check, with what an accepted image says.
-pub fn checked(image: &[u8]) -> Checked
-    ensures { λ r. ⌜ Judged (now (image .entry)) r ⌝ }
+// The check up to 8, with what the image then says, which hands the verdict on 9 on: that of a body depends on how often it is repeated.
+pub fn checked_body(image: &[u8]) -> Checked
+    ensures { λ r. ⌜ BodyAnswers (loop-checks (now (image .entry))) (now (image .entry)) r ⌝ }
 {
     if image.len() < rules::HEADER_BYTES {
         return refused(Refusal {
@@ -142,4 +144,17 @@ pub fn checked(image: &[u8]) -> Checked
         return refused(refusal);
     }
     checked_records(image, head)
+}
+
+// The whole check, with what an accepted image says.
+pub fn checked(image: &[u8]) -> Checked
+    ensures { λ r. ⌜ Judged (now (image .entry)) r ⌝ }
+{
+    let found = checked_body(image);
+    if found.unfit {
+        return refused(Refusal {
+            number: rules::REFUSED_UNFIT,
+        });
+    }
+    found
 }

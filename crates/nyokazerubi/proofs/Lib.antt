@@ -1,3 +1,4 @@
+pub mod Asking
 pub mod Beside
 pub mod Host
 pub mod Lent

@@ -1,4 +1,6 @@
--- The run record and the totals, their answers, and what the calls by value hand back, as the walk of a lent record takes them. Assumes nothing.
+-- The run record, that of a body repeated and the totals, their answers, and what the calls by value hand back, as the walk of a lent record takes
+-- them. Assumes nothing.
+use mathlib.Core.Path.{refl}
 use Rattle.rules.proofs.Refusal as refusal′
 use Rattle.rules.proofs.Refusal.Laws as refusal-laws
 use Rattle.run.proofs.Run as run′
@@ -17,10 +19,23 @@ use Rattle.recording.proofs.Totals.Laws as totals-laws
 use Rattle.recording.proofs.Line as line′
 use Rattle.recording.proofs.Line.Laws as line-laws
 use Rattle.recording.proofs.Counted as counted′
-use Rattle.nyokazerubi.proofs.Plain.{Kind, Pair}
+use Rattle.rules.proofs.Body as body′
+use Rattle.rules.proofs.Body.Laws as body-laws
+use Rattle.repeat_run.specs.declared.BodyStarted.{BodyStarted}
+use Rattle.repeat_run.specs.declared.BodyReported.{BodyReported}
+use Rattle.repeat_run.proofs.BodyRun as body-run′
+use Rattle.repeat_run.proofs.BodyRun.Laws as body-run-laws
+use Rattle.repeat_run.proofs.BodyStarted as body-started′
+use Rattle.repeat_run.proofs.BodyReported as body-reported′
+use Rattle.nyokazerubi.specs.declared.bodies.Asked as bodies
+use Rattle.nyokazerubi.proofs.bodies.Asked as body-asked′
+use Rattle.nyokazerubi.proofs.Plain.{Kind, Still, Pair}
 
 abbrev pub run : Kind
 run = record { type = run′.the-type; laws = run-laws.the-laws; plain = run-laws.the-plain }
+
+abbrev pub run-still : Still run
+run-still = record { last = λ x. tt; silent = λ x f. refl }
 
 abbrev pub refusal : Kind
 refusal = record { type = refusal′.the-type; laws = refusal-laws.the-laws; plain = refusal-laws.the-plain }
@@ -45,3 +60,42 @@ line = record { type = line′.the-type; laws = line-laws.the-laws; plain = line
 
 abbrev pub counted : Pair totals line
 counted = record { name = counted′.the-type .name; D = Counted; next = λ r. r .totals; answer = λ r. r .line; one = counted′.the-type .to-one }
+
+abbrev pub body : Kind
+body = record { type = body′.the-type; laws = body-laws.the-laws; plain = body-laws.the-plain }
+
+abbrev pub body-still : Still body
+body-still = record { last = λ x. tt; silent = λ x f. refl }
+
+abbrev pub body-run : Kind
+body-run = record { type = body-run′.the-type; laws = body-run-laws.the-laws; plain = body-run-laws.the-plain }
+
+abbrev pub body-run-still : Still body-run
+body-run-still = record { last = λ x. tt; silent = λ x f. refl }
+
+abbrev pub body-started : Pair body-run refusal
+body-started = record {
+  name = body-started′.the-type .name;
+  D = BodyStarted;
+  next = λ r. r .run;
+  answer = λ r. r .refusal;
+  one = body-started′.the-type .to-one;
+}
+
+abbrev pub body-asked : Pair body-run given
+body-asked = record {
+  name = body-asked′.the-type .name;
+  D = bodies.Asked;
+  next = λ r. r .run;
+  answer = λ r. r .given;
+  one = body-asked′.the-type .to-one;
+}
+
+abbrev pub body-reported : Pair body-run refusal
+body-reported = record {
+  name = body-reported′.the-type .name;
+  D = BodyReported;
+  next = λ r. r .run;
+  answer = λ r. r .refusal;
+  one = body-reported′.the-type .to-one;
+}

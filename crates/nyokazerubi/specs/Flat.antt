@@ -10,8 +10,6 @@ use Rattle.rules.specs.declared.Refusal.{Refusal}
 use Rattle.rules.specs.Speed.{ratio, spent}
 use Rattle.speed_stretch.specs.Answer.{SpeedAnswer, gives, refuses, reading-of}
 use Rattle.speed_stretch.specs.declared.Reading.{Reading}
-use Rattle.run.specs.declared.Run.{Run}
-use Rattle.run.specs.Calls.{run-of}
 use Rattle.speed.specs.Speed.{ReadsSpeed}
 use Rattle.nyokazerubi.specs.declared.runs.Given.{Given}
 use Rattle.nyokazerubi.specs.declared.readings.Read.{Read}
@@ -22,9 +20,9 @@ boundary = 1
 
 -- ---- starting and reporting
 
--- The next record and the refusal, in the rules' words.
-abbrev pub next-flat : Run → Refusal → rules.Next
-next-flat run refusal = record { number = refusal .number; run = run-of run }
+-- The refusal and the next record, whose steps are r, in the rules' words.
+abbrev pub next-flat : rules.Run → Refusal → rules.Next
+next-flat r refusal = record { number = refusal .number; run = r }
 
 -- ---- asking
 
@@ -39,10 +37,10 @@ abbrev pub next-run : rules.Answer → rules.Run
 next-run (rules.refused number r) = r
 next-run (rules.gives action level decided late r) = r
 
--- An asking that answers x says g, and leaves the record r.
-pub record Asks (x : rules.Answer) (r : Run) (g : Given) : Type 0 where
+-- An asking that answers x says g, and leaves a record whose steps are r.
+pub record Asks (x : rules.Answer) (r : rules.Run) (g : Given) : Type 0 where
   pub given : g ≡ given-of x
-  pub run : run-of r ≡ next-run x
+  pub run : r ≡ next-run x
 
 -- ---- the speed reading
 

@@ -20,6 +20,7 @@ ghost use Rattle.dry_frame.specs.Frame.{Frames};
 ghost use Rattle.refresh.specs.Refresh.{Refreshes};
 ghost use Rattle.nyokazerubi.specs.Flat.{boundary};
 
+pub mod bodies;
 pub mod readings;
 pub mod recordings;
 pub mod runs;

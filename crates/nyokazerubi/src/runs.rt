@@ -27,7 +27,7 @@ pub struct Asked {
     pub given: Given,
 }
 
-fn flat(answer: Answer) -> Given
+pub fn flat(answer: Answer) -> Given
     ensures { λ r. ⌜ ((next : rules.Run) → r ≡ given-of (with-run answer next)) ⌝ }
 {
     match answer {
@@ -55,7 +55,7 @@ fn flat(answer: Answer) -> Given
 
 pub fn ask_flat(run: Run, order: &[u8], limits: &[i32], bounds: &[i32]) -> Asked
     ensures { λ r. ⌜ Asks (ask
-        (record { order = now (order .entry); limits = now (limits .entry); worst = []; bounds = now (bounds .entry) }) (run-of run)) (r .run) (r .given) ⌝ }
+        (record { order = now (order .entry); limits = now (limits .entry); worst = []; bounds = now (bounds .entry) }) (run-of run)) (run-of (r .run)) (r .given) ⌝ }
 {
     let asked = run.ask(order, limits, bounds);
     let next = asked.run;
@@ -70,7 +70,7 @@ pub fn ask_flat(run: Run, order: &[u8], limits: &[i32], bounds: &[i32]) -> Asked
 
 #[no_mangle]
 pub extern "C" fn nyokazerubi_start(run: &mut Run, n: usize, levels: usize) -> Refusal
-    ensures { λ r. ⌜ next-flat (now (run .exit)) r ≡ start n levels ⌝ }
+    ensures { λ r. ⌜ next-flat (run-of (now (run .exit))) r ≡ start n levels ⌝ }
 {
     let out = Run::start(n, levels);
     *run = out.run;
@@ -85,7 +85,7 @@ pub extern "C" fn nyokazerubi_ask(
     bounds: &[i32],
 ) -> Given
     ensures { λ r. ⌜ Asks (ask
-        (record { order = now (order .entry); limits = now (limits .entry); worst = []; bounds = now (bounds .entry) }) (run-of (now (run .entry)))) (now (run .exit)) r ⌝ }
+        (record { order = now (order .entry); limits = now (limits .entry); worst = []; bounds = now (bounds .entry) }) (run-of (now (run .entry)))) (run-of (now (run .exit))) r ⌝ }
 {
     let out = ask_flat(*run, order, limits, bounds);
     *run = out.run;
@@ -98,7 +98,7 @@ pub extern "C" fn nyokazerubi_report(
     clock: u32,
     worst_by_position: &[u32],
 ) -> Refusal
-    ensures { λ r. ⌜ next-flat (now (run .exit)) r ≡ report (now («worst_by_position» .entry)) clock (run-of (now (run .entry))) ⌝ }
+    ensures { λ r. ⌜ next-flat (run-of (now (run .exit))) r ≡ report (now («worst_by_position» .entry)) clock (run-of (now (run .entry))) ⌝ }
 {
     let out = Run::report(*run, clock, worst_by_position);
     *run = out.run;

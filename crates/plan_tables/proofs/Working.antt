@@ -11,7 +11,7 @@ use Rattle.rules.specs.Image.{due, average-of, worst-of, profile}
 use Rattle.rules.specs.Order.{Order}
 use Rattle.rules.specs.Limits.{Tables, tables, limit, LentTables}
 use Rattle.rules.proofs.Refusals.{Sound, accepted-sound}
-use Rattle.rules.proofs.Accepted.{tables-sound, tables-small}
+use Rattle.rules.proofs.Accepted.{some-level, tables-sound, tables-small}
 use Rattle.rules.proofs.Speed.Reading.{times-small}
 use Rattle.fields.specs.Fields.{splice}
 use Rattle.fields.proofs.Bytes.{Bytes}
@@ -44,7 +44,7 @@ module _ {s : List ℕ} {n L cycle : ℕ} {actions : List ℕ} {o : Order (profi
     positions = sym (g .n-is);
     levels-are = sym (g .levels-are);
     most = records .few-levels;
-    sound = tables-sound (profile s) o (sound .not-count) (sound .not-table);
+    sound = tables-sound (profile s) o (some-level (profile s) o (sound .not-count)) (sound .not-table);
     small = tables-small (profile s) o (sound .not-count) (sound .not-range) (times-small s bytes);
   }
 

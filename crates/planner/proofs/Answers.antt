@@ -64,7 +64,7 @@ module _ {s : List ℕ} {r : Checked} (a : Judged s r) (lent : LentTables) where
   }
 
   pub room-judged : {f : Refusal} → r .refusal .number ≡ 0 → First (refused-room when Tight (plan-rooms (r .n) (r .levels) lent) ∷ []) (f .number)
-      → Admits s lent (record { refusal = f; n = r .n; levels = r .levels; cycle = r .cycle; order = r .order })
+      → Admits s lent (record { refusal = f; n = r .n; levels = r .levels; cycle = r .cycle; order = r .order; unfit = r .unfit })
   room-judged {f} none p =
       let found = a .accepted none in
       record {

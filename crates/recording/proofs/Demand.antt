@@ -17,7 +17,7 @@ use Rattle.rules.specs.Recording as rules
 use Rattle.rules.specs.Recording.{durations, Ran, ran-of, NotFrames}
 use Rattle.rules.proofs.Sums.{sum-same}
 use Rattle.rules.proofs.Refusals.{Sound, accepted-sound, accepted-parts}
-use Rattle.rules.proofs.Accepted.{some-level, policy}
+use Rattle.rules.proofs.Accepted.{some-level, sound-policy}
 use Rattle.rules.proofs.Recording.{unmarked-demand}
 use Rattle.rules.proofs.Demand.Along.{kept-alike}
 use Rattle.fields.proofs.Tabs.{getD-tab}
@@ -78,7 +78,7 @@ module _ {s : List ℕ} {bytes : ℕ} {before T : LentTables} {p : Opened} (open
       let over : run-at s d (opens .o) (profile s .n) .overrun ≡ false =
       ap (λ (x : Run). x .overrun) (sym end-is) ∙ ap (λ (x : Ran). x .overrun) (sym said) ∙ unmarked in
       let three = unmarked-demand s a the-order (cell d (profile s .levels)) over in
-      let P = policy the-order (accepted-sound s .0 a .not-count) (accepted-sound s .0 a .not-table) in
+      let P = sound-policy (accepted-sound s .0 a) the-order in
       let took : (ℕ → ℕ) = λ j. cell d (profile s .levels) j (getD given j 0) in
       let decisions = ap (λ (x : Ran). x .decisions) said ∙ ap (λ (x : Run). x .decisions) end-is in
       record {

@@ -14,12 +14,12 @@ use Rattle.rules.specs.Numbers.{last-clock}
 use Rattle.rules.specs.Words.{sum}
 use Rattle.rules.specs.Image.{Profile, due, profile}
 use Rattle.rules.specs.Order.{Order, Meets, TheOrder, FitFrom, Fit}
-use Rattle.rules.specs.Limits.{Tables, tables, limit}
+use Rattle.rules.specs.Limits.{tables, limit}
 use Rattle.rules.specs.Refusals.{Count, Range, Falls, Table, Unfit, Accepted}
 use Rattle.rules.specs.Demand.{Safe, Policy, WithinWorst, DemandThree}
 use Rattle.rules.proofs.Sums.{sum-longer}
 use Rattle.rules.proofs.Differences.{not-above}
-use Rattle.rules.proofs.Refusals.{accepted-sound}
+use Rattle.rules.proofs.Refusals.{accepted-sound, Sound as SoundImage}
 use Rattle.rules.proofs.Faults.{TimeOut}
 use Rattle.rules.proofs.Order.OfProfile.{fit-exact, fit?}
 use Rattle.rules.proofs.Limits.Mixed.{Sound, mixed-passes, mixed-safe}
@@ -44,14 +44,6 @@ module _ (F : Profile) (o : Order (F .n)) (counts : Count F → ⊥) where
   pub some-action : 0 < F .n
   some-action = not-above (λ h. counts (inl (inl h)))
 
-  pub tables-sound : (Table F → ⊥) → Sound (tables F o)
-  tables-sound table = record {
-    some-level = some-level;
-    ordered = λ p q l m. not-above (λ h. table (o .at p, o .at-lt p l, inl (q, m, h)));
-    average-rises = λ p q r l a m. rises (F .average (o .at p)) (F .levels) (λ f. table (o .at p, o .at-lt p l, inr (inl f))) q r a m;
-    worst-rises = λ p q r l a m. rises (F .worst (o .at p)) (F .levels) (λ f. table (o .at p, o .at-lt p l, inr (inr f))) q r a m;
-  }
-
   pub tables-small : (Range F → ⊥) → (TimeOut F → ⊥) → Small (tables F o)
   unfolding due
   tables-small range time = record {
@@ -67,15 +59,18 @@ module _ (F : Profile) (o : Order (F .n)) (counts : Count F → ⊥) where
       by true h = cycle-in
       by false h = le-trans h cycle-in
 
--- ---- refusal 9 and demand 3
+-- whatever the number of actions
+pub tables-sound : (F : Profile) (o : Order (F .n)) → 0 < F .levels → (Table F → ⊥) → Sound (tables F o)
+tables-sound F o level table = record {
+  some-level = level;
+  ordered = λ p q l m. not-above (λ h. table (o .at p, o .at-lt p l, inl (q, m, h)));
+  average-rises = λ p q r l a m. rises (F .average (o .at p)) (F .levels) (λ f. table (o .at p, o .at-lt p l, inr (inl f))) q r a m;
+  worst-rises = λ p q r l a m. rises (F .worst (o .at p)) (F .levels) (λ f. table (o .at p, o .at-lt p l, inr (inr f))) q r a m;
+}
 
-module _ {F : Profile} {o : Order (F .n)} (x : TheOrder F o) (counts : Count F → ⊥) (table : Table F → ⊥) where
-  S : Tables
-  S = tables F o
+-- ---- refusal 9 and demand 3, whatever the number of actions
 
-  sound : Sound (tables F o)
-  sound = tables-sound F o counts table
-
+module _ {F : Profile} {o : Order (F .n)} (x : TheOrder F o) where
   safe-meets : (t : ℕ) → Safe (tables F o) t 0 0 ↔ Meets t o (λ a. F .worst a 0) (due F)
   unfolding sum
   safe-meets t = (
@@ -87,20 +82,23 @@ module _ {F : Profile} {o : Order (F .n)} (x : TheOrder F o) (counts : Count F �
   pub fit-safe : (t : ℕ) → Safe (tables F o) t 0 0 ↔ FitFrom t F
   fit-safe t = ((λ s. fit-exact x t .0 (safe-meets t .0 s)), (λ f. safe-meets t .1 (fit-exact x t .1 f)))
 
-  pub fit-limit : (t : ℕ) → (pos t ≤ℤ limit (tables F o) 0 0) ↔ FitFrom t F
-  fit-limit t =
-      let l = some-action F o counts in (
-        (λ h. fit-safe t .0 (mixed-safe (tables F o) sound t 0 0 l (some-level F o counts) (limit-fits (tables F o) t 0 0 l .0 h))),
-        (λ f. limit-fits (tables F o) t 0 0 l .1 (mixed-passes (tables F o) sound t 0 l (fit-safe t .1 f))),
-      )
+  module _ (level : 0 < F .levels) (table : Table F → ⊥) where
+    sound : Sound (tables F o)
+    sound = tables-sound F o level table
 
-  -- the policy of the rules for F
-  abbrev pub policy : Policy (tables F o)
-  policy = mixed-policy (tables F o) (tables-sound F o counts table)
+    pub fit-limit : 0 < F .n → (t : ℕ) → (pos t ≤ℤ limit (tables F o) 0 0) ↔ FitFrom t F
+    fit-limit l t = (
+      (λ h. fit-safe t .0 (mixed-safe (tables F o) sound t 0 0 l level (limit-fits (tables F o) t 0 0 l .0 h))),
+      (λ f. limit-fits (tables F o) t 0 0 l .1 (mixed-passes (tables F o) sound t 0 l (fit-safe t .1 f))),
+    )
 
-  -- Demand 3, from any start that fits.
-  pub fit-demand : (t : ℕ) → FitFrom t F → (d : ℕ → ℕ → ℕ) → WithinWorst 16 policy t d → DemandThree 16 policy t d
-  fit-demand t f d within = demand-three 16 (omega arith) (some-level F o counts) policy t d within (fit-safe t .1 f)
+    -- the policy of the rules for F
+    abbrev pub policy : Policy (tables F o)
+    policy = mixed-policy (tables F o) (tables-sound F o level table)
+
+    -- Demand 3, from any start that fits.
+    pub fit-demand : (t : ℕ) → FitFrom t F → (d : ℕ → ℕ → ℕ) → WithinWorst 16 policy t d → DemandThree 16 policy t d
+    fit-demand t f d within = demand-three 16 (omega arith) level policy t d within (fit-safe t .1 f)
 
 -- what is not unfit is fit
 pub not-unfit : (F : Profile) → (Unfit F → ⊥) → Fit F
@@ -110,10 +108,14 @@ not-unfit F h = by (fit? 0 F)
     by (yes f) = f
     by (no f) = absurd (h f)
 
+-- the policy of the rules for a sound image
+abbrev pub sound-policy : {s : List ℕ} → SoundImage s → {o : Order (profile s .n)} → TheOrder (profile s) o → Policy (tables (profile s) o)
+sound-policy {s} h {o} x = policy x (some-level (profile s) o (h .not-count)) (h .not-table)
+
 -- Demand 3 of an accepted image.
 pub accepted-demand : (s : List ℕ) (a : Accepted s) {o : Order (profile s .n)} (x : TheOrder (profile s) o)
-    → let P = policy x (accepted-sound s .0 a .not-count) (accepted-sound s .0 a .not-table) in
+    → let P = sound-policy (accepted-sound s .0 a) x in
     (d : ℕ → ℕ → ℕ) → WithinWorst 16 P 0 d → DemandThree 16 P 0 d
-accepted-demand s a x =
+accepted-demand s a {o} x =
     let h = accepted-sound s .0 a in
-    fit-demand x (h .not-count) (h .not-table) 0 (not-unfit (profile s) (h .not-unfit))
+    fit-demand x (some-level (profile s) o (h .not-count)) (h .not-table) 0 (not-unfit (profile s) (h .not-unfit))

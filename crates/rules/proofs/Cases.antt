@@ -22,13 +22,14 @@ use Rattle.rules.specs.Refusals.{_when_, First, Unfit, image-checks, Cou
 use Rattle.rules.specs.Run.{level-given, fits, qualifies, left-granted, begun, decides, given, ended, lent}
 use Rattle.rules.specs.Dry.{step, before, dry-end}
 use Rattle.rules.specs.Recording.{frame-bytes, frames, lowest-of, lowest-given, ran-of, long-entry, line-of, with-frame, with-line, totals-from}
+use Rattle.rules.specs.Repeat.{unrolled}
 use Rattle.rules.specs.Speed.{quotient, room, reading-by, reading}
 use Rattle.rules.specs.Cases.{three, eight, cases, AllHold}
 use Rattle.rules.proofs.Tests.{pass, passed, failed, and-true, or-true, not-true, all-pass-each}
 use Rattle.rules.proofs.Order.Loops.{no-loop}
 use Rattle.rules.proofs.Order.OfProfile.{action-at, as-computed, order-loopless}
 use Rattle.rules.proofs.Demand.Asked.{level-given-gives, fits-exact}
-use Rattle.rules.proofs.Accepted.{fit-limit}
+use Rattle.rules.proofs.Accepted.{some-level, some-action, fit-limit}
 
 -- ---- an order named by its actions, each place undone by itself, as 0, 1, 2 and 0, 2, 1 are
 
@@ -195,7 +196,7 @@ module _ (s : List ℕ) (ok : plain s ≡ true) where
       inr (plain-is .short, inr (plain-is .version-is, inr (plain-is .count, inr (plain-is .size, inr (spares, inr (ranges, inr (table, inr (order-loopless x, last b e))))))))
     where
       fit : (pos 0 ≤ℤ limit (tables (profile s) o) 0 0) ↔ Fit (profile s)
-      fit = fit-limit x (plain-is .count) table 0
+      fit = fit-limit x (some-level (profile s) o (plain-is .count)) table (some-action (profile s) o (plain-is .count)) 0
 
       last : (b : Bool) → leZ (pos 0) (limit (tables (profile s) o) 0 0) ≡ b → First (refused-unfit when Unfit (profile s) ∷ []) (cond b 0 9)
       last true e = inr ((λ unfit. unfit (fit .0 (record { le = pass _ e }))), refl)
@@ -258,7 +259,7 @@ every-case = (
                                 (named eight swapped refl, named-is eight swapped refl, refl),
                                 (
                                   (number (image eight) refl (named (profile (image eight)) swapped refl) (named-is (profile (image eight)) swapped refl) true refl),
-                                  tt,
+                                  ((named (unrolled (three 40) 2) chain refl, named-is (unrolled (three 40) 2) chain refl, refl), tt),
                                 ),
                               ),
                             ),

@@ -23,7 +23,7 @@ use Rattle.rules.specs.Demand.{DemandThree}
 use Rattle.rules.specs.Recording.{frame-bytes, durations, frame-at, frames, lowest-of, lowest-given, ran-of, short, long-entry, Line, refused, ran, line-of, lines, Totals, no-totals, with-frame, with-line, totals-from, totals, together, totals-fit, frames-run, sum-over, sums, NotFrames}
 use Rattle.rules.proofs.Tests.{and-true, all-pass-each, one-fails}
 use Rattle.rules.proofs.Refusals.{accepted-sound}
-use Rattle.rules.proofs.Accepted.{policy, accepted-demand}
+use Rattle.rules.proofs.Accepted.{sound-policy, accepted-demand}
 use Rattle.rules.proofs.Demand.Record.{decisions-are}
 use Rattle.rules.proofs.Demand.Marks.{overrun-within}
 use Rattle.rules.proofs.Terms.{sum-within}
@@ -350,7 +350,7 @@ module _ (n L : ℕ) (T : LentTables) where
 -- Demand 3 of an accepted image in its order, for durations d (position, level) over which the overrun mark is not set.
 pub unmarked-demand : (s : List ℕ) (a : Accepted s) {o : Order (profile s .n)} (x : TheOrder (profile s) o) (d : ℕ → ℕ → ℕ)
     → let S = tables (profile s) o in before longest-coast (planned S) (S .worst) d 0 (S .n) .overrun ≡ false
-    → DemandThree longest-coast (policy x (accepted-sound s .0 a .not-count) (accepted-sound s .0 a .not-table)) 0 d
+    → DemandThree longest-coast (sound-policy (accepted-sound s .0 a) x) 0 d
 unmarked-demand s a {o} x d e =
     let S = tables (profile s) o in
     accepted-demand s a x d (overrun-within longest-coast (planned S) (S .worst) d 0 (S .n) e)

@@ -7,7 +7,7 @@ use Prim.Native.Nat.{ℕ, _<_}
 use native.Mathlib.Omega.{arith}
 use lib.Dec.{lit<}
 use Rattle.rules.specs.Image.{profile}
-use Rattle.rules.specs.Refusals.{Ground, _when_, First, Test, first, Count, Range, Table, Looped, Unfit, Short, Version, Length, Spare, image-checks, Accepted}
+use Rattle.rules.specs.Refusals.{Ground, _when_, First, Test, first, Count, Range, Table, Looped, Unfit, Short, Version, Length, Spare, loop-checks, image-checks, Accepted}
 
 -- ---- the row settles the number
 
@@ -83,6 +83,9 @@ first-parts (g ∷ row) rest k m (inr p) = go (first-parts row rest k (m .1) (p 
     go (inr r) = inr (inr (p .0, r .0), r .1)
 
 -- ---- of an image
+
+pub loop-numbered : (s : List ℕ) → Numbered (loop-checks s)
+loop-numbered s = (lit< tt, (lit< tt, (lit< tt, (lit< tt, (lit< tt, (lit< tt, (lit< tt, (lit< tt, tt))))))))
 
 pub image-numbered : (s : List ℕ) → Numbered (image-checks s)
 image-numbered s = (lit< tt, (lit< tt, (lit< tt, (lit< tt, (lit< tt, (lit< tt, (lit< tt, (lit< tt, (lit< tt, tt)))))))))

@@ -1,10 +1,11 @@
 -- Tests: what a Bool says, and what the computed searches of the rules find. Assumes nothing.
-use Prim.Native.Nat.{ℕ, zero, suc, _<_}
+use Prim.Native.Nat.{ℕ, zero, suc, _+_, _<_}
 use mathlib.Core.Path.{_≡_, refl, sym, subst, _∙_}
 use mathlib.Core.Bool.{Bool, true, false, not, cond, _&&_, _||_, true≢false, false≢true}
 use mathlib.Core.Logic.{_⊎_, inl, inr, _↔_}
 use native.Mathlib.Nat.{le-refl, le-antisymm, not-suc-le-zero}
 use native.Mathlib.Decide.{decLt}
+use native.Mathlib.Numerals.{add-one}
 use native.Mathlib.Omega.{arith}
 use lib.Dec.{T}
 use Rattle.rules.specs.Words.{last-passing, all-pass}
@@ -49,6 +50,15 @@ neither true b h = absurd (true≢false h)
 neither false b h = (refl, h)
 
 -- ---- the greatest number that passes
+
+-- found from the last down
+pub last-here : (test : ℕ → Bool) (m j : ℕ) → j ≡ m + 1 → test m ≡ true → last-passing test j ≡ m
+unfolding last-passing
+last-here test m j e h = rw (e, add-one m, h)
+
+pub last-past : (test : ℕ → Bool) (m j : ℕ) → j ≡ m + 1 → test m ≡ false → last-passing test j ≡ last-passing test m
+unfolding last-passing
+last-past test m j e h = rw (e, add-one m, h)
 
 pub record Last (test : ℕ → Bool) (m x : ℕ) : Type 0 where
   pub below : 0 < m → x < m

@@ -15,6 +15,7 @@ use Rattle.rules.specs.Refusals.{First, image-checks}
 use Rattle.rules.specs.Run.{Run}
 use Rattle.rules.specs.Dry.{before, level-of}
 use Rattle.rules.specs.Recording.{Line, refused, ran, lines, Totals, totals}
+use Rattle.rules.specs.Repeat.{unrolled}
 use Rattle.rules.specs.Speed.{Reading, ratio, spent, one, reading}
 
 -- ---- the profiles
@@ -151,6 +152,10 @@ cases =
     -- 8
     ∷ of eight ordered (0 ∷ 2 ∷ 1 ∷ [])
     ∷ of eight checked 0
+    -- Three twice, unrolled: a body repeated
+    ∷ of (unrolled (three 40) 2) printed (
+    pos 16 ∷ pos 2 ∷ pos 20 ∷ pos 8 ∷ pos 24 ∷ pos 14 ∷ pos 28 ∷ pos 20 ∷ pos 32 ∷ pos 26 ∷ pos 36 ∷ pos 32 ∷ []
+    )
     ∷ []
 
 -- every listed case holds

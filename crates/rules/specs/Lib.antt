@@ -10,4 +10,5 @@ pub mod Speed
 pub mod Refresh
 pub mod Demand
 pub mod Recording
+pub mod Repeat
 pub mod Cases

@@ -35,6 +35,14 @@ most-records = 65535
 abbrev pub most-frames : ℕ
 most-frames = 4096
 
+-- N, the repeats of a body: 1 to 1,620
+abbrev pub most-repeats : ℕ
+most-repeats = 1620
+
+-- the positions of a body repeated, at most 64 by 1,620: 103,680
+abbrev pub most-positions : ℕ
+most-positions = 103680
+
 -- ---- the image's header, 48 bits: version 4, actions 7, levels 4, cycle 30, spare 3
 
 -- the one version there is
@@ -105,6 +113,12 @@ duration-said = 1073741824
 abbrev pub duration-bytes : ℕ
 duration-bytes = 4
 
+-- ---- the summaries of a body, in numbers
+
+-- what a stretch is summed up by
+abbrev pub summary-numbers : ℕ
+summary-numbers = 3
+
 -- ---- numbers of refusal
 
 abbrev pub refused-short : ℕ
@@ -160,3 +174,6 @@ refused-room = 17
 
 abbrev pub refused-reading : ℕ
 refused-reading = 18
+
+abbrev pub refused-repeats : ℕ
+refused-repeats = 19

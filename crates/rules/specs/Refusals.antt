@@ -123,9 +123,9 @@ SpareFault s a = spare-of s a ≢ 0
 abbrev pub Spare : List ℕ → Type 0
 Spare s = (header-spare s ≢ 0) ⊎ Some (SpareFault s) (profile s .n)
 
--- Image checks go over the whole image in the order 1 to 9.
-abbrev pub image-checks : List ℕ → List Ground
-image-checks s =
+-- Image checks go over the whole image in the order 1 to 9. Up to 8 they are those of a body too, however often it is repeated.
+abbrev pub loop-checks : List ℕ → List Ground
+loop-checks s =
     refused-short when Short s
     ∷ refused-version when Version s
     ∷ refused-count when Count (profile s)
@@ -134,8 +134,10 @@ image-checks s =
     ∷ refused-range when Range (profile s)
     ∷ refused-table when Table (profile s)
     ∷ refused-loop when Looped (profile s)
-    ∷ refused-unfit when Unfit (profile s)
     ∷ []
+
+abbrev pub image-checks : List ℕ → List Ground
+image-checks s = loop-checks s ++ (refused-unfit when Unfit (profile s) ∷ [])
 
 -- An accepted image.
 abbrev pub Accepted : List ℕ → Type 0

@@ -59,21 +59,19 @@ pub record Run : Type 0 where
 
 -- Fields and ranges: n, L; position 0 to n; clock up to its limit; whether an action runs (only below n); level below L; coast left, 0 to 15
 -- and at most n minus position, less 1 while an action runs; decisions, at most position plus 1 if an action runs; the two marks.
-unfoldable pub in-range : Run → Bool
-in-range r =
-    every
-    (leb 1 (r .n)
-    ∷ leb (r .n) most-actions
-    ∷ leb 1 (r .levels)
-    ∷ leb (r .levels) most-levels
-    ∷ leb (r .position) (r .n)
+abbrev pub in-cycle : Run → List Bool
+in-cycle r =
+    leb (r .position) (r .n)
     ∷ leb (r .clock) last-clock
     ∷ leb (r .position + one-if (r .running)) (r .n)
     ∷ ltb (r .level) (r .levels)
     ∷ leb (r .left) 15
     ∷ leb (r .left + (r .position + one-if (r .running))) (r .n)
     ∷ leb (r .decisions) (r .position + one-if (r .running))
-    ∷ [])
+    ∷ []
+
+unfoldable pub in-range : Run → Bool
+in-range r = every (leb 1 (r .n) ∷ leb (r .n) most-actions ∷ leb 1 (r .levels) ∷ leb (r .levels) most-levels ∷ in-cycle r)
 
 -- A start sets n and L, all else 0 or no.
 unfoldable pub begun : ℕ → ℕ → ℕ → Run
@@ -165,37 +163,46 @@ unfoldable pub start : ℕ → ℕ → Next
 start n L = cond (eqb (start-refusal n L) 0) (record { number = 0; run = begun n L 0 }) (record { number = start-refusal n L; run = begun 0 0 0 })
 
 -- Asking: fields out of range 11, room 17, an action runs 11, all done 10.
-unfoldable pub ask-refusal : LentTables → Run → ℕ
-ask-refusal T r =
-    let cells : ℕ = r .n * r .levels in
+abbrev pub ask-row : Bool → Bool → Run → ℕ
+ask-row ranged short r =
     first
-    (refused-turn if not (in-range r)
-    ∷ refused-room if (ltb (length (T .order)) (r .n) || ltb (length (T .limits)) cells || ltb (length (T .bounds)) (cells * longest-coast))
+    (refused-turn if not ranged
+    ∷ refused-room if short
     ∷ refused-turn if r .running
     ∷ refused-finished if eqb (r .position) (r .n)
     ∷ [])
 
-unfoldable pub ask : LentTables → Run → Answer
-ask T r =
-    let P : Plan = lent (r .n) (r .levels) T in
+unfoldable pub ask-refusal : LentTables → Run → ℕ
+ask-refusal T r =
+    let cells : ℕ = r .n * r .levels in
+    ask-row (in-range r) (ltb (length (T .order)) (r .n) || ltb (length (T .limits)) cells || ltb (length (T .bounds)) (cells * longest-coast)) r
+
+-- An asking refused by the number k, or where k is 0 not, for an action on a plan.
+abbrev pub asked-by : ℕ → ℕ → Plan → Run → Answer
+asked-by k action P r =
     let next : Run = given longest-coast P r in
-    cond (eqb (ask-refusal T r) 0)
-    (gives (getD (T .order) (r .position) 0) (next .level) (decides r) (decides r && not (fits P (r .clock) (r .position))) next)
-    (refused (ask-refusal T r) r)
+    cond (eqb k 0) (gives action (next .level) (decides r) (decides r && not (fits P (r .clock) (r .position))) next) (refused k r)
+
+unfoldable pub ask : LentTables → Run → Answer
+ask T r = asked-by (ask-refusal T r) (getD (T .order) (r .position) 0) (lent (r .n) (r .levels) T) r
 
 -- Reporting an end by the clock t: fields out of range 11, room 17, none runs 11, back 12, above the clock limit 13.
-unfoldable pub report-refusal : List ℕ → ℕ → Run → ℕ
-report-refusal worst t r =
+abbrev pub report-row : Bool → Bool → ℕ → Run → ℕ
+report-row ranged short t r =
     first
-    (refused-turn if not (in-range r)
-    ∷ refused-room if ltb (length worst) (r .n * r .levels)
+    (refused-turn if not ranged
+    ∷ refused-room if short
     ∷ refused-turn if not (r .running)
     ∷ refused-back if ltb t (r .clock)
     ∷ refused-clock if ltb last-clock t
     ∷ [])
 
+unfoldable pub report-refusal : List ℕ → ℕ → Run → ℕ
+report-refusal worst t r = report-row (in-range r) (ltb (length worst) (r .n * r .levels)) t r
+
+-- A report refused by the number k, or where k is 0 not, of an action whose worst time at its level is w.
+abbrev pub reported-by : ℕ → ℕ → ℕ → Run → Next
+reported-by k w t r = cond (eqb k 0) (record { number = 0; run = ended w t r }) (record { number = k; run = r })
+
 unfoldable pub report : List ℕ → ℕ → Run → Next
-report worst t r =
-    cond (eqb (report-refusal worst t r) 0)
-    (record { number = 0; run = ended (getD worst (r .position * r .levels + r .level) 0) t r })
-    (record { number = report-refusal worst t r; run = r })
+report worst t r = reported-by (report-refusal worst t r) (getD worst (r .position * r .levels + r .level) 0) t r

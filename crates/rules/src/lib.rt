@@ -19,6 +19,10 @@ pub const ABSENT: i32 = -2_147_483_648;
 pub const MOST_RECORDS: usize = 65_535;
 // Frames of a recording: 0 to this many.
 pub const MOST_FRAMES: u32 = 4_096;
+// Repeats of a body: 1 to this many.
+pub const MOST_REPEATS: u32 = 1_620;
+// What a limit or a coast bound of 64 bits is where there is none.
+pub const ABSENT_LONG: i64 = -9_223_372_036_854_775_808;
 
 // ---- the image's header, 48 bits: version 4, actions 7, levels 4, cycle 30, spare 3
 
@@ -66,6 +70,19 @@ pub const DURATION_SAID: u32 = 1_073_741_824;
 
 pub const DURATION_BYTES: usize = 4;
 
+// ---- the summaries of a body: by position, then level, three numbers each
+
+pub const SUMMARY_NUMBERS: usize = 3;
+
+// What every call over a body repeated takes of it: n, L and the cycle of the body, and how often it is repeated.
+#[repr(C)]
+pub struct Body {
+    pub n: u32,
+    pub levels: u32,
+    pub cycle: u32,
+    pub repeats: u32,
+}
+
 // ---- refusals
 
 // What every call answers of a refusal: its number, 0 for none.
@@ -109,3 +126,5 @@ pub const REFUSED_DURATION: u32 = 16;
 pub const REFUSED_ROOM: u32 = 17;
 
 pub const REFUSED_READING: u32 = 18;
+
+pub const REFUSED_REPEATS: u32 = 19;

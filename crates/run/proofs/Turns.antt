@@ -1,6 +1,6 @@
 -- What a record that may be asked gives, and what the steps of a decision and of an end make of it. Assumes nothing.
 use Prim.Native.Nat.{ℕ, suc, _+_, _*_, _≤_, _<_}
-use mathlib.Core.Path.{_≡_, sym, ap, _∙_}
+use mathlib.Core.Path.{_≡_, refl, sym, ap, _∙_}
 use mathlib.Core.Bool.{Bool, true, false, not, _||_}
 use mathlib.Core.List.{List}
 use mathlib.Core.Logic.{_≢_}
@@ -14,7 +14,7 @@ use borrow.Author.Tests.{eq-eqb, ne-eqb}
 use Rattle.rules.specs.Words.{last-passing, one-if}
 use Rattle.rules.specs.Limits.{LentTables, Plan}
 use Rattle.rules.specs.Run.{Run, level-given, fits, left-granted, lent, decide, coast, decides, given, ended}
-use Rattle.rules.specs.Run.{ask-refusal, ask, report-refusal, report}
+use Rattle.rules.specs.Run.{asked-by, ask-refusal, ask, reported-by, report-refusal, report}
 use Rattle.rules.specs.Run.Answer.{refused, gives}
 use Rattle.rules.proofs.Tests.{failed, last-is}
 use Rattle.rules.proofs.Calls.{InRange, in-range-facts}
@@ -69,7 +69,30 @@ module _ (T : LentTables) (r : Run) where
   unfolding level-given fits lent
   decided-is level left fit level-is fit-is left-is = (rw (left-is, fit-is, level-is, add-one), rw (fit-is, level-is))
 
--- ---- the answers
+-- ---- the answers, on any plan
+
+module _ (k action : ℕ) (P : Plan) (r : Run) where
+  pub asked-refused : k ≢ 0 → refused k r ≡ asked-by k action P r
+  asked-refused some = past _ _ _ (ne-eqb _ _ some) refl
+
+  module _ (none : 0 ≡ k) where
+    pub asked-decided : (next : Run) (late : Bool) → r .left ≡ 0 → next ≡ decide 16 P r → late ≡ not (fits P (r .clock) (r .position))
+        → gives action (next .level) true late next ≡ asked-by k action P r
+    unfolding given decides
+    asked-decided next late z e l = into _ _ _ (eq-eqb _ _ (sym none)) (rw (eq-eqb (r .left) 0 z, e, l))
+
+    pub asked-coasted : (next : Run) → r .left ≢ 0 → next ≡ coast r → gives action (r .level) false false next ≡ asked-by k action P r
+    unfolding given decides
+    asked-coasted next z e = into _ _ _ (eq-eqb _ _ (sym none)) (rw (ne-eqb (r .left) 0 z, e))
+
+module _ (k w t : ℕ) (r : Run) where
+  pub reported-refused : k ≢ 0 → record { number = k; run = r } ≡ reported-by k w t r
+  reported-refused some = past _ _ _ (ne-eqb _ _ some) refl
+
+  pub reported-ended : (next : Run) → 0 ≡ k → next ≡ ended w t r → record { number = 0; run = next } ≡ reported-by k w t r
+  reported-ended next none e = into _ _ _ (eq-eqb _ _ (sym none)) (ap (λ (x : Run). record { number = 0; run = x }) e)
+
+-- ---- on the tables of a plain cycle
 
 module _ (T : LentTables) (r : Run) where
   abbrev P : Plan
@@ -77,26 +100,28 @@ module _ (T : LentTables) (r : Run) where
 
   pub ask-refuses : (k : ℕ) → k ≡ ask-refusal T r → k ≢ 0 → refused k r ≡ ask T r
   unfolding ask
-  ask-refuses k e some = past _ _ _ (ne-eqb _ _ (λ z. some (e ∙ z))) (ap (λ (x : ℕ). refused x r) e)
+  ask-refuses k e some = rw (← e) (asked-refused k (getD (T .order) (r .position) 0) P r some)
 
   module _ (none : 0 ≡ ask-refusal T r) where
     pub ask-decides : (next : Run) (late : Bool) → r .left ≡ 0 → let Q = lent (r .n) (r .levels) (read T) in
         next ≡ decide 16 Q r → late ≡ not (fits Q (r .clock) (r .position))
         → gives (getD (T .order) (r .position) 0) (next .level) true late next ≡ ask T r
-    unfolding ask given decides
-    ask-decides next late z e l = into _ _ _ (eq-eqb _ _ (sym none)) (rw (eq-eqb (r .left) 0 z, e, l, read-alone (r .n) (r .levels) T))
+    unfolding ask
+    ask-decides next late z e l =
+        asked-decided _ (getD (T .order) (r .position) 0) P r none next late z (e ∙ ap (λ (Q : Plan). decide 16 Q r) (read-alone (r .n) (r .levels) T))
+        (l ∙ ap (λ (Q : Plan). not (fits Q (r .clock) (r .position))) (read-alone (r .n) (r .levels) T))
 
     pub ask-coasts : (next : Run) → r .left ≢ 0 → next ≡ coast r
         → gives (getD (T .order) (r .position) 0) (r .level) false false next ≡ ask T r
-    unfolding ask given decides
-    ask-coasts next z e = into _ _ _ (eq-eqb _ _ (sym none)) (rw (ne-eqb (r .left) 0 z, e))
+    unfolding ask
+    ask-coasts = asked-coasted _ (getD (T .order) (r .position) 0) P r none
 
 module _ (worst : List ℕ) (t : ℕ) (r : Run) where
   pub report-refuses : (k : ℕ) → k ≡ report-refusal worst t r → k ≢ 0 → record { number = k; run = r } ≡ report worst t r
   unfolding report
-  report-refuses k e some = past _ _ _ (ne-eqb _ _ (λ z. some (e ∙ z))) (ap (λ (x : ℕ). record { number = x; run = r }) e)
+  report-refuses k e some = rw (← e) (reported-refused k (getD worst (r .position * r .levels + r .level) 0) t r some)
 
   pub report-ends : (next : Run) → 0 ≡ report-refusal worst t r → next ≡ ended (getD worst (r .position * r .levels + r .level) 0) t r
       → record { number = 0; run = next } ≡ report worst t r
   unfolding report
-  report-ends next none e = into _ _ _ (eq-eqb _ _ (sym none)) (ap (λ (x : Run). record { number = 0; run = x }) e)
+  report-ends next none e = reported-ended _ _ t r next none e

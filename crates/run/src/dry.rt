@@ -116,7 +116,7 @@ fn coast(
 
 // Whether each of the first `cells` durations is at most 16,777,215, used or not: whether their bits together are, so that no test stands in
 // the loop.
-fn all_short(durations: &[u32], cells: usize) -> bool
+pub fn all_short(durations: &[u32], cells: usize) -> bool
     requires { ⌜ cells ≤ length (now durations) ⌝ }
     ensures { λ r. ⌜ r ≡ all-pass (λ k. leb (getD (now (durations .entry)) k 0) longest-time) cells ⌝ }
 {

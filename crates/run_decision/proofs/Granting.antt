@@ -15,26 +15,18 @@ use borrow.Author.Tests.{le-leb, lt-leb}
 use Rattle.rules.specs.Words.{last-passing, all-pass}
 use Rattle.rules.specs.Limits.{LentTables}
 use Rattle.rules.specs.Run.{qualifies, left-granted, lent}
-use Rattle.rules.proofs.Tests.{failed, and-true, or-true, not-true, all-pass-each}
+use Rattle.rules.proofs.Tests.{failed, and-true, or-true, not-true, last-past, all-pass-each}
 
 -- ---- the greatest number that passes
 
 module _ (test : ℕ → Bool) where
-  pub last-here : (m j : ℕ) → j ≡ m + 1 → test m ≡ true → last-passing test j ≡ m
-  unfolding last-passing
-  last-here m j e h = rw (e, add-one m, h)
-
-  pub last-past : (m j : ℕ) → j ≡ m + 1 → test m ≡ false → last-passing test j ≡ last-passing test m
-  unfolding last-passing
-  last-past m j e h = rw (e, add-one m, h)
-
   -- if none from x on passes, it is below x
   pub last-below : (x m : ℕ) → x ≤ m → ((y : ℕ) → x ≤ y → test y ≡ false) → last-passing test m ≡ last-passing test x
   last-below x zero h none = let e : x ≡ 0 = omega arith in rw e
   last-below x (suc m) h none =
       ⊎-elim
       (λ e. rw e)
-      (λ l. last-past m (suc m) (omega arith) (none m (omega arith)) ∙ last-below x m (omega arith) none)
+      (λ l. last-past test m (suc m) (omega arith) (none m (omega arith)) ∙ last-below x m (omega arith) none)
       (eq-or-lt-of-le h)
 
   pub last-low : (m : ℕ) → last-passing test m ≤ m

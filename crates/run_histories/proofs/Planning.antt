@@ -13,7 +13,7 @@ use Rattle.rules.specs.Run.{Next, begun, lent, start, start-refusal}
 use Rattle.rules.specs.Demand.{Safe, Policy, plan-of}
 use Rattle.rules.proofs.Differences.{not-above}
 use Rattle.rules.proofs.Refusals.{Sound, accepted-parts}
-use Rattle.rules.proofs.Accepted.{policy, fit-safe, not-unfit}
+use Rattle.rules.proofs.Accepted.{sound-policy, fit-safe, not-unfit}
 use Rattle.planner.specs.declared.Planned.{Planned}
 use Rattle.planner.specs.Planning.{plan-rooms, with-fronts, Plans}
 use Rattle.planner.proofs.Reading.{reads-order, reads-plan, reads-worst}
@@ -36,11 +36,10 @@ module _ {s : List ℕ} {B T : LentTables} {p : Planned} (plans : Plans s B T p)
 
   -- the policy of the rules for it; its limits are the mixed ones, and the worst times fit
   abbrev pub planned-policy : Policy (tables (profile s) (plans .o))
-  planned-policy = policy (plans .the-order none) (planned-sound .not-count) (planned-sound .not-table)
+  planned-policy = sound-policy planned-sound (plans .the-order none)
 
   pub planned-safe : Safe (tables (profile s) (plans .o)) 0 0 0
-  planned-safe =
-      fit-safe (plans .the-order none) (planned-sound .not-count) (planned-sound .not-table) 0 .1 (not-unfit (profile s) (planned-sound .not-unfit))
+  planned-safe = fit-safe (plans .the-order none) 0 .1 (not-unfit (profile s) (planned-sound .not-unfit))
 
   -- What planning left reads as the plan.
   pub planned-on : (c : Call) → LentFrom T c → OnPlan (plans .o .at) (plan-of planned-policy) (tables (profile s) (plans .o) .worst) c

@@ -5,6 +5,7 @@ fn main() {
     tell_file(b"run.txt");
     tell_file(b"cycle.txt");
     tell_file(b"frames.txt");
+    tell_file(b"bodies.txt");
     tell_file(b"speed.txt");
     tell_file(b"averages.txt");
 }
@@ -30,6 +31,7 @@ fn tell(line: &[u8], file: u8) {
         b'r' => test_run::tell(line),
         b'c' => test_cycle::tell(line),
         b'f' => test_recording::tell(line),
+        b'b' => test_repeat::tell(line),
         b's' => test_speed::tell(line),
         _ => test_refresh::tell(line),
     }

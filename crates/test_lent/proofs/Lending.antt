@@ -27,7 +27,7 @@ use types.Tokens.{lft-new, lft-end}
 use contract.Lifetimes.{Lfts, Shares, AllOutlive, toks}
 use contract.Running.{Running, GhostRules, givenOf, tables}
 unfoldable use contract.Running.{tablesOf}
-use denote.Exit.{yes, Last, left}
+use denote.Exit.{yes}
 use denote.RattleType.{Denots, flat}
 use denote.Memory.{mem, cellAt, partAt, partOf, pointee}
 use denote.Laws.{Typed, Is, Spells, valss, shows}
@@ -43,8 +43,7 @@ use denote.Triple.Clauses.{Ended, Clauses, Lasts, atExit, closing}
 use denote.Triple.Call.{calls-from}
 use denote.Triple.Table.{entered, cited}
 use denote.Triple.Walked.{Stays, stay-none, goes-none, walkOf, onExit, Ending, walked, walk-meets, ends-at}
-use Rattle.nyokazerubi.proofs.Records.{run}
-use Rattle.nyokazerubi.proofs.Plain.{Kind, Value, row, mir-type, val, vals, own, Known, tells, makes, typed, Pair, both, known-both}
+use Rattle.nyokazerubi.proofs.Plain.{Kind, Still, Value, row, mir-type, val, vals, own, Known, tells, makes, typed, Pair, both, known-both}
 use Rattle.nyokazerubi.proofs.Beside.{Other, by-value, lent, slots, tys, stays, rows, words, values, Own, all-tell, as-passed, fit, had, all-go}
 use Rattle.nyokazerubi.proofs.Beside.{all-typed, twice}
 use Rattle.nyokazerubi.proofs.Beside.{locals, in-front, after, operands, one-later, found, past, allocs-all, passes-all, frees-all, reads}
@@ -197,14 +196,6 @@ module _ {M : Type 1} (𝓤 : URA M) (H : Heap 𝓤) (A : Atoms 𝓤) (W : Given
       done !)))))))))))))
 
 -- ---- the contracts
-
--- a plain record is seen at a function's exit as it was passed, and nothing is said of it
-pub record Still (S : Kind) : Type 1 where
-  pub last : (h : Value S) → Last (row S .exit yes) h
-  pub silent : (h : Value S) (f : Last (row S .exit yes) h) → left (row S .exit yes) h f ≡ ftrue
-
-abbrev pub run-still : Still run
-run-still = record { last = λ h. tt; silent = λ h f. refl }
 
 -- Between the two: the callee asks nothing; it is handed the function's own parameters; the record is seen at exit as it was passed; and what the
 -- callee says of

@@ -7,6 +7,7 @@ use run::Run;
 use text::words;
 ghost use Prim.Native.Nat.{_≤_};
 
+mod bodies;
 mod through;
 
 fn main() {
@@ -19,6 +20,8 @@ fn main() {
     let mut text = io::large_buffer();
     let n = files::read_file(b"cases.txt", &mut text);
     tell_each(&text[..n], order, &limits, worst, &bounds);
+    let m = files::read_file(b"bodies.txt", &mut text);
+    bodies::tell_all(&text[..m]);
 }
 
 fn tell_each(text: &[u8], order: [u8; 3], limits: &[i32], worst: [u32; 6], bounds: &[i32]) {

@@ -9,7 +9,7 @@ use borrow.Author.Tests.{eq-eqb, ne-eqb, le-leb, leb-true}
 use lib.Dec.{leb}
 use lib.ListN.{length, drop, getD, drop-of-length-le}
 use lib.Seq.{drop-cons}
-use Rattle.text.specs.Words.{from-first, after-first, from-word, digits-say, capped}
+use Rattle.text.specs.Words.{from-first, after-first, from-word, digits-say, capped, only-digits}
 
 no-digit : (x : ℕ) → (48 ≤ x → x ≤ 57 → ⊥) → (leb 48 x && leb x 57) ≡ false
 no-digit x h = by (leb 48 x) (leb x 57) refl refl
@@ -49,6 +49,18 @@ module _ (s : List ℕ) (i : ℕ) where
   pub text-end : (v : ℕ) → length s ≤ i → digits-say v (drop i s) ≡ v
   unfolding digits-say
   text-end v h = rw (drop-of-length-le s h)
+
+  pub only-here : i < length s → 48 ≤ getD s i 0 → getD s i 0 ≤ 57 → only-digits (drop i s) ≡ only-digits (drop (i + 1) s)
+  unfolding only-digits
+  only-here h low high = rw (split h, le-leb 48 (getD s i 0) low, le-leb (getD s i 0) 57 high)
+
+  pub only-ends : i < length s → (48 ≤ getD s i 0 → getD s i 0 ≤ 57 → ⊥) → only-digits (drop i s) ≡ false
+  unfolding only-digits
+  only-ends h n = rw (split h, no-digit (getD s i 0) n)
+
+  pub only-none : length s ≤ i → only-digits (drop i s) ≡ true
+  unfolding only-digits
+  only-none h = rw (drop-of-length-le s h)
 
 pub word-after : (k : ℕ) (s : List ℕ) → 0 < k → from-word k s ≡ from-word (k - 1) (after-first 32 s)
 unfolding from-word

@@ -1,6 +1,6 @@
 -- Words of a line, and the number that a word says.
 use Prim.Native.Nat.{ℕ, zero, suc, _+_, _*_, _-_, min}
-use mathlib.Core.Bool.{cond, _&&_}
+use mathlib.Core.Bool.{Bool, true, cond, _&&_}
 use mathlib.Core.List.{List, [], _∷_}
 use lib.Dec.{leb, eqb}
 use lib.ListN.{drop}
@@ -27,3 +27,12 @@ digits-say v (x ∷ xs) = cond (leb 48 x && leb x 57) (digits-say (v * 10 + (x -
 -- a number that is too large for 32 bits counts as the largest one that is not
 abbrev pub capped : ℕ → ℕ
 capped v = min 4294967295 v
+
+-- digits and nothing else
+unfoldable pub only-digits : List ℕ → Bool
+only-digits [] = true
+only-digits (x ∷ xs) = (leb 48 x && leb x 57) && only-digits xs
+
+-- the number that a whole text is; 0 where it is none
+abbrev pub whole-number : List ℕ → ℕ
+whole-number text = cond (only-digits text) (capped (digits-say 0 text)) 0

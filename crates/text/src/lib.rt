@@ -5,5 +5,7 @@ pub mod words;
 pub use put::put_byte;
 pub use put::put_bytes;
 pub use put::put_digit;
+pub use put::put_long;
 pub use put::put_number;
 pub use put::put_signed;
+pub use put::put_signed_long;

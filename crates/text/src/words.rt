@@ -3,7 +3,7 @@ ghost use Prim.Native.Nat.{_+_, _≤_, _<_};
 ghost use mathlib.Core.Path.{_≡_};
 ghost use lib.ListN.{length, drop};
 ghost use Rattle.io.specs.Counts.{Counts};
-ghost use Rattle.text.specs.Words.{from-first, after-first, from-word, digits-say};
+ghost use Rattle.text.specs.Words.{from-first, after-first, from-word, digits-say, only-digits, whole-number};
 ghost use Rattle.text.specs.Words.{capped as Words·capped};
 
 // Where the byte stands first, from index `from` on; the length where it does not.
@@ -94,6 +94,29 @@ pub fn number(line: &[u8], k: usize) -> u32
         at += 1;
     }
     value
+}
+
+fn only_digits(text: &[u8]) -> bool
+    ensures { λ r. ⌜ r ≡ only-digits (now (text .entry)) ⌝ }
+{
+    let mut at = 0;
+    while at < text.len() {
+        if 9 < digit(text[at]) {
+            return false;
+        }
+        at += 1;
+    }
+    true
+}
+
+// The decimal number that all of a text says: 0 where it has any byte that is no digit, or none.
+pub fn whole_number(text: &[u8]) -> u32
+    ensures { λ r. ⌜ r ≡ whole-number (now (text .entry)) ⌝ }
+{
+    if only_digits(text) {
+        return number(text, 0);
+    }
+    0
 }
 
 // The byte that two hexadecimal digits say; 256 where they are not there.

@@ -1,5 +1,8 @@
 //! Times each public call of the product against the fast forms in Rust and in C: the same machine, input and run, the same lent slices.
-//! Prints the tables of docs/BENCHMARKS.md.
+//! Prints the tables of docs/BENCHMARKS.md; with the word `bodies`, those of a body repeated alone.
+
+#[path = "bench/bodies.rs"]
+mod bodies;
 
 use nyokazerubi_host::c::C;
 use nyokazerubi_host::calls::{Calls, Counts, Fast, Opened, Run, Tables, Totals, LONGEST_COAST, MOST_FRAMES};
@@ -22,11 +25,19 @@ fn main() {
     std::fs::remove_file(folder.join(&library)).expect("the library was built here");
     let sides: Sides = [("product", &Product), ("Rust", &Fast), ("C", &c)];
     println!("Medians of {SAMPLES} samples in ns; the ratio is to the faster of Rust and C.");
-    for (name, image) in [("encoder", encoder()), ("chain", chain()), ("graph", graph())] {
-        table(&sides, name, &Bench::new(&image));
+    let images = [("encoder", encoder()), ("chain", chain()), ("graph", graph())];
+    if std::env::args().nth(1).as_deref() != Some("bodies") {
+        for (name, image) in &images {
+            table(&sides, name, &Bench::new(image));
+        }
+        frame(&sides);
+        recordings(&sides, &images[1..]);
     }
-    frame(&sides);
-    recordings(&sides, &[("chain", chain()), ("graph", graph())]);
+    for (name, image) in &images {
+        bodies::table(&sides, name, image);
+    }
+    bodies::frame(&sides, &encoder());
+    bodies::memory();
 }
 
 /// The implementations by name.
@@ -216,6 +227,7 @@ struct Room {
     numbers: [[u32; 512]; 3],
     limits: [i32; 512],
     bounds: [i32; 8192],
+    summaries: [u32; 1536],
 }
 
 static mut ROOM: Room = Room {
@@ -225,6 +237,7 @@ static mut ROOM: Room = Room {
     numbers: [[0; 512]; 3],
     limits: [0; 512],
     bounds: [0; 8192],
+    summaries: [0; 1536],
 };
 
 /// The one room. There is one thread, and each call is over before the next.

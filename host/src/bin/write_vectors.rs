@@ -14,8 +14,8 @@ fn main() -> ExitCode {
     match outside::write(Path::new(folder), seed) {
         Ok(written) => {
             println!(
-                "{} cases, {} traces, {} readings, {} recordings, {} bytes",
-                written.cases, written.traces, written.readings, written.recordings, written.bytes
+                "{} cases, {} traces, {} readings, {} recordings, {} bodies, {} bytes",
+                written.cases, written.traces, written.readings, written.recordings, written.bodies, written.bytes
             );
             ExitCode::SUCCESS
         }

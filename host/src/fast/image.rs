@@ -140,6 +140,13 @@ fn shape(image: &[u8]) -> Answer<Shape> {
 
 /// Refusals 1 to 9; the shape and the order of an accepted image.
 pub(super) fn examine(image: &[u8]) -> Answer<(Shape, Arranged)> {
+    let (shape, actions) = gather(image)?;
+    Ok((shape, arrange(&actions, shape.n)?))
+}
+
+/// Refusals 1 to 7; the shape, and what the order reads.
+#[inline(always)]
+pub(super) fn gather(image: &[u8]) -> Answer<(Shape, Actions)> {
     let shape = shape(image)?;
     let present = shape.present();
     let mut faults = Faults::none();
@@ -161,7 +168,7 @@ pub(super) fn examine(image: &[u8]) -> Answer<(Shape, Arranged)> {
         }
     }
     faults.first()?;
-    Ok((shape, arrange(&actions, shape.n)?))
+    Ok((shape, actions))
 }
 
 /// The image check.

@@ -87,16 +87,26 @@ fn by_number(actions: &Actions, n: usize) -> bool {
 
 /// The order by urgency, or the refusal 8 or 9.
 pub(super) fn arrange(actions: &Actions, n: usize) -> Answer<Arranged> {
+    let (arranged, unfit) = ordered(actions, n)?;
+    if unfit {
+        return Err(refused::UNFIT);
+    }
+    Ok(arranged)
+}
+
+/// The order by urgency, with whether it is unfit, or the refusal 8.
+#[inline(always)]
+pub(super) fn ordered(actions: &Actions, n: usize) -> Answer<(Arranged, bool)> {
     if by_number(actions, n) {
         // The last action ends last, and all deadlines are its own.
         let end: u32 = actions.worst[..n].iter().sum();
-        return if end > actions.deadlines[0] { Err(refused::UNFIT) } else { Ok(Arranged(BY_NUMBER)) };
+        return Ok((Arranged(BY_NUMBER), end > actions.deadlines[0]));
     }
     by_urgency(actions, n)
 }
 
 /// Each action that is not ready waits with one of its predecessors still to be done.
-fn by_urgency(actions: &Actions, n: usize) -> Answer<Arranged> {
+fn by_urgency(actions: &Actions, n: usize) -> Answer<(Arranged, bool)> {
     let by_rank = ranked(actions, n);
     let mut rank = [0u8; 64];
     for (place, &a) in by_rank[..n].iter().enumerate() {
@@ -136,8 +146,5 @@ fn by_urgency(actions: &Actions, n: usize) -> Answer<Arranged> {
             }
         }
     }
-    if unfit {
-        return Err(refused::UNFIT);
-    }
-    Ok(Arranged(order))
+    Ok((Arranged(order), unfit))
 }

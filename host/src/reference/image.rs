@@ -75,6 +75,15 @@ fn spare_bit_set(image: &[u8], n: usize, levels: usize) -> bool {
 
 /// The profile of an accepted image, or the refusal 1 to 9.
 pub fn accept(image: &[u8]) -> Answer<Profile> {
+    let profile = accept_but_unfit(image)?;
+    if profile.unfit() {
+        return Err(refused::UNFIT);
+    }
+    Ok(profile)
+}
+
+/// The same up to 8.
+pub fn accept_but_unfit(image: &[u8]) -> Answer<Profile> {
     if image.len() < 6 {
         return Err(refused::SHORT);
     }
@@ -93,7 +102,7 @@ pub fn accept(image: &[u8]) -> Answer<Profile> {
         return Err(refused::SPARE);
     }
     let profile = unpack(image);
-    match profile.refusal() {
+    match profile.refusal_but_unfit() {
         Some(number) => Err(number),
         None => Ok(profile),
     }

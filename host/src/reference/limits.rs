@@ -2,7 +2,7 @@
 
 use super::image::accept;
 use super::order::Order;
-use super::profile::Profile;
+use super::profile::{Profile, Set};
 use crate::calls::{refused, Answer, Counts, ABSENT_BOUND, LONGEST_COAST};
 
 /// A profile laid out by position.
@@ -17,7 +17,7 @@ pub struct Planned {
 }
 
 impl Planned {
-    pub fn of(profile: &Profile) -> Planned {
+    pub fn of(profile: &Profile<impl Set>) -> Planned {
         let Order(order) = Order::by_urgency(profile);
         Planned {
             n: profile.n,

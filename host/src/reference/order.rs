@@ -1,6 +1,6 @@
 //! What must follow what, loops, urgency, and the order by urgency.
 
-use super::profile::Profile;
+use super::profile::{Profile, Set};
 
 /// For each action, all actions that must follow it, directly or through others.
 #[derive(Clone, Debug, PartialEq, Eq)]
@@ -8,7 +8,7 @@ pub struct Follows(Vec<Vec<bool>>);
 
 impl Follows {
     /// Found by a search from each action.
-    pub fn of(profile: &Profile) -> Follows {
+    pub fn of(profile: &Profile<impl Set>) -> Follows {
         Follows((0..profile.n).map(|a| search(profile, a)).collect())
     }
 
@@ -23,7 +23,7 @@ impl Follows {
     }
 
     /// The least deadline among the action itself and every action that must follow it.
-    pub fn urgency(&self, profile: &Profile, a: usize) -> i64 {
+    pub fn urgency(&self, profile: &Profile<impl Set>, a: usize) -> i64 {
         (0..profile.n)
             .filter(|&b| b == a || self.must_follow(a, b))
             .map(|b| profile.deadline(b))
@@ -33,7 +33,7 @@ impl Follows {
 }
 
 /// Every action that can be reached from a by one step or more.
-fn search(profile: &Profile, a: usize) -> Vec<bool> {
+fn search(profile: &Profile<impl Set>, a: usize) -> Vec<bool> {
     let mut found = vec![false; profile.n];
     let mut from = vec![a];
     while let Some(here) = from.pop() {
@@ -53,7 +53,7 @@ pub struct Order(pub Vec<usize>);
 
 impl Order {
     /// Next is the ready action of least urgency, the lowest number among equals. There must be no loop.
-    pub fn by_urgency(profile: &Profile) -> Order {
+    pub fn by_urgency(profile: &Profile<impl Set>) -> Order {
         let follows = Follows::of(profile);
         let urgency: Vec<i64> = (0..profile.n).map(|a| follows.urgency(profile, a)).collect();
         let mut order = Vec::new();
@@ -65,14 +65,14 @@ impl Order {
     }
 
     /// Every permitted order, for small n.
-    pub fn every(profile: &Profile) -> Vec<Order> {
+    pub fn every(profile: &Profile<impl Set>) -> Vec<Order> {
         let mut orders = Vec::new();
         extend(profile, &mut Vec::new(), &mut orders);
         orders
     }
 
     /// Whether an action ends after its deadline when each takes its worst time at level 0.
-    pub fn misses_a_deadline(&self, profile: &Profile) -> bool {
+    pub fn misses_a_deadline(&self, profile: &Profile<impl Set>) -> bool {
         (0..profile.n).any(|k| {
             let end: i64 = self.0[..=k].iter().map(|&a| profile.worst[a][0]).sum();
             end > profile.deadline(self.0[k])
@@ -81,14 +81,14 @@ impl Order {
 }
 
 /// The actions that are not done and whose predecessors all are.
-fn ready(profile: &Profile, done: &[usize]) -> Vec<usize> {
+fn ready(profile: &Profile<impl Set>, done: &[usize]) -> Vec<usize> {
     (0..profile.n)
         .filter(|a| !done.contains(a))
         .filter(|&a| (0..profile.n).all(|b| !profile.before(b, a) || done.contains(&b)))
         .collect()
 }
 
-fn extend(profile: &Profile, done: &mut Vec<usize>, orders: &mut Vec<Order>) {
+fn extend(profile: &Profile<impl Set>, done: &mut Vec<usize>, orders: &mut Vec<Order>) {
     if done.len() == profile.n {
         orders.push(Order(done.clone()));
         return;

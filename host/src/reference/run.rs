@@ -3,7 +3,15 @@
 use super::profile::shape_in_range;
 use crate::calls::{refused, Answer, Dried, Given, Run, Tables, LAST_CLOCK, LONGEST_COAST, LONGEST_TIME};
 
-/// Limits and coast bounds as lent, whoever wrote them.
+/// Limits and coast bounds by position and level, whatever they are worked out from.
+pub trait Limits {
+    fn positions(&self) -> usize;
+    fn levels(&self) -> usize;
+    fn limit(&self, i: usize, q: usize) -> i64;
+    fn coast_bound(&self, i: usize, q: usize, r: usize) -> i64;
+}
+
+/// As they are lent, whoever wrote them.
 #[derive(Clone, Copy, Debug)]
 pub struct Bounds<'a> {
     pub n: usize,
@@ -12,7 +20,15 @@ pub struct Bounds<'a> {
     pub bounds: &'a [i32],
 }
 
-impl Bounds<'_> {
+impl Limits for Bounds<'_> {
+    fn positions(&self) -> usize {
+        self.n
+    }
+
+    fn levels(&self) -> usize {
+        self.levels
+    }
+
     fn limit(&self, i: usize, q: usize) -> i64 {
         i64::from(self.limits[i * self.levels + q])
     }
@@ -23,19 +39,19 @@ impl Bounds<'_> {
 }
 
 /// The greatest level whose limit the time keeps; else level 0 with the late mark.
-pub fn asked(bounds: Bounds, i: usize, t: i64) -> (usize, bool) {
-    match (0..bounds.levels).filter(|&q| t <= bounds.limit(i, q)).max() {
+pub fn asked(bounds: &impl Limits, i: usize, t: i64) -> (usize, bool) {
+    match (0..bounds.levels()).filter(|&q| t <= bounds.limit(i, q)).max() {
         Some(level) => (level, false),
         None => (0, true),
     }
 }
 
 /// The greatest r that qualifies, or 1.
-pub fn granted(bounds: Bounds, i: usize, t: i64, q: usize) -> usize {
-    let top = q + 1 == bounds.levels;
+pub fn granted(bounds: &impl Limits, i: usize, t: i64, q: usize) -> usize {
+    let top = q + 1 == bounds.levels();
     let qualifies =
         |r: usize| t <= bounds.coast_bound(i, q, r) && (top || (i..i + r).all(|j| t > bounds.limit(j, q + 1)));
-    (1..=LONGEST_COAST.min(bounds.n - i)).filter(|&r| qualifies(r)).max().unwrap_or(1)
+    (1..=LONGEST_COAST.min(bounds.positions() - i)).filter(|&r| qualifies(r)).max().unwrap_or(1)
 }
 
 /// The names of the fields of a run record that are outside their range.
@@ -91,11 +107,11 @@ pub fn ask(run: Run, order: &[u8], limits: &[i32], bounds: &[i32]) -> (Run, Answ
     }
     let bounds = Bounds { n, levels, limits, bounds };
     let t = i64::from(run.clock);
-    let (level, late) = asked(bounds, i, t);
+    let (level, late) = asked(&bounds, i, t);
     let next = Run {
         running: true,
         level: level as u32,
-        left: granted(bounds, i, t, level) as u32 - 1,
+        left: granted(&bounds, i, t, level) as u32 - 1,
         decisions: run.decisions + 1,
         late: run.late || late,
         ..run

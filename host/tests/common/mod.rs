@@ -7,10 +7,11 @@ use nyokazerubi_host::calls::{Calls, Counts, Fast, Reference, Tables};
 use nyokazerubi_host::draw::Sketch;
 use nyokazerubi_host::product::Product;
 use nyokazerubi_host::reference::Profile;
+use nyokazerubi_host::text::BodyPlan;
 use std::path::{Path, PathBuf};
 
-/// The folder of the outside vectors that a crate runs under the gate (`test_cases`, `test_recordings`, `test_traces` or `test_readings`):
-/// NYOKAZERUBI_VECTORS, or the data of that crate.
+/// The folder of the outside vectors that a crate runs under the gate (`test_cases`, `test_recordings`, `test_repeats`, `test_traces` or
+/// `test_readings`): NYOKAZERUBI_VECTORS, or the data of that crate.
 pub fn vectors(kind: &str) -> PathBuf {
     let data = || Path::new(env!("CARGO_MANIFEST_DIR")).join("../crates").join(kind).join("data");
     let folder = std::env::var_os("NYOKAZERUBI_VECTORS").map_or_else(data, PathBuf::from);
@@ -66,6 +67,11 @@ pub fn plan(calls: &dyn Calls, image: &[u8]) -> Plan {
     let answer = calls.plan(image, &mut plan.order, &mut plan.limits, &mut plan.worst, &mut plan.bounds);
     assert_eq!(answer, Ok(counts));
     plan
+}
+
+/// The plan of an accepted body; what is lent for it beyond its own size is left alone.
+pub fn body_plan(calls: &dyn Calls, image: &[u8], repeats: u32) -> BodyPlan {
+    BodyPlan::of(calls, image, repeats).expect("an accepted body")
 }
 
 /// A sketch as the definitions take it.

@@ -12,6 +12,7 @@ use Rattle.rules.specs.Limits.{Tables, Plan}
 use Rattle.rules.specs.Run.{level-given, fits, left-granted, Run, begun, decide, coast, decides, given, ended}
 use Rattle.rules.specs.Dry.{step, before, level-of, took, decided}
 use Rattle.rules.specs.Demand.{Safe, Policy, plan-of, clock, Kept, WithinWorst, DemandThree}
+use Rattle.rules.proofs.Sums.{sum-longer}
 use Rattle.rules.proofs.Tests.{passed}
 use Rattle.rules.proofs.Demand.Asked.{level-given-gives, left-granted-grants}
 use Rattle.rules.proofs.Demand.Coast.{gives-fits}
@@ -64,6 +65,10 @@ module _ (cap : ℕ) (P : Plan) where
       clock-is i,
       ap (λ (p : ℕ). d p (given cap P (before cap P w d t i) .level)) (position-is i),
     )
+
+    -- The clock never goes back.
+    pub clock-rises : (i j : ℕ) → i ≤ j → before cap P w d t i .clock ≤ before cap P w d t j .clock
+    clock-rises i j l = omega (arith, clock-is i, clock-is j, sum-longer (took cap P w d t) i j l)
 
     pub n-is : (i : ℕ) → before cap P w d t i .n ≡ P .n
     unfolding before begun step ended

@@ -9,7 +9,7 @@ use lib.ListN.{getD}
 use lib.Signed.{leZ}
 use borrow.Author.Needs.{needs}
 use Rattle.rules.specs.Words.{last-passing}
-use Rattle.run_decision.proofs.Granting.{last-here, last-past}
+use Rattle.rules.proofs.Tests.{last-here, last-past}
 use Rattle.run_decision.proofs.last_within.Statement.{statement}
 use Rattle.run_decision.proofs.last_within.Tie as tie
 

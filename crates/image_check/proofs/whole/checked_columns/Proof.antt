@@ -1,6 +1,9 @@
+use Prim.Native.Nat.{ℕ}
 use mathlib.Core.Path.{refl}
 use denote.Ref.{now}
+use native.Mathlib.Omega.{arith}
 use borrow.Author.Needs.{needs}
+use borrow.Author.Tests.{eq-eqb, eqb-true}
 use Rattle.rules.specs.Image.{profile}
 use Rattle.rules.specs.Refusals.{First}
 use Rattle.rules.proofs.Refusals.{first-stops, first-goes-on}
@@ -8,8 +11,8 @@ use Rattle.fields.proofs.Bytes.{Bytes}
 use Rattle.order.specs.Judged.{Verdict}
 use Rattle.image_check.specs.Checks.{record-checks, order-checks, rest-checks}
 use Rattle.image_check.proofs.Checks.{record-numbered}
-use Rattle.image_check.proofs.Ordering.{masked, timed, verdict, found}
-use Rattle.image_check.proofs.Answers.{refused-answers, accepted-answers}
+use Rattle.image_check.proofs.Ordering.{masked, timed, verdict, found, loop-given, none-given, unfit-told}
+use Rattle.image_check.proofs.Answers.{refused-body, accepted-answers}
 use Rattle.image_check.proofs.whole.checked_columns.Statement.{statement}
 use Rattle.image_check.proofs.whole.checked_columns.Tie as tie
 
@@ -17,7 +20,7 @@ returns : tie.Need-returns
 returns c =
     let p = c .before .before .before in
     let s = now (p .before .before .before .before .before .args .image) in
-    refused-answers (p .record-refusal .result)
+    refused-body (p .record-refusal .result)
     (first-stops (record-checks s) (order-checks s) _ (p .record-refusal .ensures) (c .before .if1 .taken))
     (c .before .if1 .taken) (c .refused .ensures)
 
@@ -37,23 +40,30 @@ judged : (c : tie.After-judge)
     Verdict (profile s) (c .judge .result .refusal) (c .judge .result .order)
 judged c = let pre = c .before .before .before .before .before .before .before .before .pre in verdict (pre .0) (pre .1) (c .judge .ensures)
 
--- so the number of 5 to 9
-number : (c : tie.After-judge)
+-- so the number of 5 to 8, by that of 8
+number : (c : tie.After-judge) {k : ℕ}
     → let s = now (c .before .before .before .before .before .before .before .before .args .image) in
-    First (rest-checks s) (c .judge .result .refusal)
-number c =
+    First (order-checks s) k → First (rest-checks s) k
+number c {k} =
     let s = now (c .before .before .before .before .before .before .before .before .args .image) in
-    first-goes-on (record-checks s) (order-checks s) _ (record-numbered s) (none (c .before)) (judged c .number)
+    first-goes-on (record-checks s) (order-checks s) k (record-numbered s) (none (c .before))
 
 returns-2 : tie.Need-returns-2
 returns-2 c =
-    refused-answers (record { number = c .before .before .judge .result .refusal }) (number (c .before .before)) (c .before .if2 .taken) (c .refused2 .ensures)
+    let p = c .before .before in
+    refused-body (record { number = p .judge .result .refusal }) (number p (loop-given (judged p) (c .before .if2 .taken)))
+    (λ z. omega (arith, c .before .if2 .taken)) (c .refused2 .ensures)
 
 returns-3 : tie.Need-returns-3
 returns-3 c =
     let p = c .before .before in
     let header = p .before .before .before .before .before .before .before .before .pre .0 .header in
-    accepted-answers (rw (c .before .if2 .left) at (number p)) (p .before .if1 .left) (found header (judged p) (c .before .if2 .left) refl refl refl)
+    let told = unfit-told (judged p) (c .before .if2 .left) in
+    record {
+      answers = accepted-answers (number p (none-given (judged p) (c .before .if2 .left))) (p .before .if1 .left)
+          (found header (judged p) (c .before .if2 .left) refl refl refl);
+      unfit = λ _. ((λ e. told .0 (eqb-true _ _ e)), (λ u. eq-eqb _ _ (told .1 u)));
+    }
 
 pub checked-columns-spec : {M : Type 1} → statement M
 checked-columns-spec =

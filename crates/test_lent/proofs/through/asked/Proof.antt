@@ -4,11 +4,11 @@ use mathlib.Core.List.{[], _∷_}
 use base.Logic.{id⊢}
 use denote.Builtin.{i32, u8}
 use Rattle.nyokazerubi.proofs.Beside.{slice}
-use Rattle.nyokazerubi.proofs.Records.{asked}
+use Rattle.nyokazerubi.proofs.Records.{run-still, asked}
 use Rattle.nyokazerubi.proofs.runs.nyokazerubi_ask as g
 use Rattle.nyokazerubi.proofs.runs.nyokazerubi_ask.Symbol as g-def
 use Rattle.nyokazerubi.proofs.runs.nyokazerubi_ask.Met as g-thm
-use Rattle.test_lent.proofs.Lending.{run-still, returns-by}
+use Rattle.test_lent.proofs.Lending.{returns-by}
 use Rattle.test_lent.proofs.through.asked as f
 use Rattle.test_lent.proofs.through.asked.Key.{name}
 use Rattle.test_lent.proofs.through.asked.Statement.{statement}

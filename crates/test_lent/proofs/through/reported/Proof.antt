@@ -5,11 +5,11 @@ use base.Logic.{id⊢}
 use mir.Syntax.{w32}
 use denote.Builtin.{u32}
 use Rattle.nyokazerubi.proofs.Beside.{number, slice}
-use Rattle.nyokazerubi.proofs.Records.{reported}
+use Rattle.nyokazerubi.proofs.Records.{run-still, reported}
 use Rattle.nyokazerubi.proofs.runs.nyokazerubi_report as g
 use Rattle.nyokazerubi.proofs.runs.nyokazerubi_report.Symbol as g-def
 use Rattle.nyokazerubi.proofs.runs.nyokazerubi_report.Met as g-thm
-use Rattle.test_lent.proofs.Lending.{run-still, returns-by}
+use Rattle.test_lent.proofs.Lending.{returns-by}
 use Rattle.test_lent.proofs.through.reported as f
 use Rattle.test_lent.proofs.through.reported.Key.{name}
 use Rattle.test_lent.proofs.through.reported.Statement.{statement}

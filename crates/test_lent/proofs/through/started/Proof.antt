@@ -4,11 +4,11 @@ use mathlib.Core.List.{[], _∷_}
 use base.Logic.{id⊢}
 use mir.Syntax.{w64}
 use Rattle.nyokazerubi.proofs.Beside.{number}
-use Rattle.nyokazerubi.proofs.Records.{started}
+use Rattle.nyokazerubi.proofs.Records.{run-still, started}
 use Rattle.nyokazerubi.proofs.runs.nyokazerubi_start as g
 use Rattle.nyokazerubi.proofs.runs.nyokazerubi_start.Symbol as g-def
 use Rattle.nyokazerubi.proofs.runs.nyokazerubi_start.Met as g-thm
-use Rattle.test_lent.proofs.Lending.{run-still, returns-by}
+use Rattle.test_lent.proofs.Lending.{returns-by}
 use Rattle.test_lent.proofs.through.started as f
 use Rattle.test_lent.proofs.through.started.Key.{name}
 use Rattle.test_lent.proofs.through.started.Statement.{statement}

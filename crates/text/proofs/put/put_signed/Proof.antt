@@ -1,43 +1,17 @@
--- A negative number has its sign and then its digits, any other its digits. Assumes nothing.
-use native.Mathlib.Omega.{arith}
-use mir.Facts.{toZ-ofZ}
+-- The wider type says the same number. Assumes nothing.
 use borrow.Author.Needs.{needs}
-use Rattle.text.proofs.Puts.{put-then, put-as}
-use Rattle.text.proofs.Signed.{as-positive, as-negative}
+use mir.Facts.{toZ-ofZ, sfits-widen}
 use Rattle.text.proofs.put.put_signed.Statement.{statement}
 use Rattle.text.proofs.put.put_signed.Tie as tie
+
+cast-put-signed-long : tie.Need-cast-put-signed-long
+cast-put-signed-long c = let z = c .before .before .fits .z in rw (toZ-ofZ z) (sfits-widen tt z)
 
 returns : tie.Need-returns
 returns c =
     let put = c .before .before in
-    let above = put .before .before in
-    let high = above .before in
-    let z = high .before .before in
-    put-as
-    (as-positive (high .raised .result) (z .args .z) (z .fits .z .sfits) (rw (toZ-ofZ (z .fits .z)) at (high .raised .ensures)) (omega arith))
-    (put .put-number .ensures)
-
-returns-2 : tie.Need-returns-2
-returns-2 c =
-    let put = c .before .before in
-    let sign = put .before .before .before .before in
-    let below = sign .before .before in
-    let high = below .before in
-    let z = high .before .before in
-    put-as
-    (as-negative (high .raised .result) (z .args .z) (z .fits .z .sfits) (rw (toZ-ofZ (z .fits .z)) at (high .raised .ensures)) (omega arith))
-    (put-then (z .pre .0) (sign .put-byte .ensures) (put .put-number2 .ensures))
+    let z = put .before .before .before .fits .z in
+    rw (toZ-ofZ z, toZ-ofZ (sfits-widen tt z)) at (put .put-signed-long .ensures)
 
 pub put-signed-spec : {M : Type 1} → statement M
-put-signed-spec =
-    tie.close
-    (tie.spec
-    (λ c κs. search needs)
-    (λ c κs. search needs)
-    (λ c. search needs)
-    returns
-    (λ c κs. search needs)
-    (λ c. search needs)
-    (λ c κs. search needs)
-    (λ c. search needs)
-    returns-2)
+put-signed-spec = tie.close (tie.spec cast-put-signed-long (λ c κs. search needs) (λ c. search needs) returns)

@@ -1,0 +1,145 @@
+// A body repeated, for a host: its plan, a limit or a coast bound at a time, its run over the record where the
+// host keeps it, and a frame run dry.
+use crate::runs;
+use crate::runs::Given;
+use repeat_frame::BodyFramed;
+use repeat_limits::Limited;
+use repeat_planner::BodyPlanned;
+use repeat_run::BodyRun;
+use rules::Body;
+use rules::Refusal;
+ghost use mathlib.Core.Path.{_≡_};
+ghost use mathlib.Core.List.{[]};
+ghost use Rattle.rules.specs.Repeat.{body-start, body-ask, body-report};
+ghost use Rattle.repeat_planner.specs.PlanningBody.{PlansBody};
+ghost use Rattle.repeat_limits.specs.Limits.{LimitAnswers, BoundAnswers};
+ghost use Rattle.repeat_run.specs.Calls.{steps-of};
+ghost use Rattle.repeat_frame.specs.BodyFrame.{BodyFrames};
+ghost use Rattle.nyokazerubi.specs.Flat.{next-flat, Asks};
+
+// ---- the plan, and what it comes to
+
+#[no_mangle]
+pub extern "C" fn nyokazerubi_plan_body(
+    image: &[u8],
+    repeats: u32,
+    order: &mut [u8],
+    summaries: &mut [u32],
+    worst_by_position: &mut [u32],
+) -> BodyPlanned
+    ensures { λ r. ⌜ PlansBody (now (image .entry)) repeats
+        (record { order = now (order .entry); summaries = now (summaries .entry); worst = now («worst_by_position» .entry) })
+        (record { order = now (order .exit); summaries = now (summaries .exit); worst = now («worst_by_position» .exit) }) r ⌝ }
+{
+    repeat_planner::plan(image, repeats, order, summaries, worst_by_position)
+}
+
+#[no_mangle]
+pub extern "C" fn nyokazerubi_body_limit(
+    body: Body,
+    summaries: &[u32],
+    position: usize,
+    level: usize,
+) -> Limited
+    ensures { λ r. ⌜ LimitAnswers body (now (summaries .entry)) position level r ⌝ }
+{
+    repeat_limits::limit(body, summaries, position, level)
+}
+
+#[no_mangle]
+pub extern "C" fn nyokazerubi_body_bound(
+    body: Body,
+    summaries: &[u32],
+    worst_by_position: &[u32],
+    position: usize,
+    level: usize,
+    length: usize,
+) -> Limited
+    ensures { λ r. ⌜ BoundAnswers body (record { order = []; summaries = now (summaries .entry); worst = now («worst_by_position» .entry) })
+        position level length r ⌝ }
+{
+    repeat_limits::bound(body, summaries, worst_by_position, position, level, length)
+}
+
+// ---- asking by value, its answer laid flat
+
+pub struct Asked {
+    pub run: BodyRun,
+    pub given: Given,
+}
+
+pub fn ask_flat(run: BodyRun, order: &[u8], summaries: &[u32], worst: &[u32]) -> Asked
+    ensures body { λ r. ⌜ r .run .body ≡ run .body ⌝ }
+    ensures answer { λ r. ⌜ Asks (body-ask (run .body)
+        (record { order = now (order .entry); summaries = now (summaries .entry); worst = now (worst .entry) }) (steps-of run))
+        (steps-of (r .run)) (r .given) ⌝ }
+{
+    let asked = run.ask(order, summaries, worst);
+    let next = asked.run;
+    let answer = asked.answer;
+    Asked {
+        run: next,
+        given: runs::flat(answer),
+    }
+}
+
+// ---- over the lent record, which takes the next one whole; only a start sets its body
+
+#[no_mangle]
+pub extern "C" fn nyokazerubi_body_start(run: &mut BodyRun, body: Body) -> Refusal
+    ensures { λ r. ⌜ (now (run .exit) .body, next-flat (steps-of (now (run .exit))) r) ≡ body-start body ⌝ }
+{
+    let out = BodyRun::start(body);
+    *run = out.run;
+    out.refusal
+}
+
+#[no_mangle]
+pub extern "C" fn nyokazerubi_body_ask(
+    run: &mut BodyRun,
+    order: &[u8],
+    summaries: &[u32],
+    worst_by_position: &[u32],
+) -> Given
+    ensures body { λ r. ⌜ now (run .exit) .body ≡ now (run .entry) .body ⌝ }
+    ensures answer { λ r. ⌜ Asks (body-ask (now (run .entry) .body)
+        (record { order = now (order .entry); summaries = now (summaries .entry); worst = now («worst_by_position» .entry) })
+        (steps-of (now (run .entry)))) (steps-of (now (run .exit))) r ⌝ }
+{
+    let out = ask_flat(*run, order, summaries, worst_by_position);
+    *run = out.run;
+    out.given
+}
+
+#[no_mangle]
+pub extern "C" fn nyokazerubi_body_report(
+    run: &mut BodyRun,
+    clock: u32,
+    worst_by_position: &[u32],
+) -> Refusal
+    ensures body { λ r. ⌜ now (run .exit) .body ≡ now (run .entry) .body ⌝ }
+    ensures answer { λ r. ⌜ next-flat (steps-of (now (run .exit))) r
+        ≡ body-report (now (run .entry) .body) (now («worst_by_position» .entry)) clock (steps-of (now (run .entry))) ⌝ }
+{
+    let out = BodyRun::report(*run, clock, worst_by_position);
+    *run = out.run;
+    out.refusal
+}
+
+// ---- a frame run dry, from an image
+
+#[no_mangle]
+pub extern "C" fn nyokazerubi_body_dry_frame(
+    image: &[u8],
+    repeats: u32,
+    durations: &[u32],
+    order: &mut [u8],
+    given: &mut [u8],
+    marks: &mut [u8],
+) -> BodyFramed
+    ensures { λ r. ⌜ BodyFrames (now (image .entry)) repeats (now (durations .entry))
+        (record { order = now (order .entry); levels = now (given .entry); decided = now (marks .entry) })
+        (record { order = now (order .exit); levels = now (given .exit); decided = now (marks .exit) }) r ⌝ }
+{
+    repeat_frame::dry_frame(image, repeats, durations, order, given, marks)
+}

@@ -1,0 +1,2 @@
+pub mod BodyFrame
+pub mod Walk

@@ -1,0 +1,90 @@
+-- What the manager reads of a body repeated, worked out position by position, is the plan of the unrolled system.
+use Prim.Native.Nat.{ℕ, zero, suc, _+_, _-_, _*_, _%_, _≤_, _<_}
+use mathlib.Core.Path.{_≡_, refl, ap, ap₂, sym, subst, _∙_}
+use mathlib.Core.Logic.{_↔_, ⊎-map}
+use native.Mathlib.Omega.{arith}
+use lib.IntN.{ℤ, pos, _-ℤ_}
+use lib.Signed.{_≤ℤ_}
+use borrow.Author.Tests.{le-ltb}
+use Rattle.rules.specs.Words.{minZ, least-of}
+use Rattle.rules.specs.Image.{Profile}
+use Rattle.rules.specs.Order.{Order, TheOrder}
+use Rattle.rules.specs.Limits.{tables, limit, coast-bound, Plan, planned, Gives}
+use Rattle.rules.specs.Refusals.{Table}
+use Rattle.rules.proofs.Sums.{span-same}
+use Rattle.rules.specs.Dry.{before}
+use Rattle.rules.proofs.Order.OfProfile.{order-settled}
+use Rattle.rules.proofs.Demand.Alike.{Alike, before-alike}
+use Rattle.repeat_laws.proofs.Repeatable.{Repeatable}
+use Rattle.rules.specs.Repeat.{unrolled, rest-of, body-of, body-plan}
+use Rattle.repeat_laws.proofs.Order.{due-unrolled, repeated-order}
+use Rattle.repeat_laws.proofs.Rule.{unrolled-sound}
+use Rattle.repeat_laws.proofs.Closed.{limit-there, worst-there}
+use Rattle.repeat_laws.proofs.Settled.{limit-settled}
+
+pub least-same : (f g : ℕ → ℤ) (i m : ℕ) → ((j : ℕ) → i ≤ j → j ≤ i + m → f j ≡ g j) → least-of f i m ≡ least-of g i m
+unfolding least-of
+least-same f g i zero same = same i (omega arith) (omega arith)
+least-same f g i (suc m) same =
+    ap₂ minZ (least-same f g i m (λ j u v. same j u (omega arith))) (same (i + suc m) (omega arith) (omega arith))
+
+-- what the manager reads of a body repeated
+abbrev pub repeat-plan : (F : Profile) → ℕ → Order (F .n) → Plan
+repeat-plan F N o = body-plan (body-of F N) (rest-of (tables F o)) (tables F o .worst)
+
+module _ {F : Profile} (body : Repeatable F) (N : ℕ) {o : Order (F .n)} (x : TheOrder F o) (levels : 0 < F .levels) (table : Table F → ⊥)
+    {p : Order (N * F .n)} (y : TheOrder (unrolled F N) p) where
+  -- The limits of the unrolled system.
+  pub limit-exact : (i q : ℕ) → i < N * F .n → q < F .levels → limit (tables (unrolled F N) p) i q ≡ repeat-plan F N o .limit i q
+  limit-exact i q l m =
+      limit-settled y (repeated-order body N x) (F .cycle) (due-unrolled body N) i q l
+      ∙ limit-there body N o q (unrolled-sound body N o levels table) m i l
+
+  -- Its worst times are the body's.
+  pub worst-exact : (k q : ℕ) → k < N * F .n → tables (unrolled F N) p .worst k q ≡ F .worst (o .at (k % F .n)) q
+  worst-exact k q h = ap (λ (a : ℕ). unrolled F N .worst a q) (order-settled y (repeated-order body N x) k h) ∙ worst-there body N o k q
+
+  -- Its coast bounds.
+  pub bound-exact : (i q r : ℕ) → q < F .levels → 0 < r → i + r ≤ N * F .n
+      → coast-bound (tables (unrolled F N) p) (limit (tables (unrolled F N) p)) i q r ≡ repeat-plan F N o .bound i q r
+  unfolding coast-bound
+  bound-exact i q r m some room = rw (le-ltb (N * F .n - i) r (omega arith)) (least-same _ _ i (r - 1) (λ j u v.
+      ap₂ (λ (z : ℤ) (w : ℕ). z -ℤ pos w) (limit-exact j q (omega arith) m)
+      (span-same (λ k. tables (unrolled F N) p .worst k q) (λ k. F .worst (o .at (k % F .n)) q) i j u (λ k h. worst-exact k q (omega arith)))))
+
+  -- So a cycle over either runs the same.
+  pub plan-exact : (cap : ℕ) → Alike cap (planned (tables (unrolled F N) p)) (repeat-plan F N o)
+  plan-exact cap = record {
+    n = refl;
+    levels = refl;
+    limit = limit-exact;
+    bound = λ i q r m some most room. bound-exact i q r m some room;
+  }
+
+  -- The run record before each position of a cycle, with the worst times read from the body.
+  pub run-exact : (cap : ℕ) (d : ℕ → ℕ → ℕ) (t i : ℕ) → i ≤ N * F .n
+      → before cap (planned (tables (unrolled F N) p)) (tables (unrolled F N) p .worst) d t i
+      ≡ before cap (repeat-plan F N o) (λ k q. F .worst (o .at (k % F .n)) q) d t i
+  run-exact cap d t i l = before-alike (plan-exact cap) levels (tables (unrolled F N) p .worst) (λ k q. F .worst (o .at (k % F .n)) q) d
+      (λ k q h m. worst-exact k q h) t i l
+
+  -- The manager gives the same level, and is late at the same times.
+  pub gives-exact : (t i q : ℕ) → i < N * F .n → Gives (planned (tables (unrolled F N) p)) t i q ↔ Gives (repeat-plan F N o) t i q
+  gives-exact t i q l = (
+    (λ g. record {
+      level = g .level;
+      fits = ⊎-map (λ h. to q (g .level) h) (λ e. e) (g .fits);
+      none-above = λ k a b h. g .none-above k a b (from k b h);
+    }),
+    (λ g. record {
+      level = g .level;
+      fits = ⊎-map (λ h. from q (g .level) h) (λ e. e) (g .fits);
+      none-above = λ k a b h. g .none-above k a b (to k b h);
+    }),
+  )
+    where
+      to : (k : ℕ) → k < F .levels → pos t ≤ℤ limit (tables (unrolled F N) p) i k → pos t ≤ℤ repeat-plan F N o .limit i k
+      to k m = subst (λ (z : ℤ). pos t ≤ℤ z) (limit-exact i k l m)
+
+      from : (k : ℕ) → k < F .levels → pos t ≤ℤ repeat-plan F N o .limit i k → pos t ≤ℤ limit (tables (unrolled F N) p) i k
+      from k m = subst (λ (z : ℤ). pos t ≤ℤ z) (sym (limit-exact i k l m))

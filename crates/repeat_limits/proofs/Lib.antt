@@ -1,0 +1,5 @@
+pub mod Sizes
+pub mod Refusing
+pub mod Reading
+pub mod Answers
+pub mod Reaching

@@ -1,0 +1,125 @@
+-- Refused, absent, or the cycle less what it must have room for. Assumes nothing.
+use mathlib.Core.Path.{_≡_, sym, _∙_}
+use mathlib.Core.List.{[]}
+use native.Mathlib.Omega.{arith}
+use lib.IntN.{pos, _-ℤ_}
+use mir.Syntax.{w64}
+use mir.Val.{SFits, toZ}
+use mir.Facts.{toZ-ofZ, toZ-pos}
+use borrow.Author.Needs.{needs}
+use Rattle.rules.specs.Repeat.{LentBody, body-bound-refusal}
+use Rattle.repeat_laws.proofs.Ranges.{difference-within}
+use Rattle.repeat_laws.proofs.Standing.{place-in, fewer, rest-left}
+use Rattle.repeat_limits.proofs.Refusing.{products, Bounded, bound-bounded}
+use Rattle.repeat_limits.proofs.Answers.{bound-refused, absent-is, present-is, bound-answered}
+use Rattle.repeat_limits.proofs.bound.Statement.{statement}
+use Rattle.repeat_limits.proofs.bound.Tie as tie
+
+abbrev lent : tie.Start → LentBody
+lent s = record { order = []; summaries = s .args .summaries .now; worst = s .args .worst .now }
+
+returns : tie.Need-returns
+returns c =
+    let s = c .before .before .before .before in
+    let a = s .args in
+    let k = c .before .bound-refusal in
+    bound-refused (a .body) (lent s) (a .position) (a .level) (a .length) (k .result) (c .if1 .taken) (k .ensures)
+
+-- not refused
+clear : (c : tie.Else1) → let s = c .before .before .before .before in let a = s .args in
+    0 ≡ body-bound-refusal (a .body) (lent s) (a .position) (a .level) (a .length)
+clear c = sym (c .if1 .left) ∙ c .before .bound-refusal .ensures
+
+bounded : (c : tie.Else1) → let s = c .before .before .before .before in let a = s .args in
+    Bounded (a .body) (lent s) (a .position) (a .level) (a .length)
+bounded c = bound-bounded _ _ _ _ _ (clear c)
+
+mul-if2 : tie.Need-mul-if2
+mul-if2 c = omega (arith, products (bounded (c .before .before) .stands .counts) .total)
+
+sub-if2 : tie.Need-sub-if2
+sub-if2 c = omega (arith, bounded (c .before .before) .stands .present)
+
+returns-2 : tie.Need-returns-2
+returns-2 c =
+    let e = c .before .before .before in
+    let s = e .before .before .before .before in
+    let a = s .args in
+    let h = bounded e in
+    bound-answered (a .body) (lent s) (a .position) (a .level) (a .length) _ (h .stands .level) (h .some) (clear e)
+    (absent-is (a .body) (lent s) (a .position) (a .level) (a .length) (omega (arith, h .some, c .if2 .taken)))
+
+spot-of-requires : tie.Need-spot-of-requires
+spot-of-requires c κs = let h = bounded (c .before .before .before) .stands in (h .counts, h .present)
+
+reach-requires : tie.Need-reach-requires
+reach-requires c κs =
+    let h = bounded (c .before .before .before .before) in
+    let n = h .stands .counts .some-action in
+    let at = c .spot-of .ensures in
+    record {
+      counts = h .stands .counts;
+      summed = h .stands .summed;
+      timed = h .timed;
+      inside = place-in n at;
+      fewer = fewer n at;
+      level = h .stands .level;
+      some = h .some;
+      most = h .most;
+      room = omega (arith, rest-left n at, c .before .if2 .left);
+    }
+
+-- the two numbers, and their difference
+abbrev else1 : tie.After-reach → tie.Else1
+else1 c = c .before .before .before .before .before
+
+abbrev start : tie.After-reach → tie.Start
+start c = else1 c .before .before .before .before
+
+cycle-is : (c : tie.After-reach) → toZ w64 (start c .args .body .cycle) ≡ pos (start c .args .body .cycle)
+cycle-is c = toZ-pos w64 (omega (arith, bounded (else1 c) .stands .counts .cycle-in))
+
+most-is : (c : tie.After-reach) → toZ w64 (c .reach .result) ≡ pos (c .reach .result)
+most-is c = toZ-pos w64 (omega (arith, c .reach .ensures .0))
+
+fits : (c : tie.After-reach) → SFits w64 (pos (start c .args .body .cycle) -ℤ pos (c .reach .result))
+fits c = record {
+  sfits = omega (
+    arith,
+    difference-within (start c .args .body .cycle) (c .reach .result) 7022271527326 (omega (arith, bounded (else1 c) .stands .counts .cycle-in))
+        (omega (arith, c .reach .ensures .0)),
+  );
+}
+
+sub-t20 : tie.Need-sub-t20
+sub-t20 c = let r = c .before in rw (cycle-is r, most-is r) (fits r)
+
+returns-3 : tie.Need-returns-3
+returns-3 c =
+    let r = c .before in
+    let e = else1 r in
+    let s = start r in
+    let a = s .args in
+    let h = bounded e in
+    rw (cycle-is r, most-is r, toZ-ofZ (fits r))
+    (bound-answered (a .body) (lent s) (a .position) (a .level) (a .length) _ (h .stands .level) (h .some) (clear e)
+    (r .reach .ensures .1 (a .position) (r .before .spot-of .ensures)
+    ∙ present-is (a .body) (lent s) (a .position) (a .level) (a .length) (r .before .before .if2 .left)))
+
+pub bound-spec : {M : Type 1} → statement M
+bound-spec =
+    tie.close
+    (tie.spec
+    (λ c κs. search needs)
+    returns
+    (λ c. search needs)
+    (λ c. search needs)
+    mul-if2
+    sub-if2
+    returns-2
+    spot-of-requires
+    reach-requires
+    (λ c. search needs)
+    (λ c. search needs)
+    sub-t20
+    returns-3)

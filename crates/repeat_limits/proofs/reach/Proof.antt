@@ -1,0 +1,187 @@
+-- The first k positions are walked, from whichever position stands there. Assumes nothing.
+use Prim.Native.Nat.{ℕ, suc, _+_, _-_, _*_, _≤_, _<_}
+use mathlib.Core.Path.{_≡_}
+use mathlib.Core.List.{[]}
+use native.Mathlib.Nat.{mul-le-mul-right}
+use native.Mathlib.Omega.{arith}
+use lib.ListN.{getD}
+use borrow.Author.Needs.{needs}
+use Rattle.rules.specs.Repeat.{LentBody, positions}
+use Rattle.repeat_laws.specs.Standing.{Standing}
+use Rattle.repeat_limits.proofs.Refusing.{Entry}
+use Rattle.repeat_limits.proofs.Reaching.{Reaching, reaching-one, reaching-more, reaching-all, from-stands, summed-there, entry-there, more-there, room-left}
+use Rattle.repeat_limits.proofs.reach.Statement.{statement}
+use Rattle.repeat_limits.proofs.reach.Tie as tie
+
+abbrev Inv-loop : tie.InvT-loop
+Inv-loop body summaries worst place after level length levels most₀ spent₀ spot₀ k₀ most spent spot k =
+    (k ≤ length)
+    × (spent ≤ (k - 1) * 4294967295)
+    × (most ≤ 6957847017900 + (k - 1) * 4294967295)
+    × ((i : ℕ) → Standing body i place after
+    → Reaching body (record { order = []; summaries = summaries; worst = worst }) i level k (spot .place) (spot .after) spent most)
+
+abbrev μ-loop : tie.MeasureT-loop
+μ-loop body summaries worst place after level length levels most₀ spent₀ spot₀ k₀ most spent spot k = length - k
+
+-- ---- the places of the code
+
+abbrev start : tie.In-loop Inv-loop μ-loop → tie.Start Inv-loop μ-loop
+start c = c .before .before .before .before .before .before
+
+abbrev lent : tie.Start Inv-loop μ-loop → LentBody
+lent s = record { order = []; summaries = s .args .summaries .now; worst = s .args .worst .now }
+
+-- from the position that stands there: where the last one walked to stands, and that one more follows
+walked : (c : tie.In-loop Inv-loop μ-loop) → let a = start c .args in let l = c .before .loop in
+    Reaching (a .body) (lent (start c)) ((a .body .repeats - 1 - a .after) * a .body .n + a .place) (a .level) (l .k) (l .spot .place) (l .spot .after) (l .spent) (l .most)
+walked c = c .before .loop .inv .3 _ (from-stands (start c .pre))
+
+follows : (c : tie.In-loop Inv-loop μ-loop) → let a = start c .args in
+    suc ((a .body .repeats - 1 - a .after) * a .body .n + a .place + (c .before .loop .k - 1)) < positions (a .body)
+follows c = omega (arith, room-left (start c .pre) (from-stands (start c .pre)), walked c .some)
+
+-- the entry read, and the worst time read there
+entry : (c : tie.In-loop Inv-loop μ-loop) → Entry (start c .args .body) (c .before .loop .spot .place) (start c .args .level)
+entry c = entry-there (start c .pre) (walked c .stands)
+
+-- ---- what is asked on the way
+
+mul-mix-from : tie.Need-mul-mix-from Inv-loop μ-loop
+mul-mix-from c = let s = c .before .before .before in omega (arith, entry-there (s .pre) (from-stands (s .pre)))
+
+add-mix-from : tie.Need-add-mix-from Inv-loop μ-loop
+add-mix-from c = let s = c .before .before .before in omega (arith, entry-there (s .pre) (from-stands (s .pre)), s .pre .level)
+
+mix-from-requires : tie.Need-mix-from-requires Inv-loop μ-loop
+mix-from-requires c κs = let s = c .before .before .before in summed-there (s .pre) (from-stands (s .pre))
+
+loop-holds : tie.Need-loop-holds Inv-loop μ-loop
+loop-holds c =
+    let s = c .before .before .before .before in
+    (s .pre .some, omega arith, omega (arith, c .mix-from .ensures .1), λ i h. reaching-one _ _ i _ h (c .mix-from .ensures .0))
+
+mul-spent : tie.Need-mul-spent Inv-loop μ-loop
+mul-spent c = omega (arith, entry (c .before))
+
+add-spent : tie.Need-add-spent Inv-loop μ-loop
+add-spent c = omega (arith, entry (c .before), start (c .before) .pre .level)
+
+mul-spent-2 : tie.Need-mul-spent-2 Inv-loop μ-loop
+mul-spent-2 c = omega (arith, entry (c .before))
+
+shared-slice-read-spent : tie.Need-shared-slice-read-spent Inv-loop μ-loop
+shared-slice-read-spent c = let s = start (c .before .before) in omega (arith, entry (c .before .before), s .pre .level, s .pre .timed)
+
+cast-spent : tie.Need-cast-spent Inv-loop μ-loop
+cast-spent c = let a = start (c .before .before) .args in
+    omega (arith, c .shared-slice-known3 .given (c .before .before .before .loop .spot .place * a .body .levels + a .level))
+
+-- at most sixteen positions
+few : (c : tie.In-loop Inv-loop μ-loop) → c .before .loop .k * 4294967295 ≤ 15 * 4294967295
+few c = let l : c .before .loop .k ≤ 15 = omega (arith, start c .pre .most) in mul-le-mul-right 4294967295 l
+
+add-spent-2 : tie.Need-add-spent-2 Inv-loop μ-loop
+add-spent-2 c =
+    let a = start (c .before .before) .args in
+    let l = c .before .before .before .loop in
+    omega (
+      arith,
+      c .shared-slice-known3 .given (l .spot .place * a .body .levels + a .level),
+      l .inv .0,
+      l .inv .1,
+      start (c .before .before) .pre .most,
+      few (c .before .before),
+    )
+
+next-spot-requires : tie.Need-next-spot-requires Inv-loop μ-loop
+next-spot-requires c κs = let w = c .before .before in more-there (start w .pre) (walked w .stands) (follows w)
+
+-- where the next one stands
+next-stands : (c : tie.After-next-spot Inv-loop μ-loop) → let w = c .before .before .before in let a = start w .args in
+    Standing (a .body) (suc ((a .body .repeats - 1 - a .after) * a .body .n + a .place + (w .before .loop .k - 1)))
+    (c .next-spot .result .place) (c .next-spot .result .after)
+next-stands c = let w = c .before .before .before in c .next-spot .ensures _ (walked w .stands) (follows w)
+
+next-entry : (c : tie.After-next-spot Inv-loop μ-loop) → let a = start (c .before .before .before) .args in Entry (a .body) (c .next-spot .result .place) (a .level)
+next-entry c = entry-there (start (c .before .before .before) .pre) (next-stands c)
+
+mul-mix-from-2 : tie.Need-mul-mix-from-2 Inv-loop μ-loop
+mul-mix-from-2 c = omega (arith, next-entry (c .before))
+
+add-mix-from-2 : tie.Need-add-mix-from-2 Inv-loop μ-loop
+add-mix-from-2 c = omega (arith, next-entry (c .before), start (c .before .before .before .before) .pre .level)
+
+mix-from-requires-2 : tie.Need-mix-from-requires-2 Inv-loop μ-loop
+mix-from-requires-2 c κs = summed-there (start (c .before .before .before .before) .pre) (next-stands (c .before))
+
+-- the worst times added
+passed : (c : tie.After-shared-slice-known3 Inv-loop μ-loop) → let w = c .before .before in let a = start w .args in
+    w .before .loop .spent + getD (a .worst .now) (w .before .loop .spot .place * a .body .levels + a .level) 0 ≤ w .before .loop .k * 4294967295
+passed c =
+    let w = c .before .before in
+    let a = start w .args in
+    omega (
+      arith,
+      c .shared-slice-known3 .given (w .before .loop .spot .place * a .body .levels + a .level),
+      w .before .loop .inv .1,
+      walked w .some,
+    )
+
+add-greater : tie.Need-add-greater Inv-loop μ-loop
+add-greater c =
+    let s = c .before .before .before in
+    omega (arith, passed s, few (s .before .before), c .mix-from2 .ensures .1)
+
+loop-again : tie.Need-loop-again Inv-loop μ-loop
+loop-again c =
+    let turn = c .before .before .before .before in
+    let w = turn .before .before in
+    let l = w .before .loop in
+    let next = c .before .before .before in (
+      search needs,
+      omega (arith, passed turn),
+      omega (arith, passed turn, l .inv .2, walked w .some, c .before .mix-from2 .ensures .1, c .greater .ensures),
+      λ i h.
+          let R = l .inv .3 i h in
+          rw (c .greater .ensures, c .before .mix-from2 .ensures .0)
+          (reaching-more _ _ i _ R (next .next-spot .ensures _ (R .stands) (omega (arith, room-left (start w .pre) h, R .some)))),
+    )
+
+returns : tie.Need-returns Inv-loop μ-loop
+returns c =
+    let l = c .before .loop in
+    let s = c .before .before .before .before .before .before in
+    let all : l .k ≡ s .args .length = omega (arith, l .inv .0) in
+    (omega (arith, l .inv .2, mul-le-mul-right 4294967295 (fewer c)), λ i h. reaching-all _ _ i _ (s .args .length) (l .inv .3 i h) all)
+  where
+    fewer : (c : tie.After-loop Inv-loop μ-loop) → c .before .loop .k - 1 ≤ 15
+    fewer c = omega (arith, c .before .before .before .before .before .before .pre .most, c .before .loop .inv .0)
+
+pub reach-spec : {M : Type 1} → statement M
+reach-spec =
+    tie.close
+    (tie.spec
+    Inv-loop
+    μ-loop
+    (λ c. search needs)
+    mul-mix-from
+    add-mix-from
+    mix-from-requires
+    loop-holds
+    mul-spent
+    add-spent
+    mul-spent-2
+    shared-slice-read-spent
+    cast-spent
+    add-spent-2
+    next-spot-requires
+    mul-mix-from-2
+    add-mix-from-2
+    mix-from-requires-2
+    add-greater
+    (λ c κs. search needs)
+    (λ c. search needs)
+    (λ c. search needs)
+    loop-again
+    returns)

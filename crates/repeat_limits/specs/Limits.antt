@@ -1,0 +1,90 @@
+-- The calls for a limit and a coast bound of a body repeated: what they answer, on lent summaries whoever wrote them, and on planning's.
+use Prim.Native.Nat.{ℕ, suc, _+_, _-_, _*_, _≤_, _<_}
+use mathlib.Core.Path.{_≡_}
+use mathlib.Core.List.{List, []}
+use lib.IntN.{pos}
+use lib.ListN.{length}
+use Rattle.rules.specs.Numbers.{most-actions, most-levels, last-clock, most-repeats, longest-coast, summary-numbers}
+use Rattle.rules.specs.Image.{Profile}
+use Rattle.rules.specs.Order.{Order, TheOrder}
+use Rattle.rules.specs.Limits.{tables, limit, planned}
+use Rattle.rules.specs.Refusals.{kept}
+use Rattle.rules.specs.Repeat.{unrolled, LentBody, positions, lent-plan, PlannedBody, body-limit-refusal, body-bound-refusal, bound-or-absent}
+use Rattle.rules.specs.declared.Body.{Body}
+use Rattle.repeat_limits.specs.declared.Limited.{Limited}
+
+-- ---- the calls
+
+-- The limit by the lent summaries; where planning wrote them, that of the unrolled system, by whatever order is its own.
+pub record LimitAnswers (b : Body) (summaries : List ℕ) (i q : ℕ) (r : Limited) : Type 0 where
+  pub number : r .refusal .number ≡ body-limit-refusal b summaries i q
+  pub limit-is : r .limit ≡ kept (r .refusal .number) (lent-plan b (record { order = []; summaries = summaries; worst = [] }) .limit i q) (pos 0)
+  pub unrolled-limit : r .refusal .number ≡ 0 → {F : Profile} {o : Order (F .n)} {T : LentBody} → T .summaries ≡ summaries → PlannedBody F o b T
+      → {p : Order (b .repeats * F .n)} → TheOrder (unrolled F (b .repeats)) p → r .limit ≡ limit (tables (unrolled F (b .repeats)) p) i q
+
+-- The coast bound, in the same way; absent where the coast would go past the last position.
+pub record BoundAnswers (b : Body) (lent : LentBody) (i q r : ℕ) (x : Limited) : Type 0 where
+  pub number : x .refusal .number ≡ body-bound-refusal b lent i q r
+  pub bound-is : x .limit ≡ kept (x .refusal .number) (bound-or-absent (lent-plan b lent) i q r) (pos 0)
+  pub unrolled-bound : x .refusal .number ≡ 0
+      → {F : Profile} {o : Order (F .n)} {T : LentBody} → T .summaries ≡ lent .summaries → T .worst ≡ lent .worst → PlannedBody F o b T
+      → {p : Order (b .repeats * F .n)} → TheOrder (unrolled F (b .repeats)) p
+      → x .limit ≡ bound-or-absent (planned (tables (unrolled F (b .repeats)) p)) i q r
+
+-- ---- asked between the functions of this crate, and of those above it
+
+-- the latest clock that the sums are added to: so far no sum of 64 bits wraps
+abbrev pub latest : ℕ
+latest = 4611686018427387904
+
+-- entries of 32 bits, whoever wrote them: one, the most that 1,620 bodies come to, and that with the worst times of 15 positions
+abbrev pub most-entry : ℕ
+most-entry = 4294967295
+
+abbrev pub greatest-mix : ℕ
+greatest-mix = 6957847017900
+
+abbrev pub greatest-reach : ℕ
+greatest-reach = 7022271527325
+
+-- the counts of a body in their ranges
+pub record CountsIn (b : Body) : Type 0 where
+  pub some-action : 1 ≤ b .n
+  pub few : b .n ≤ most-actions
+  pub some-level : 1 ≤ b .levels
+  pub few-levels : b .levels ≤ most-levels
+  pub some-cycle : 1 ≤ b .cycle
+  pub cycle-in : b .cycle ≤ last-clock
+  pub some-repeat : 1 ≤ b .repeats
+  pub few-repeats : b .repeats ≤ most-repeats
+
+-- a position and a level that are there, with the summaries lent as long as the body says
+pub record Stands (b : Body) (summaries : List ℕ) (i q : ℕ) : Type 0 where
+  pub counts : CountsIn b
+  pub summed : b .n * b .levels * summary-numbers ≤ length summaries
+  pub present : i < positions b
+  pub level : q < b .levels
+
+-- the summaries of entries x and q, and fewer bodies after than there are repeats
+pub record Summed (summaries : List ℕ) (x q after : ℕ) : Type 0 where
+  pub own : x * summary-numbers + summary-numbers ≤ length summaries
+  pub whole : q * summary-numbers + summary-numbers ≤ length summaries
+  pub few : after < most-repeats
+
+-- a place of the body, and after the last one a body more
+pub record MoreAfter (b : Body) (place after : ℕ) : Type 0 where
+  pub inside : place < b .n
+  pub few : b .n ≤ most-actions
+  pub more : suc place ≡ b .n → 0 < after
+
+-- a coast of so many positions from a place on, with as many summaries and worst times lent as the body says
+pub record Coasts (b : Body) (T : LentBody) (place after q r : ℕ) : Type 0 where
+  pub counts : CountsIn b
+  pub summed : b .n * b .levels * summary-numbers ≤ length (T .summaries)
+  pub timed : b .n * b .levels ≤ length (T .worst)
+  pub inside : place < b .n
+  pub fewer : after < b .repeats
+  pub level : q < b .levels
+  pub some : 0 < r
+  pub most : r ≤ longest-coast
+  pub room : r ≤ after * b .n + (b .n - place)

@@ -1,0 +1,277 @@
+// Limits and coast bounds of a body repeated, worked out one at a time from the summaries of the rest of the body, whoever wrote these: a limit
+// costs the same at every position, however often the body is repeated.
+use rules::Body;
+use rules::Refusal;
+ghost use mathlib.Core.Path.{_≡_};
+ghost use mathlib.Core.List.{[]};
+ghost use Prim.Native.Nat.{ℕ, suc, _+_, _*_, _≤_, _<_, max};
+ghost use lib.IntN.{pos, _-ℤ_};
+ghost use lib.ListN.{length, getD};
+ghost use lib.Signed.{leZ, mag};
+ghost use Rattle.rules.specs.Numbers.{summary-numbers};
+ghost use Rattle.rules.specs.Refusals.{first};
+ghost use Rattle.rules.specs.Repeat.{followed, bodies, stretch-at, positions, lent-plan, body-tests, body-limit-refusal, body-bound-refusal};
+ghost use Rattle.repeat_laws.specs.Standing.{Standing};
+ghost use Rattle.repeat_limits.specs.Limits.{latest, most-entry, greatest-mix, greatest-reach, CountsIn, Stands, Summed, MoreAfter, Coasts, LimitAnswers, BoundAnswers};
+
+// What the limit or the coast bound asked for is; with a refusal it is 0.
+#[repr(C)]
+pub struct Limited {
+    pub refusal: Refusal,
+    pub limit: i64,
+}
+
+// ---- the sums
+
+fn greater(a: u64, b: u64) -> u64
+    ensures { λ r. ⌜ r ≡ max a b ⌝ }
+{
+    if a < b { b } else { a }
+}
+
+// Number k of entry x: 0 is A, 1 is W, 2 is M.
+fn number_at(summaries: &[u32], x: usize, k: usize) -> u64
+    requires { ⌜ (x * summary-numbers + summary-numbers ≤ length (now summaries)) × (k < summary-numbers) ⌝ }
+    ensures is { λ r. ⌜ r ≡ getD (now (summaries .entry)) (x * summary-numbers + k) 0 ⌝ }
+    ensures small { λ r. ⌜ r ≤ most-entry ⌝ }
+{
+    summaries[x * rules::SUMMARY_NUMBERS + k] as u64
+}
+
+// M of the rest of a body, summed up in entry x, with so many whole bodies after it, each summed up in entry q.
+fn mix_from(summaries: &[u32], x: usize, q: usize, after: u32) -> u64
+    requires { ⌜ Summed (now summaries) x q after ⌝ }
+    ensures mixed { λ r. ⌜ r ≡ followed (stretch-at (now (summaries .entry)) x) (bodies (stretch-at (now (summaries .entry)) q) after) .mix ⌝ }
+    ensures small { λ r. ⌜ r ≤ greatest-mix ⌝ }
+{
+    let mix = number_at(summaries, x, 2);
+    if after == 0 {
+        return mix;
+    }
+    let many = after as u64;
+    let average = number_at(summaries, q, 0);
+    let lowest = number_at(summaries, q, 1);
+    let later = number_at(summaries, q, 2) + (many - 1) * greater(average, lowest);
+    greater(mix + many * lowest, number_at(summaries, x, 0) + later)
+}
+
+// Whether t is at most what this leaves of the cycle, the limit of entry x.
+pub fn within(summaries: &[u32], x: usize, q: usize, after: u32, cycle: u32, t: u64) -> bool
+    requires { ⌜ Summed (now summaries) x q after × (t ≤ latest) ⌝ }
+    ensures { λ r. ⌜ r ≡ leZ (pos t)
+        (pos cycle -ℤ pos (followed (stretch-at (now (summaries .entry)) x) (bodies (stretch-at (now (summaries .entry)) q) after) .mix)) ⌝ }
+{
+    t + mix_from(summaries, x, q, after) <= cycle as u64
+}
+
+// ---- walking along the positions
+
+// Where a position stands: its place in its body, and the whole bodies after that one.
+pub struct Spot {
+    pub place: usize,
+    pub after: u32,
+}
+
+pub fn spot_of(body: Body, position: usize) -> Spot
+    requires { ⌜ CountsIn body × (position < positions body) ⌝ }
+    ensures { λ r. ⌜ Standing body position (r .place) (r .after) ⌝ }
+{
+    let n = body.n as usize;
+    Spot {
+        place: position % n,
+        after: body.repeats - 1 - (position / n) as u32,
+    }
+}
+
+// Where the next position stands: in the next place, and after the last place in the first of the next body.
+pub fn next_spot(body: Body, place: usize, after: u32) -> Spot
+    requires { ⌜ MoreAfter body place after ⌝ }
+    ensures { λ r. ⌜ ((x : ℕ) → Standing body x place after → suc x < positions body → Standing body (suc x) (r .place) (r .after)) ⌝ }
+{
+    let next = place + 1;
+    if next == body.n as usize {
+        Spot {
+            place: 0,
+            after: after - 1,
+        }
+    } else {
+        Spot { place: next, after }
+    }
+}
+
+// The greatest, over the positions of a coast, of the worst times before one and M from it on: what the cycle must have room for.
+fn reach(
+    body: Body,
+    summaries: &[u32],
+    worst: &[u32],
+    place: usize,
+    after: u32,
+    level: usize,
+    length: usize,
+) -> u64
+    requires { ⌜ Coasts body (record { order = []; summaries = now summaries; worst = now worst }) place after level length ⌝ }
+    ensures small { λ r. ⌜ r ≤ greatest-reach ⌝ }
+    ensures is { λ r. ⌜ ((i : ℕ) → Standing body i place after → pos (body .cycle) -ℤ pos r
+        ≡ lent-plan body (record { order = []; summaries = now (summaries .entry); worst = now (worst .entry) }) .bound i level length) ⌝ }
+{
+    let levels = body.levels as usize;
+    let mut most = mix_from(summaries, place * levels + level, level, after);
+    let mut spent: u64 = 0;
+    let mut spot = Spot { place, after };
+    let mut k = 1;
+    while k < length {
+        spent += worst[spot.place * levels + level] as u64;
+        spot = next_spot(body, spot.place, spot.after);
+        let here = mix_from(summaries, spot.place * levels + level, level, spot.after);
+        most = greater(most, spent + here);
+        k += 1;
+    }
+    most
+}
+
+// ---- refusals
+
+// 3 and 19.
+pub fn body_refusal(body: Body) -> u32
+    ensures { λ r. ⌜ r ≡ first (body-tests body) ⌝ }
+{
+    let n = body.n;
+    let levels = body.levels;
+    let cycle = body.cycle;
+    if (n < 1)
+        | (rules::MOST_ACTIONS < n as usize)
+        | (levels < 1)
+        | (rules::MOST_LEVELS < levels as usize)
+        | (cycle < 1)
+        | (rules::LAST_CLOCK < cycle)
+    {
+        return rules::REFUSED_COUNT;
+    }
+    let repeats = body.repeats;
+    if (repeats < 1) | (rules::MOST_REPEATS < repeats) {
+        return rules::REFUSED_REPEATS;
+    }
+    0
+}
+
+// Those of the body, 17, then 18.
+fn limit_refusal(body: Body, summaries: &[u32], position: usize, level: usize) -> u32
+    ensures { λ r. ⌜ r ≡ body-limit-refusal body (now (summaries .entry)) position level ⌝ }
+{
+    let number = body_refusal(body);
+    if number != 0 {
+        return number;
+    }
+    let n = body.n as usize;
+    let levels = body.levels as usize;
+    if summaries.len() < n * levels * rules::SUMMARY_NUMBERS {
+        return rules::REFUSED_ROOM;
+    }
+    if (body.repeats as usize * n <= position) | (levels <= level) {
+        return rules::REFUSED_READING;
+    }
+    0
+}
+
+// Those of the limit with the room of the worst times, and a length outside 1 to 16 is 18 too.
+fn bound_refusal(
+    body: Body,
+    summaries: &[u32],
+    worst: &[u32],
+    position: usize,
+    level: usize,
+    length: usize,
+) -> u32
+    ensures { λ r. ⌜ r ≡ body-bound-refusal body (record { order = []; summaries = now (summaries .entry); worst = now (worst .entry) })
+        position level length ⌝ }
+{
+    let number = body_refusal(body);
+    if number != 0 {
+        return number;
+    }
+    let n = body.n as usize;
+    let levels = body.levels as usize;
+    let cells = n * levels;
+    if (summaries.len() < cells * rules::SUMMARY_NUMBERS) | (worst.len() < cells) {
+        return rules::REFUSED_ROOM;
+    }
+    if (body.repeats as usize * n <= position)
+        | (levels <= level)
+        | (length < 1)
+        | (rules::LONGEST_COAST < length)
+    {
+        return rules::REFUSED_READING;
+    }
+    0
+}
+
+// ---- the calls
+
+// The limit at a position and level that are there.
+fn limit_at(body: Body, summaries: &[u32], position: usize, level: usize) -> i64
+    requires { ⌜ Stands body (now summaries) position level ⌝ }
+    ensures small { λ r. ⌜ mag r ≤ greatest-mix ⌝ }
+    ensures is { λ r. ⌜ r ≡ lent-plan body (record { order = []; summaries = now (summaries .entry); worst = [] }) .limit position level ⌝ }
+{
+    let spot = spot_of(body, position);
+    let x = spot.place * body.levels as usize + level;
+    body.cycle as i64 - mix_from(summaries, x, level, spot.after) as i64
+}
+
+// The limit at an unrolled position and a level, any values.
+pub fn limit(body: Body, summaries: &[u32], position: usize, level: usize) -> Limited
+    ensures { λ r. ⌜ LimitAnswers body (now (summaries .entry)) position level r ⌝ }
+{
+    let number = limit_refusal(body, summaries, position, level);
+    if number != 0 {
+        return Limited {
+            refusal: Refusal { number },
+            limit: 0,
+        };
+    }
+    Limited {
+        refusal: Refusal { number: 0 },
+        limit: limit_at(body, summaries, position, level),
+    }
+}
+
+// The coast bound at an unrolled position, a level and a length, any values; absent where the coast would go past the last position.
+pub fn bound(
+    body: Body,
+    summaries: &[u32],
+    worst: &[u32],
+    position: usize,
+    level: usize,
+    length: usize,
+) -> Limited
+    ensures { λ r. ⌜ BoundAnswers body (record { order = []; summaries = now (summaries .entry); worst = now (worst .entry) })
+        position level length r ⌝ }
+{
+    let number = bound_refusal(body, summaries, worst, position, level, length);
+    if number != 0 {
+        return Limited {
+            refusal: Refusal { number },
+            limit: 0,
+        };
+    }
+    if body.repeats as usize * body.n as usize - position < length {
+        return Limited {
+            refusal: Refusal { number: 0 },
+            limit: rules::ABSENT_LONG,
+        };
+    }
+    let spot = spot_of(body, position);
+    let most = reach(
+        body,
+        summaries,
+        worst,
+        spot.place,
+        spot.after,
+        level,
+        length,
+    );
+    Limited {
+        refusal: Refusal { number: 0 },
+        limit: body.cycle as i64 - most as i64,
+    }
+}

@@ -1,0 +1,61 @@
+-- What planning a body answers and leaves is settled by what it is given. Assumes nothing.
+use Prim.Native.Nat.{ℕ, _+_, _-_, _<_}
+use mathlib.Core.Path.{_≡_, refl, sym, ap, ap₂, _∙_}
+use mathlib.Core.List.{List}
+use native.Mathlib.Nat.{zero-add}
+use native.Mathlib.Omega.{arith}
+use Rattle.rules.specs.Image.{Profile, profile}
+use Rattle.rules.specs.Order.{Order, TheOrder}
+use Rattle.rules.specs.Limits.{tables}
+use Rattle.rules.specs.Refusals.{Count}
+use Rattle.rules.specs.Repeat.{stretch, LentBody, numbers-of, rest-of, body-tables, body-of, no-body, body-call}
+use Rattle.rules.specs.declared.Body.{Body}
+use Rattle.rules.proofs.Refusals.{first-one}
+use Rattle.rules.proofs.Order.OfProfile.{order-settled}
+use Rattle.fields.proofs.Cats.{cat-ext}
+use Rattle.fields.proofs.Tabs.{tab-ext}
+use Rattle.planner.proofs.Alike.{worst-alike}
+use Rattle.planner.proofs.Settled.{settled-alike, kept-one}
+use Rattle.repeat_laws.proofs.Joins.{stretch-moved}
+use Rattle.repeat_planner.specs.declared.BodyPlanned.{BodyPlanned}
+use Rattle.repeat_planner.specs.PlanningBody.{body-rooms, with-body-fronts, PlansBody}
+use Rattle.repeat_planner.proofs.Answers.{clear, same-body}
+
+-- two orders of one body give the same tables
+module _ {F : Profile} {o p : Order (F .n)} (counts : Count F → ⊥) (x : TheOrder F o) (y : TheOrder F p) where
+  action : (k : ℕ) → k < F .n → o .at (0 + k) ≡ p .at k
+  action k h = ap (o .at) (zero-add k) ∙ order-settled x y k h
+
+  rest-settled : (i q : ℕ) → i < F .n → rest-of (tables F o) i q ≡ rest-of (tables F p) i q
+  rest-settled i q l =
+      ap₂ (stretch (tables F o) q) (sym (zero-add i)) (sym (zero-add (F .n - 1)))
+      ∙ stretch-moved (tables F p) (tables F o) q 0 i (F .n - 1) (omega arith)
+      (λ k h. ap (λ (a : ℕ). F .average a q) (action k (omega arith)))
+      (λ k r h. ap (λ (a : ℕ). F .worst a r) (action k (omega arith)))
+
+  pub body-settled : body-tables F o ≡ body-tables F p
+  body-settled = same-body
+      (tab-ext (o .at) (p .at) (F .n) (order-settled x y))
+      (cat-ext _ _ (F .n) (λ i l. cat-ext _ _ (F .levels) (λ q m. ap numbers-of (rest-settled i q l))))
+      (worst-alike (settled-alike counts x y))
+
+module _ {s : List ℕ} {N : ℕ} {before after₁ after₂ : LentBody} {r t : BodyPlanned}
+    (x : PlansBody s N before after₁ r) (y : PlansBody s N before after₂ t) where
+  number : r .refusal .number ≡ t .refusal .number
+  number =
+      first-one (body-call s N (body-rooms (profile s .n) (profile s .levels) before)) (r .refusal .number) (t .refusal .number) (x .number) (y .number)
+
+  answer : r ≡ t
+  answer =
+      ap (λ (k : ℕ). record { refusal = record { number = k }; body = r .body }) number
+      ∙ ap (λ (b : Body). record { refusal = t .refusal; body = b })
+      (kept-one _ _ (body-of (profile s) N) (body-of (profile s) N) no-body number (λ _. refl) (x .body) (y .body))
+
+  tables-one : r .refusal .number ≡ 0 → body-tables (profile s) (x .o) ≡ body-tables (profile s) (y .o)
+  tables-one none =
+      let nothing = clear s N (body-rooms (profile s .n) (profile s .levels) before) (rw none at (x .number)) in
+      body-settled (nothing .body .not-count) (x .the-order none) (y .the-order (sym number ∙ none))
+
+  -- Two results that satisfy the contract on the same input are equal.
+  pub plans-settled : (r ≡ t) × (after₁ ≡ after₂)
+  plans-settled = (answer, kept-one _ _ _ _ before number (λ none. ap (with-body-fronts before) (tables-one none)) (x .tables-are) (y .tables-are))

@@ -1,0 +1,2 @@
+pub mod PlanningBody
+pub mod Admitting

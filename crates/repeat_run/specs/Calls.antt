@@ -1,0 +1,51 @@
+-- What the record of a body repeated and the answers of its calls say in the rules' words.
+use Prim.Native.Nat.{_*_, _≤_, _<_}
+use lib.ListN.{length}
+use Rattle.rules.specs.Numbers.{summary-numbers}
+use Rattle.rules.specs.Repeat.{LentBody, positions}
+use Rattle.rules.specs.Run as rules
+use Rattle.rules.specs.declared.Body.{Body}
+use Rattle.run.specs.Calls.{with-run}
+use Rattle.repeat_limits.specs.Limits.{CountsIn}
+use Rattle.repeat_decision.specs.Decision.{last-start}
+use Rattle.repeat_run.specs.declared.BodyRun.{BodyRun}
+use Rattle.repeat_run.specs.declared.BodyStarted.{BodyStarted}
+use Rattle.repeat_run.specs.declared.BodyAsked.{BodyAsked}
+use Rattle.repeat_run.specs.declared.BodyReported.{BodyReported}
+
+-- The record, field by field; its n is the number of positions.
+abbrev pub steps-of : BodyRun → rules.Run
+steps-of r = record {
+  n = positions (r .body);
+  levels = r .body .levels;
+  position = r .position;
+  clock = r .clock;
+  running = r .running;
+  level = r .level;
+  left = r .left;
+  decisions = r .decisions;
+  overrun = r .overrun;
+  late = r .late;
+}
+
+-- What a start, an asking and a report answer. The body of the record stays, whatever the answer.
+abbrev pub started-of : BodyStarted → Body × rules.Next
+started-of a = (a .run .body, record { number = a .refusal .number; run = steps-of (a .run) })
+
+abbrev pub asked-of : BodyAsked → rules.Answer
+asked-of a = with-run (a .answer) (steps-of (a .run))
+
+abbrev pub reported-of : BodyReported → rules.Next
+reported-of a = record { number = a .refusal .number; run = steps-of (a .run) }
+
+-- ---- asked between the functions of this crate, and of those above it
+
+-- A record that may decide: a body whose counts are in range, a position left, and the summaries and worst times lent as long as the body says.
+-- Its clock may be later than a report may say: a dry run goes on past the latest clock.
+pub record MayDecide (T : LentBody) (b : Body) (r : rules.Run) : Type 0 where
+  pub counts : CountsIn b
+  pub summed : b .n * b .levels * summary-numbers ≤ length (T .summaries)
+  pub timed : b .n * b .levels ≤ length (T .worst)
+  pub more : r .position < positions b
+  pub early : r .clock ≤ last-start
+  pub counted : r .decisions ≤ r .position

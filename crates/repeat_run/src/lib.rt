@@ -1,0 +1,298 @@
+// The run record of a body repeated and its calls: start, ask and report, by the steps of a plain cycle. Each call takes the record and hands the
+// next one back. What a turn is made of is public too, for `repeat_frame`, which runs a whole frame.
+use repeat_decision::left_granted;
+use repeat_decision::level_given;
+use repeat_limits::body_refusal;
+use repeat_limits::spot_of;
+use repeat_limits::within;
+use rules::Body;
+use rules::Refusal;
+use run::Answer;
+ghost use mathlib.Core.Path.{_≡_};
+ghost use mathlib.Core.Bool.{not};
+ghost use mathlib.Core.List.{[]};
+ghost use Prim.Native.Nat.{_+_, _*_, _<_, _≤_};
+ghost use Rattle.rules.specs.Numbers.{most-positions, longest-coast};
+ghost use Rattle.rules.specs.Run.{begun, coast, decide, ended, fits};
+ghost use Rattle.rules.specs.Repeat.{positions, lent-plan, body-in-range, body-start, body-ask-refusal, body-ask, body-report-refusal, body-report};
+ghost use Rattle.repeat_run.specs.Calls.{steps-of, started-of, asked-of, reported-of, MayDecide};
+
+// The fields and their ranges are `body-in-range` of the rules. The position and the decisions are those of the unrolled system. The clock has 64
+// bits for a dry run, which goes on past the latest clock; between calls it is within it.
+#[repr(C)]
+pub struct BodyRun {
+    pub clock: u64,
+    pub body: Body,
+    pub position: u32,
+    pub level: u32,
+    pub left: u32,
+    pub decisions: u32,
+    pub running: bool,
+    pub overrun: bool,
+    pub late: bool,
+}
+
+// What a start answers: the record begun, and the refusal.
+#[repr(C)]
+pub struct BodyStarted {
+    pub run: BodyRun,
+    pub refusal: Refusal,
+}
+
+// What an asking answers, with the next record.
+pub struct BodyAsked {
+    pub run: BodyRun,
+    pub answer: Answer,
+}
+
+// What a report answers: the next record, and the refusal.
+#[repr(C)]
+pub struct BodyReported {
+    pub run: BodyRun,
+    pub refusal: Refusal,
+}
+
+// A decision made: the record with the action running, and whether no level fits.
+pub struct BodyDecided {
+    pub run: BodyRun,
+    pub late: bool,
+}
+
+// A start sets the body, all else 0 or no.
+pub fn begun(body: Body) -> BodyRun
+    ensures { λ r. ⌜ (r .body ≡ body) × (steps-of r ≡ begun (positions body) (body .levels) 0) ⌝ }
+{
+    BodyRun {
+        clock: 0,
+        body,
+        position: 0,
+        level: 0,
+        left: 0,
+        decisions: 0,
+        running: false,
+        overrun: false,
+        late: false,
+    }
+}
+
+impl BodyRun {
+    // A refused start gives a record of zero actions, on which each later call answers 11.
+    pub fn start(body: Body) -> BodyStarted
+        ensures { λ r. ⌜ started-of r ≡ body-start body ⌝ }
+    {
+        let number = body_refusal(body);
+        if number != 0 {
+            return BodyStarted {
+                run: begun(Body {
+                    n: 0,
+                    levels: 0,
+                    cycle: 0,
+                    repeats: 0,
+                }),
+                refusal: Refusal { number },
+            };
+        }
+        BodyStarted {
+            run: begun(body),
+            refusal: Refusal { number: 0 },
+        }
+    }
+
+    // Whether each field is in its range. Too high a position and too long a coast are told first, so that their sum does not wrap.
+    fn in_range(self) -> bool
+        ensures { λ r. ⌜ r ≡ body-in-range (self .body) (steps-of self) ⌝ }
+    {
+        let body = self.body;
+        if body_refusal(body) != 0 {
+            return false;
+        }
+        let n = body.repeats * body.n;
+        let left = self.left;
+        if n < self.position {
+            return false;
+        }
+        if rules::LONGEST_COAST <= left as usize {
+            return false;
+        }
+        let asked = self.position + run::one_if(self.running);
+        if n < left + asked {
+            return false;
+        }
+        if body.levels <= self.level {
+            return false;
+        }
+        if (rules::LAST_CLOCK as u64) < self.clock {
+            return false;
+        }
+        if asked < self.decisions {
+            return false;
+        }
+        true
+    }
+
+    // A decision here and now takes the level given, leaves r - 1 to coast, counts, and sets the late mark where no level fits.
+    pub fn decided(self, summaries: &[u32], worst: &[u32]) -> BodyDecided
+        requires { ⌜ MayDecide (record { order = []; summaries = now summaries; worst = now worst }) (self .body) (steps-of self) ⌝ }
+        ensures body { λ r. ⌜ r .run .body ≡ self .body ⌝ }
+        ensures run { λ r. ⌜ steps-of (r .run) ≡ decide longest-coast
+            (lent-plan (self .body) (record { order = []; summaries = now (summaries .entry); worst = now (worst .entry) })) (steps-of self) ⌝ }
+        ensures late { λ r. ⌜ r .late ≡ not (fits
+            (lent-plan (self .body) (record { order = []; summaries = now (summaries .entry); worst = now (worst .entry) })) (self .clock) (self .position)) ⌝ }
+    {
+        let body = self.body;
+        let t = self.clock;
+        let spot = spot_of(body, self.position as usize);
+        let level = level_given(body, summaries, spot.place, spot.after, t);
+        let entry = spot.place * body.levels as usize + level;
+        let late = !within(summaries, entry, level, spot.after, body.cycle, t);
+        let mut left = 0;
+        if !late {
+            left = left_granted(body, summaries, worst, spot.place, spot.after, level, t);
+        }
+        let mut run = self;
+        run.level = level as u32;
+        run.left = left;
+        run.decisions = self.decisions + 1;
+        run.running = true;
+        run.late = self.late | late;
+        BodyDecided { run, late }
+    }
+
+    // A coasted asking gives the same level undecided and lowers what is left by 1.
+    pub fn coasted(self) -> BodyRun
+        requires { ⌜ 0 < self .left ⌝ }
+        ensures { λ r. ⌜ (r .body ≡ self .body) × (steps-of r ≡ coast (steps-of self)) ⌝ }
+    {
+        let mut run = self;
+        run.left = self.left - 1;
+        run.running = true;
+        run
+    }
+
+    // The action's end at a clock, where its worst time at its level is `worst`: a longer duration sets the overrun mark and cancels the rest of
+    // the coast.
+    pub fn ended(self, worst: u32, clock: u64) -> BodyRun
+        requires { ⌜ (self .position < most-positions) × (self .clock ≤ clock) ⌝ }
+        ensures { λ r. ⌜ (r .body ≡ self .body) × (steps-of r ≡ ended worst clock (steps-of self)) ⌝ }
+    {
+        let over = (worst as u64) < clock - self.clock;
+        let mut run = self;
+        run.position = self.position + 1;
+        run.clock = clock;
+        run.running = false;
+        if over {
+            run.left = 0;
+            run.overrun = true;
+        }
+        run
+    }
+
+    // Fields out of range 11, room 17, an action runs 11, all done 10.
+    fn ask_refusal(self, order: &[u8], summaries: &[u32], worst: &[u32]) -> u32
+        ensures { λ r. ⌜ r ≡ body-ask-refusal (self .body)
+            (record { order = now (order .entry); summaries = now (summaries .entry); worst = now (worst .entry) }) (steps-of self) ⌝ }
+    {
+        if !self.in_range() {
+            return rules::REFUSED_TURN;
+        }
+        let body = self.body;
+        let n = body.n as usize;
+        let cells = n * body.levels as usize;
+        if (order.len() < n)
+            | (summaries.len() < cells * rules::SUMMARY_NUMBERS)
+            | (worst.len() < cells)
+        {
+            return rules::REFUSED_ROOM;
+        }
+        if self.running {
+            return rules::REFUSED_TURN;
+        }
+        if self.position == body.repeats * body.n {
+            return rules::REFUSED_FINISHED;
+        }
+        0
+    }
+
+    // Asking takes no clock and sets the action running, told by its number in the unrolled system. A refusal gives back the record.
+    pub fn ask(self, order: &[u8], summaries: &[u32], worst: &[u32]) -> BodyAsked
+        ensures body { λ r. ⌜ r .run .body ≡ self .body ⌝ }
+        ensures answer { λ r. ⌜ asked-of r ≡ body-ask (self .body)
+            (record { order = now (order .entry); summaries = now (summaries .entry); worst = now (worst .entry) }) (steps-of self) ⌝ }
+    {
+        let number = self.ask_refusal(order, summaries, worst);
+        if number != 0 {
+            return BodyAsked {
+                run: self,
+                answer: Answer::Refused(Refusal { number }),
+            };
+        }
+        let body = self.body;
+        let place = self.position % body.n;
+        let action = self.position - place + order[place as usize] as u32;
+        if self.left == 0 {
+            let made = self.decided(summaries, worst);
+            let run = made.run;
+            return BodyAsked {
+                run,
+                answer: Answer::Given {
+                    action,
+                    level: run.level,
+                    decided: true,
+                    late: made.late,
+                },
+            };
+        }
+        BodyAsked {
+            run: self.coasted(),
+            answer: Answer::Given {
+                action,
+                level: self.level,
+                decided: false,
+                late: false,
+            },
+        }
+    }
+
+    // Fields out of range 11, room 17, none runs 11, back 12, above the clock limit 13.
+    fn report_refusal(self, clock: u32, worst: &[u32]) -> u32
+        ensures { λ r. ⌜ r ≡ body-report-refusal (self .body) (now (worst .entry)) clock (steps-of self) ⌝ }
+    {
+        if !self.in_range() {
+            return rules::REFUSED_TURN;
+        }
+        let body = self.body;
+        if worst.len() < body.n as usize * body.levels as usize {
+            return rules::REFUSED_ROOM;
+        }
+        if !self.running {
+            return rules::REFUSED_TURN;
+        }
+        if (clock as u64) < self.clock {
+            return rules::REFUSED_BACK;
+        }
+        if rules::LAST_CLOCK < clock {
+            return rules::REFUSED_CLOCK;
+        }
+        0
+    }
+
+    // The end of the running action, by the clock since the cycle began. A refusal gives back the record.
+    pub fn report(self, clock: u32, worst: &[u32]) -> BodyReported
+        ensures body { λ r. ⌜ r .run .body ≡ self .body ⌝ }
+        ensures answer { λ r. ⌜ reported-of r ≡ body-report (self .body) (now (worst .entry)) clock (steps-of self) ⌝ }
+    {
+        let number = self.report_refusal(clock, worst);
+        if number != 0 {
+            return BodyReported {
+                run: self,
+                refusal: Refusal { number },
+            };
+        }
+        let body = self.body;
+        let at = (self.position % body.n * body.levels + self.level) as usize;
+        BodyReported {
+            run: self.ended(worst[at], clock as u64),
+            refusal: Refusal { number: 0 },
+        }
+    }
+}

@@ -1,0 +1,3 @@
+pub mod Lines
+pub mod Loop
+pub mod Planned

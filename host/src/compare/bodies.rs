@@ -1,0 +1,250 @@
+//! The calls on a body repeated.
+
+use super::{hex, in_header, junk, number_of, usable, Pair};
+use crate::calls::{
+    Answer, Body, BodyRun, BodyTables, Given, ABSENT_LONG, LAST_CLOCK, LONGEST_COAST, LONGEST_TIME, MOST_ACTIONS,
+    MOST_LEVELS, MOST_REPEATS, SUMMARY_NUMBERS,
+};
+use crate::draw::{Size, PACES};
+use crate::reference::body_fields_out;
+
+/// The most positions of which a frame is run, but for a few.
+const SOME: usize = 160;
+
+/// The tables of a plan, with room for any body.
+struct Planned {
+    body: Body,
+    order: Vec<u8>,
+    summaries: Vec<u32>,
+    worst: Vec<u32>,
+}
+
+impl Planned {
+    fn tables(&self) -> BodyTables<'_> {
+        BodyTables { order: &self.order, summaries: &self.summaries, worst_by_position: &self.worst }
+    }
+}
+
+impl Pair<'_> {
+    pub(super) fn bodies(&mut self, size: Size) -> Result<(), String> {
+        let repeats = self.draw.repeats();
+        let image = self.draw.body_image(size, repeats);
+        self.plan_body(&image, repeats)?;
+        self.body_dry_frame(&image, repeats)?;
+        self.body_start()?;
+        self.body_single_calls()?;
+        let Some(planned) = self.planned_body(&image, repeats) else { return Ok(()) };
+        if repeats == 1 || repeats == MOST_REPEATS {
+            self.tally.event(format!("N = {repeats}"));
+        }
+        for _ in 0..6 {
+            self.body_reading(planned.body, &planned.summaries, &planned.worst)?;
+        }
+        self.body_walk(&planned)
+    }
+
+    fn planned_body(&self, image: &[u8], repeats: u32) -> Option<Planned> {
+        const CELLS: usize = MOST_ACTIONS * MOST_LEVELS;
+        let (mut order, mut summaries) = (vec![0; MOST_ACTIONS], vec![0; CELLS * SUMMARY_NUMBERS]);
+        let mut worst = vec![0; CELLS];
+        let body = self.left.plan_body(image, repeats, &mut order, &mut summaries, &mut worst).ok()?;
+        Some(Planned { body, order, summaries, worst })
+    }
+
+    fn plan_body(&mut self, image: &[u8], repeats: u32) -> Result<(), String> {
+        let (n, levels) = in_header(image).unwrap_or((3, 2));
+        let draw = &mut self.draw;
+        let rooms = [n, n * levels * SUMMARY_NUMBERS, n * levels].map(|needed| draw.room(needed));
+        let tables: (Vec<u8>, Vec<u32>, Vec<u32>) = (junk(draw, rooms[0]), junk(draw, rooms[1]), junk(draw, rooms[2]));
+        let result = self.same("plan body", &|| format!("{} {repeats} {rooms:?}", hex(image)), |calls| {
+            let mut lent = tables.clone();
+            let answer = calls.plan_body(image, repeats, &mut lent.0, &mut lent.1, &mut lent.2);
+            (answer, lent)
+        })?;
+        self.tally.number("plan body", number_of(&result.0));
+        Ok(())
+    }
+
+    /// A whole cycle from an image. Where there are many positions what is lent is mostly too short for them.
+    fn body_dry_frame(&mut self, image: &[u8], repeats: u32) -> Result<(), String> {
+        let (n, levels) = in_header(image).unwrap_or((3, 2));
+        let positions = n * repeats.min(MOST_REPEATS) as usize;
+        let whole = self.draw.once_in(if positions * levels < 16_000 { 2 } else { 500 });
+        let lent = if whole { positions } else { positions.min(SOME) };
+        let pace = self.draw.pick(&PACES);
+        let longest = self.draw.pick(&[0, 3, 40, 1000, LONGEST_TIME]);
+        let mut durations = self.draw.durations(&vec![longest; lent * levels], pace);
+        if self.draw.once_in(6) {
+            // Of more than 64 the end is past the last clock.
+            durations.fill(LONGEST_TIME);
+        }
+        durations.resize(self.draw.room(lent * levels), 0);
+        if let (true, Some(duration)) = (self.draw.once_in(16), durations.last_mut()) {
+            *duration = self.draw.pick(&[LONGEST_TIME, LONGEST_TIME + 1, u32::MAX]);
+        }
+        let rooms = [n, lent, lent].map(|needed| self.draw.room(needed));
+        let [order, given, marks]: [Vec<u8>; 3] = rooms.map(|room| junk(&mut self.draw, room));
+        let input = || format!("{} {repeats} {durations:?} {rooms:?}", hex(image));
+        let (answer, _) = self.same("body dry frame", &input, |calls| {
+            let mut lent = (order.clone(), given.clone(), marks.clone());
+            let answer = calls.body_dry_frame(image, repeats, &durations, &mut lent.0, &mut lent.1, &mut lent.2);
+            (answer, lent)
+        })?;
+        self.tally.number("body dry frame", number_of(&answer));
+        if let Ok(cycle) = answer {
+            self.tally.event(if cycle.overrun { "body overrun" } else { "body no overrun" });
+            for (event, so) in [
+                ("body frame late", cycle.late),
+                ("body ends past the last clock", cycle.end > LAST_CLOCK.into()),
+                ("body frame with a tail", rooms[1] > positions && durations.len() > positions * levels),
+                ("all repeats run", repeats == MOST_REPEATS),
+            ] {
+                if so {
+                    self.tally.event(event);
+                }
+            }
+        }
+        Ok(())
+    }
+
+    /// A start over a record of any content: it is not read.
+    fn body_start(&mut self) -> Result<(), String> {
+        let mut body = self.draw.body();
+        let before = self.draw.body_run(body);
+        if self.draw.once_in(2) {
+            body = self.draw.edged_body(body);
+        }
+        let (number, _) = self.same("body start", &|| format!("{before:?} {body:?}"), |calls| {
+            let mut run = before;
+            let number = calls.body_start(&mut run, body);
+            (number, run)
+        })?;
+        self.tally.number("body start", number);
+        Ok(())
+    }
+
+    /// A limit and a coast bound, mostly of what is there.
+    fn body_reading(&mut self, body: Body, summaries: &[u32], worst: &[u32]) -> Result<(), String> {
+        let positions = body.n as usize * body.repeats as usize;
+        let last = positions.saturating_sub(1).min(u32::MAX as usize);
+        let position = match self.draw.between(0, 3) {
+            0 => last - self.draw.index(last.min(17) + 1),
+            _ => self.draw.name(last),
+        };
+        let level = self.draw.name((body.levels as usize).saturating_sub(1));
+        let length = match self.draw.between(0, 9) {
+            0 => self.draw.pick(&[0, 17, 1 << 32 | 1, usize::MAX]),
+            _ => 1 + self.draw.index(LONGEST_COAST),
+        };
+        let input = || format!("{body:?} {summaries:?} {worst:?} {position} {level} {length}");
+        let limit = self.same("body limit", &input, |calls| calls.body_limit(body, summaries, position, level))?;
+        self.tally.number("body limit", number_of(&limit));
+        if limit.is_ok_and(|limit| limit < 0) {
+            self.tally.event("limit below 0");
+        }
+        let bound =
+            self.same("body bound", &input, |calls| calls.body_bound(body, summaries, worst, position, level, length))?;
+        self.tally.number("body bound", number_of(&bound));
+        if let Ok(bound) = bound {
+            self.tally.event(if bound == ABSENT_LONG { "absent bound" } else { "bound" });
+        }
+        Ok(())
+    }
+
+    /// An asking over the lent record, which comes back as the call leaves it.
+    fn body_ask(&mut self, run: BodyRun, tables: BodyTables) -> Result<BodyRun, String> {
+        let (next, answer) = self.same("body ask", &|| format!("{run:?} {tables:?}"), |calls| {
+            let mut run = run;
+            let answer = calls.body_ask(&mut run, tables);
+            (run, answer)
+        })?;
+        self.note_body_asked(next, &answer);
+        Ok(next)
+    }
+
+    fn note_body_asked(&mut self, run: BodyRun, answer: &Answer<Given>) {
+        self.tally.number("body ask", number_of(answer));
+        let Ok(answer) = answer else { return };
+        if !answer.decided {
+            return self.tally.event("body coasted");
+        }
+        self.tally.event(format!("body grant {}", run.left + 1));
+        if answer.late {
+            self.tally.event("body late");
+        }
+        if run.position % run.body.n + run.left >= run.body.n {
+            self.tally.event("coast into the next repeat");
+        }
+    }
+
+    /// A report over the lent record.
+    fn body_report(&mut self, run: BodyRun, clock: u32, worst: &[u32]) -> Result<BodyRun, String> {
+        let (next, number) = self.same("body report", &|| format!("{run:?} {clock} {worst:?}"), |calls| {
+            let mut run = run;
+            let number = calls.body_report(&mut run, clock, worst);
+            (run, number)
+        })?;
+        self.tally.number("body report", number);
+        Ok(next)
+    }
+
+    /// Calls on records at the edges, with tables that no planner wrote.
+    fn body_single_calls(&mut self) -> Result<(), String> {
+        for _ in 0..4 {
+            let body = self.draw.body();
+            let mut run = self.draw.body_run(body);
+            if self.draw.once_in(2) {
+                run = self.draw.edged_body_run(run);
+            }
+            if let Some(field) = body_fields_out(run).first() {
+                self.tally.event(format!("body {field} out"));
+            }
+            // Tables by the record's own counts where these are of use.
+            let used = usable(run.body.n as usize, run.body.levels as usize);
+            let (n, levels) = used.unwrap_or((body.n as usize, body.levels as usize));
+            let shape = Body { n: n as u32, levels: levels as u32, ..run.body };
+            let mut summaries = self.draw.foreign_summaries(shape, run.clock);
+            summaries.resize(self.draw.room(n * levels * SUMMARY_NUMBERS), 0);
+            let longest = self.draw.pick(&[0, 1, 5, 1000, u32::MAX]);
+            let mut worst: Vec<u32> = (0..n * levels).map(|_| self.draw.between(0, longest)).collect();
+            worst.resize(self.draw.room(n * levels), 0);
+            let room = self.draw.room(n);
+            let order = self.draw.bytes(room);
+            self.tally.event("body not planned by anyone");
+
+            self.body_reading(run.body, &summaries, &worst)?;
+            let tables = BodyTables { order: &order, summaries: &summaries, worst_by_position: &worst };
+            self.body_ask(run, tables)?;
+            let clock = self.draw.clock_after(run.clock.min(u32::MAX.into()) as u32, longest);
+            self.body_report(run, clock, &worst)?;
+        }
+        Ok(())
+    }
+
+    /// Calls by turns from the start, or from a repeat on, with a wrong turn now and then.
+    fn body_walk(&mut self, planned: &Planned) -> Result<(), String> {
+        let Body { n, levels, repeats, .. } = planned.body;
+        let mut run = BodyRun::default();
+        self.left.body_start(&mut run, planned.body);
+        if self.draw.once_in(2) {
+            // As if the repeats before it had taken no time.
+            run.position = n * self.draw.between(0, repeats - 1);
+        }
+        let turns = 2 * (n * repeats - run.position).min(40) + 8;
+        for _ in 0..turns {
+            let asks = run.running == self.draw.once_in(16);
+            run = if asks {
+                self.body_ask(run, planned.tables())?
+            } else {
+                let cell = (run.position % n * levels + run.level) as usize;
+                let longest = planned.worst[cell];
+                let clock = match self.draw.between(0, 15) {
+                    0 => self.draw.clock_after(run.clock as u32, longest),
+                    _ => run.clock as u32 + self.draw.between(0, longest),
+                };
+                self.body_report(run, clock, &planned.worst)?
+            };
+        }
+        Ok(())
+    }
+}

@@ -1,0 +1,395 @@
+//! A body repeated: one body planned, and each limit from what is summed up of its rest and of the whole bodies after it. What these add at a level
+//! is worked out once for all positions of a body.
+
+use super::image::{gather, Pair, Shape};
+use super::order::{ordered, Arranged};
+use super::run::{shape_fits, Decision};
+use crate::calls::{
+    refused, Answer, Body, BodyDried, BodyRun, BodyTables, Given, ABSENT_LONG, LAST_CLOCK, LONGEST_COAST, LONGEST_TIME,
+    MOST_ACTIONS, MOST_LEVELS, MOST_REPEATS, SUMMARY_NUMBERS,
+};
+
+// ---- planning
+
+/// Refusals 1 to 8, 19, 9; the shape and the order of an accepted body.
+fn examine(image: &[u8], repeats: u32) -> Answer<(Shape, Arranged)> {
+    let (shape, actions) = gather(image)?;
+    let (arranged, _) = ordered(&actions, shape.n)?;
+    let differ = actions.deadlines[..shape.n].iter().fold(0, |all, deadline| all | (deadline ^ shape.cycle));
+    if differ != 0 || repeats.wrapping_sub(1) >= MOST_REPEATS {
+        return Err(refused::REPEATS);
+    }
+    // Its order is the body's, repeat by repeat, and the last action ends last.
+    let end: u64 = actions.worst[..shape.n].iter().map(|&worst| u64::from(worst)).sum();
+    if u64::from(repeats) * end > u64::from(shape.cycle) {
+        return Err(refused::UNFIT);
+    }
+    Ok((shape, arranged))
+}
+
+/// From the last position back: A and W add up; M is the greater of this worst time before the others at level 0, and this average before their M.
+fn fill(image: &[u8], shape: Shape, order: &[u8], summaries: &mut [u32], worst: &mut [u32]) {
+    let levels = shape.levels.min(8);
+    let (mut averages, mut mixes, mut lowest) = ([0u32; 8], [0u32; 8], 0);
+    let rows = summaries.chunks_exact_mut(levels * SUMMARY_NUMBERS).zip(worst.chunks_exact_mut(levels));
+    for (&action, (summaries, worst)) in order.iter().zip(rows).rev() {
+        let record = shape.record(image, action as usize);
+        let after = lowest;
+        lowest += Pair::of(record, 0).worst();
+        for (level, entry) in summaries.chunks_exact_mut(SUMMARY_NUMBERS).enumerate().take(levels) {
+            let pair = Pair::of(record, level);
+            averages[level] += pair.average();
+            mixes[level] = (pair.worst() + after).max(pair.average() + mixes[level]);
+            entry.copy_from_slice(&[averages[level], lowest, mixes[level]]);
+            worst[level] = pair.worst();
+        }
+    }
+}
+
+/// Order, summaries of the rest of the body and worst times by position.
+pub fn plan_body(
+    image: &[u8],
+    repeats: u32,
+    order: &mut [u8],
+    summaries: &mut [u32],
+    worst: &mut [u32],
+) -> Answer<Body> {
+    let (shape, Arranged(arranged)) = examine(image, repeats)?;
+    let (n, cells) = (shape.n, shape.cells());
+    if order.len() < n || summaries.len() < cells * SUMMARY_NUMBERS || worst.len() < cells {
+        return Err(refused::ROOM);
+    }
+    order[..n].copy_from_slice(&arranged[..n]);
+    fill(image, shape, &order[..n], &mut summaries[..cells * SUMMARY_NUMBERS], &mut worst[..cells]);
+    Ok(Body { n: n as u32, levels: shape.levels as u32, cycle: shape.cycle, repeats })
+}
+
+// ---- limits and bounds
+
+/// What the whole bodies after one add at a level: the first to M, the second to A; the greater sum is M of them all.
+#[derive(Clone, Copy)]
+struct After {
+    to_mix: i64,
+    to_average: i64,
+}
+
+/// What an entry takes of the summaries.
+type Entry = [u32; SUMMARY_NUMBERS];
+
+#[inline(always)]
+fn entry(summaries: &[u32], cell: usize) -> &Entry {
+    let at = cell * SUMMARY_NUMBERS;
+    summaries[at..at + SUMMARY_NUMBERS].try_into().expect("three numbers")
+}
+
+impl After {
+    #[inline(always)]
+    fn of(summaries: &[u32], level: usize, bodies: u32) -> After {
+        let &[average, lowest, mix] = entry(summaries, level);
+        let bodies = i64::from(bodies);
+        let greater = i64::from(average.max(lowest));
+        // Without a body after it no sum of the second kind counts.
+        let to_average = if bodies == 0 { i64::MIN / 2 } else { i64::from(mix) + (bodies - 1) * greater };
+        After { to_mix: bodies * i64::from(lowest), to_average }
+    }
+
+    /// M from an entry's position on.
+    #[inline(always)]
+    fn mix(self, &[average, _, mix]: &Entry) -> i64 {
+        (i64::from(mix) + self.to_mix).max(i64::from(average) + self.to_average)
+    }
+}
+
+/// 3 and 19, 0 for none.
+#[inline(always)]
+fn body_refusal(body: Body) -> u8 {
+    if !shape_fits(body.n as usize, body.levels as usize) || body.cycle.wrapping_sub(1) >= LAST_CLOCK {
+        return refused::COUNT;
+    }
+    if body.repeats.wrapping_sub(1) >= MOST_REPEATS {
+        return refused::REPEATS;
+    }
+    0
+}
+
+/// The limit at a position of all repeats and a level.
+pub fn body_limit(body: Body, summaries: &[u32], position: usize, level: usize) -> Answer<i64> {
+    let number = body_refusal(body);
+    if number != 0 {
+        return Err(number);
+    }
+    let (n, levels) = (body.n as usize, body.levels as usize);
+    if summaries.len() < n * levels * SUMMARY_NUMBERS {
+        return Err(refused::ROOM);
+    }
+    if position >= n * body.repeats as usize || level >= levels {
+        return Err(refused::READING);
+    }
+    let (repeat, place) = (position as u32 / body.n, position as u32 % body.n);
+    let after = After::of(summaries, level, body.repeats - 1 - repeat);
+    Ok(i64::from(body.cycle) - after.mix(entry(summaries, place as usize * levels + level)))
+}
+
+/// The coast bound there for a length: the least of the limits on the way, each less the worst times before it.
+pub fn body_bound(
+    body: Body,
+    summaries: &[u32],
+    worst: &[u32],
+    position: usize,
+    level: usize,
+    length: usize,
+) -> Answer<i64> {
+    let number = body_refusal(body);
+    if number != 0 {
+        return Err(number);
+    }
+    let (n, levels) = (body.n as usize, body.levels as usize);
+    let (cells, positions) = (n * levels, n * body.repeats as usize);
+    if summaries.len() < cells * SUMMARY_NUMBERS || worst.len() < cells {
+        return Err(refused::ROOM);
+    }
+    if position >= positions || level >= levels || length.wrapping_sub(1) >= LONGEST_COAST {
+        return Err(refused::READING);
+    }
+    if positions - position < length {
+        return Ok(ABSENT_LONG);
+    }
+    let (summaries, worst) = (&summaries[..cells * SUMMARY_NUMBERS], &worst[..cells]);
+    let (repeat, place) = (position as u32 / body.n, position as u32 % body.n);
+    let (mut bodies, mut place) = (body.repeats - 1 - repeat, place as usize);
+    let (mut most, mut spent, mut left) = (i64::MIN, 0, length);
+    loop {
+        let after = After::of(summaries, level, bodies);
+        let end = n.min(place + left);
+        left -= end - place;
+        for cell in (place..end).map(|at| at * levels + level) {
+            most = most.max(spent + after.mix(entry(summaries, cell)));
+            spent += i64::from(worst[cell]);
+        }
+        if left == 0 {
+            return Ok(i64::from(body.cycle) - most);
+        }
+        (place, bodies) = (0, bodies - 1);
+    }
+}
+
+// ---- the run
+
+/// A decision at a place of a body with so many bodies after it. The summaries and the worst times are as long as the body says.
+#[inline(always)]
+fn decide(body: Body, summaries: &[u32], worst: &[u32], place: usize, bodies: u32, clock: u64) -> Decision {
+    let (n, levels) = (body.n as usize, body.levels as usize);
+    // What M may be at most.
+    let room = i64::from(body.cycle) - clock as i64;
+    let mut level = levels;
+    loop {
+        if level == 0 {
+            return Decision { level: 0, late: true, grant: 1 };
+        }
+        level -= 1;
+        if After::of(summaries, level, bodies).mix(entry(summaries, place * levels + level)) <= room {
+            break;
+        }
+    }
+    let most = (n - place + bodies as usize * n).min(LONGEST_COAST);
+    let grant = if level + 1 == levels {
+        coast::<false>(body, summaries, worst, place, bodies, level, room, most)
+    } else {
+        coast::<true>(body, summaries, worst, place, bodies, level, room, most)
+    };
+    Decision { level, late: false, grant }
+}
+
+/// The actions up to the first that could begin too late for the level, or at which the one above fits; no coast past it qualifies. The first is
+/// known to be none.
+#[inline(always)]
+#[allow(clippy::too_many_arguments)]
+fn coast<const ABOVE: bool>(
+    body: Body,
+    summaries: &[u32],
+    worst: &[u32],
+    place: usize,
+    bodies: u32,
+    level: usize,
+    room: i64,
+    most: usize,
+) -> u32 {
+    let (n, levels) = (body.n as usize, body.levels as usize);
+    let (mut at, mut bodies) = (place, bodies);
+    let mut left = room - i64::from(worst[at * levels + level]);
+    let mut grant = 1;
+    at += 1;
+    while grant < most {
+        if at == n {
+            at = 0;
+            bodies -= 1;
+        }
+        let own = After::of(summaries, level, bodies);
+        let above = if ABOVE { After::of(summaries, level + 1, bodies) } else { own };
+        let end = n.min(at + most - grant);
+        while at < end {
+            let cell = at * levels + level;
+            if own.mix(entry(summaries, cell)) > left || ABOVE && above.mix(entry(summaries, cell + 1)) <= room {
+                return grant as u32;
+            }
+            left -= i64::from(worst[cell]);
+            at += 1;
+            grant += 1;
+        }
+    }
+    grant as u32
+}
+
+fn in_range(run: &BodyRun) -> bool {
+    let body = run.body;
+    // 64-bit sums: any field may hold any value.
+    let reached = u64::from(run.position) + u64::from(run.running);
+    let positions = u64::from(body.n) * u64::from(body.repeats);
+    body_refusal(body) == 0
+        && run.clock <= u64::from(LAST_CLOCK)
+        && run.level < body.levels
+        && run.left <= 15
+        && u64::from(run.left) + reached <= positions
+        && u64::from(run.decisions) <= reached
+}
+
+/// A start, of zero actions with a refusal.
+pub fn body_start(run: &mut BodyRun, body: Body) -> u8 {
+    let number = body_refusal(body);
+    let body = if number == 0 { body } else { Body::default() };
+    *run = BodyRun { body, ..BodyRun::default() };
+    number
+}
+
+/// The next action and its level.
+pub fn body_ask(run: &mut BodyRun, tables: BodyTables) -> Answer<Given> {
+    if !in_range(run) {
+        return Err(refused::TURN);
+    }
+    let body = run.body;
+    let cells = body.n as usize * body.levels as usize;
+    let BodyTables { order, summaries, worst_by_position: worst } = tables;
+    if order.len() < body.n as usize || summaries.len() < cells * SUMMARY_NUMBERS || worst.len() < cells {
+        return Err(refused::ROOM);
+    }
+    if run.running {
+        return Err(refused::TURN);
+    }
+    if run.position == body.n * body.repeats {
+        return Err(refused::FINISHED);
+    }
+    let (repeat, place) = (run.position / body.n, run.position % body.n);
+    let action = run.position - place + u32::from(order[place as usize]);
+    run.running = true;
+    if run.left > 0 {
+        run.left -= 1;
+        return Ok(Given { action, level: run.level, decided: false, late: false });
+    }
+    let (summaries, worst) = (&summaries[..cells * SUMMARY_NUMBERS], &worst[..cells]);
+    let decision = decide(body, summaries, worst, place as usize, body.repeats - 1 - repeat, run.clock);
+    run.level = decision.level as u32;
+    run.left = decision.grant - 1;
+    run.decisions += 1;
+    run.late |= decision.late;
+    Ok(Given { action, level: run.level, decided: true, late: decision.late })
+}
+
+/// The end of the running action.
+pub fn body_report(run: &mut BodyRun, clock: u32, worst: &[u32]) -> u8 {
+    if !in_range(run) {
+        return refused::TURN;
+    }
+    let body = run.body;
+    if worst.len() < body.n as usize * body.levels as usize {
+        return refused::ROOM;
+    }
+    if !run.running {
+        return refused::TURN;
+    }
+    if u64::from(clock) < run.clock {
+        return refused::BACK;
+    }
+    if clock > LAST_CLOCK {
+        return refused::CLOCK;
+    }
+    let cell = run.position % body.n * body.levels + run.level;
+    if clock - run.clock as u32 > worst[cell as usize] {
+        run.overrun = true;
+        run.left = 0;
+    }
+    run.position += 1;
+    run.clock = u64::from(clock);
+    run.running = false;
+    0
+}
+
+// ---- the dry run
+
+/// A whole cycle from an image.
+pub fn body_dry_frame(
+    image: &[u8],
+    repeats: u32,
+    durations: &[u32],
+    order: &mut [u8],
+    given: &mut [u8],
+    marks: &mut [u8],
+) -> Answer<BodyDried> {
+    const CELLS: usize = MOST_ACTIONS * MOST_LEVELS;
+    let (shape, Arranged(arranged)) = examine(image, repeats)?;
+    let (n, levels, cells) = (shape.n, shape.levels, shape.cells());
+    let positions = n * repeats as usize;
+    let rooms_short = order.len() < n || given.len() < positions || marks.len() < positions;
+    if rooms_short || durations.len() < positions * levels {
+        return Err(refused::ROOM);
+    }
+    let durations = &durations[..positions * levels];
+    if durations.iter().fold(0, |all, duration| all | duration) > LONGEST_TIME {
+        return Err(refused::DURATION);
+    }
+    let (mut summaries, mut worst) = ([0; CELLS * SUMMARY_NUMBERS], [0; CELLS]);
+    let (summaries, worst) = (&mut summaries[..cells * SUMMARY_NUMBERS], &mut worst[..cells]);
+    order[..n].copy_from_slice(&arranged[..n]);
+    fill(image, shape, &order[..n], summaries, worst);
+    let body = Body { n: n as u32, levels: levels as u32, cycle: shape.cycle, repeats };
+    Ok(run(body, summaries, worst, durations, &mut given[..positions], &mut marks[..positions]))
+}
+
+/// The cycle over planned tables.
+fn run(
+    body: Body,
+    summaries: &[u32],
+    worst: &[u32],
+    durations: &[u32],
+    given: &mut [u8],
+    marks: &mut [u8],
+) -> BodyDried {
+    let (n, levels) = (body.n as usize, body.levels as usize);
+    let mut cycle = BodyDried { positions: body.n * body.repeats, ..BodyDried::default() };
+    let (mut i, mut place, mut bodies) = (0, 0, body.repeats - 1);
+    while i < given.len() {
+        let Decision { level, late, grant } = decide(body, summaries, worst, place, bodies, cycle.end);
+        cycle.decisions += 1;
+        cycle.late |= late;
+        let last = i + grant as usize;
+        // What an overrun leaves of the coast is written again.
+        given[i..last].fill(level as u8);
+        marks[i..last].fill(0);
+        marks[i] = 1;
+        for row in durations[i * levels..last * levels].chunks_exact(levels) {
+            let duration = row[level];
+            cycle.end += u64::from(duration);
+            let overran = duration > worst[place * levels + level];
+            i += 1;
+            place += 1;
+            if place == n {
+                place = 0;
+                bodies = bodies.wrapping_sub(1);
+            }
+            if overran {
+                cycle.overrun = true;
+                break;
+            }
+        }
+    }
+    cycle
+}
