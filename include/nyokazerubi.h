@@ -110,8 +110,8 @@
  *   in all, to plan and rehearse a recording       6043   42838
  *
  *   summaries          uint32_t  12nL               864    6144   of a body, by position and level, 3 numbers each
- *   body run           record    48                  48      48
- *   in all, to plan and run a body repeated        1755   12150   the image, order, worst_by_position and these, for any number N of repeats
+ *   body run           record    40                  40      40
+ *   in all, to plan and run a body repeated        1747   12142   the image, order, worst_by_position and these, for any number N of repeats
  *
  *   durations          uint32_t  4nNL            466560 3317760   of 1620 repeats, for a dry run of a body repeated
  *   given              uint8_t   nN               14580  103680   by position of all repeats
@@ -140,7 +140,7 @@ extern "C" {
 #endif
 
 /* The version of this boundary, and that of the archive that is linked: a host compares them once. */
-#define NYOKAZERUBI_BOUNDARY 1u
+#define NYOKAZERUBI_BOUNDARY 2u
 uint32_t nyokazerubi_boundary(void);
 
 #define NYOKAZERUBI_MOST_ACTIONS 64
@@ -437,15 +437,15 @@ struct nyokazerubi_limited nyokazerubi_body_bound(
 
 /* The run record of a body repeated, kept and lent as that of a plain cycle. */
 struct nyokazerubi_body_run {
-    uint64_t clock; /* the last accepted one, at most 1073741823 */
     struct nyokazerubi_body body;
+    uint64_t clock;    /* the last accepted one, at most 1073741823 */
     uint32_t position; /* actions ended, of all repeats, and while one runs its position */
     uint32_t level;    /* the last given one */
-    uint32_t left;     /* actions left of the coast */
     uint32_t decisions;
-    bool running;
+    uint8_t left; /* actions left of the coast */
     bool overrun; /* to the end of the cycle */
-    bool late;    /* to the end of the cycle */
+    bool running;
+    bool late; /* to the end of the cycle */
 };
 
 /* Starts a cycle in the record, whatever bytes it held. 3, 19, which leave a record of zero actions. */

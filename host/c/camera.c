@@ -17,7 +17,7 @@ _Static_assert(sizeof(struct nyokazerubi_line) == 20, "line");
 _Static_assert(sizeof(struct nyokazerubi_body) == 16, "body");
 _Static_assert(sizeof(struct nyokazerubi_body_planned) == 20, "body planned");
 _Static_assert(sizeof(struct nyokazerubi_limited) == 16, "limited");
-_Static_assert(sizeof(struct nyokazerubi_body_run) == 48, "body run");
+_Static_assert(sizeof(struct nyokazerubi_body_run) == 40, "body run");
 _Static_assert(sizeof(struct nyokazerubi_body_framed) == 24, "body framed");
 _Static_assert(sizeof(struct nyokazerubi_reading) == 16, "reading");
 

@@ -860,7 +860,7 @@ uint32_t fast_body_ask(fast_body_run *run, const uint8_t *order, size_t order_ro
     }
     decision d = body_decide(body, summaries, worst, place, body.repeats - 1 - repeat, run->clock);
     run->level = d.level;
-    run->left = d.grant - 1;
+    run->left = (uint8_t)(d.grant - 1);
     run->decisions++;
     run->late |= d.late;
     *given = (fast_given){action, d.level, true, d.late};

@@ -47,10 +47,11 @@ typedef struct {
 } fast_body;
 
 typedef struct {
-    uint64_t clock;
     fast_body body;
-    uint32_t position, level, left, decisions;
-    bool running, overrun, late;
+    uint64_t clock;
+    uint32_t position, level, decisions;
+    uint8_t left;
+    bool overrun, running, late;
 } fast_body_run;
 
 typedef struct {

@@ -4,7 +4,7 @@
 #![allow(dead_code, clippy::too_many_arguments)]
 
 /// The version of this boundary; [`nyokazerubi_boundary`] has that of the archive that is linked.
-pub const BOUNDARY: u32 = 1;
+pub const BOUNDARY: u32 = 2;
 
 pub const MOST_ACTIONS: usize = 64;
 pub const MOST_LEVELS: usize = 8;
@@ -211,18 +211,18 @@ pub struct Limited {
     pub limit: i64,
 }
 
-/// The run record of a body repeated: 48 bytes, the marks last.
+/// The run record of a body repeated: 40 bytes, none of them padding.
 #[derive(Clone, Copy, Debug, Default, PartialEq, Eq)]
 #[repr(C)]
 pub struct BodyRun {
-    pub clock: u64,
     pub body: Body,
+    pub clock: u64,
     pub position: u32,
     pub level: u32,
-    pub left: u32,
     pub decisions: u32,
-    pub running: bool,
+    pub left: u8,
     pub overrun: bool,
+    pub running: bool,
     pub late: bool,
 }
 

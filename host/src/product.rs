@@ -20,6 +20,23 @@ fn refused<T: PartialEq + std::fmt::Debug>(number: u32, values: &T, none: &T) ->
     Err(number as u8)
 }
 
+/// What an asking answers. The values go where they are wanted one by one: laid in memory for a refusal too and taken up whole they would cost more
+/// than the call.
+#[inline(always)]
+fn given(answer: Given) -> Answer<calls::Given> {
+    let Given { refusal, action, level, decided, late } = answer;
+    if refusal.number == ACCEPTED {
+        return Ok(calls::Given { action, level, decided, late });
+    }
+    none_given(answer)
+}
+
+#[cold]
+fn none_given(answer: Given) -> Answer<calls::Given> {
+    let Given { refusal, action, level, decided, late } = answer;
+    refused(refusal.number, &calls::Given { action, level, decided, late }, &calls::Given::default())
+}
+
 /// The product.
 #[derive(Clone, Copy, Debug)]
 pub struct Product;
@@ -163,7 +180,7 @@ impl Calls for Product {
     }
 
     fn ask_lent(&self, run: &mut Run, order: &[u8], limits: &[i32], bounds: &[i32]) -> Answer<calls::Given> {
-        let Given { refusal, action, level, decided, late } = unsafe {
+        given(unsafe {
             nyokazerubi_ask(
                 run,
                 order.as_ptr(),
@@ -173,8 +190,7 @@ impl Calls for Product {
                 bounds.as_ptr(),
                 bounds.len(),
             )
-        };
-        answer(refusal, calls::Given { action, level, decided, late }, calls::Given::default())
+        })
     }
 
     fn report(&self, run: Run, clock: u32, worst_by_position: &[u32]) -> (Run, u8) {
@@ -355,7 +371,7 @@ impl Calls for Product {
     }
 
     fn body_ask(&self, run: &mut BodyRun, tables: BodyTables) -> Answer<calls::Given> {
-        let Given { refusal, action, level, decided, late } = unsafe {
+        given(unsafe {
             nyokazerubi_body_ask(
                 run,
                 tables.order.as_ptr(),
@@ -365,8 +381,7 @@ impl Calls for Product {
                 tables.worst_by_position.as_ptr(),
                 tables.worst_by_position.len(),
             )
-        };
-        answer(refusal, calls::Given { action, level, decided, late }, calls::Given::default())
+        })
     }
 
     fn body_report(&self, run: &mut BodyRun, clock: u32, worst_by_position: &[u32]) -> u8 {

@@ -553,7 +553,7 @@ fn body_run_records() {
             (BodyRun { clock: 5, ..still }, BodyRun { clock: 1 << 32 | 5, ..still }),
             (BodyRun { level: 2, ..still }, BodyRun { level: 3, ..still }),
             (BodyRun { left: 15, ..still }, BodyRun { left: 16, ..still }),
-            (BodyRun { left: 15, ..runs }, BodyRun { left: u32::MAX, ..runs }),
+            (BodyRun { left: 15, ..runs }, BodyRun { left: u8::MAX, ..runs }),
             (BodyRun { position: 98, left: 2, ..still }, BodyRun { position: 98, left: 3, ..still }),
             (BodyRun { position: 98, left: 1, ..runs }, BodyRun { position: 98, left: 2, ..runs }),
             (BodyRun { position: 45, decisions: 45, ..still }, BodyRun { position: 45, decisions: 46, ..still }),

@@ -114,15 +114,19 @@ fn sizes() {
             4 * table_entries(n * MOST_REPEATS as usize, levels),
         ]
     };
-    assert_eq!([body(9, 8), body(64, 8)], [[1755, 466_560], [12_150, 3_317_760]]);
+    assert_eq!([body(9, 8), body(64, 8)], [[1747, 466_560], [12_142, 3_317_760]]);
 }
 
 /// The records of a body repeated lie as other hosts have them.
 #[test]
 fn layout() {
     assert_eq!([size_of::<Body>(), size_of::<BodyPlanned>(), size_of::<Limited>()], [16, 20, 16]);
-    assert_eq!([size_of::<BodyRun>(), size_of::<BodyFramed>()], [48, 24]);
-    assert_eq!([offset_of!(BodyRun, body), offset_of!(BodyRun, position), offset_of!(BodyRun, running)], [8, 24, 40]);
+    assert_eq!([size_of::<BodyRun>(), size_of::<BodyFramed>()], [40, 24]);
+    // The run record has no padding: each field begins where the one before it ends.
+    assert_eq!([offset_of!(BodyRun, body), offset_of!(BodyRun, clock), offset_of!(BodyRun, position)], [0, 16, 24]);
+    assert_eq!([offset_of!(BodyRun, level), offset_of!(BodyRun, decisions)], [28, 32]);
+    assert_eq!([offset_of!(BodyRun, left), offset_of!(BodyRun, overrun)], [36, 37]);
+    assert_eq!([offset_of!(BodyRun, running), offset_of!(BodyRun, late)], [38, 39]);
     assert_eq!(
         [offset_of!(Limited, limit), offset_of!(BodyFramed, end), offset_of!(BodyFramed, positions)],
         [8, 8, 16]

@@ -1,11 +1,10 @@
 -- A coast found from below: where its last position stands, when that begins at the latest, and that it qualifies so far. Assumes nothing.
 use Prim.Native.Nat.{ℕ, suc, _+_, _-_, _*_, _%_, _≤_, _<_, min}
-use mathlib.Core.Path.{_≡_, refl, ap, sym}
-use mathlib.Core.Bool.{Bool, true, false}
-use mathlib.Core.List.{List, []}
+use mathlib.Core.Path.{_≡_, refl, ap, sym, _∙_}
+use mathlib.Core.Bool.{Bool, true, false, not, _&&_, _||_}
+use mathlib.Core.List.{List}
+use mathlib.Core.Logic.{_⊎_, inl, inr}
 use native.Mathlib.Nat.{mul-le-mul, mul-le-mul-right}
-use native.Mathlib.Numerals.{add-one}
-use native.Mathlib.Decide.{decLe}
 use native.Mathlib.Omega.{arith}
 use lib.IntN.{pos, _-ℤ_}
 use lib.Signed.{leZ}
@@ -13,14 +12,15 @@ use Rattle.rules.specs.Numbers.{longest-coast}
 use Rattle.rules.specs.Words.{sum, span}
 use Rattle.rules.specs.Run.{left-granted}
 use Rattle.rules.specs.Dry.{cell}
-use Rattle.rules.specs.Repeat.{LentBody, positions, lent-plan}
+use Rattle.rules.specs.Repeat.{LentBody, positions, stretch-at, lent-plan}
 use Rattle.rules.specs.declared.Body.{Body}
 use Rattle.rules.proofs.Sums.{sum-longer}
 use Rattle.rules.proofs.Tests.{not-both}
 use Rattle.repeat_laws.specs.Standing.{Standing}
 use Rattle.repeat_laws.proofs.Standing.{stands, place-in, fewer}
 use Rattle.repeat_laws.proofs.Coasting.{Coasting, coasting-one, coasting-more, stops-rising, stops-falling, stops-ending, granted}
-use Rattle.repeat_limits.specs.Limits.{Summed}
+use Rattle.repeat_limits.specs.Limits.{Summed, BodiesAfter, mix-before}
+use Rattle.repeat_limits.specs.declared.Later.{Later}
 use Rattle.repeat_limits.proofs.Sizes.{mix-of}
 use Rattle.repeat_limits.proofs.Reading.{limit-read}
 use Rattle.repeat_decision.specs.Decision.{Summarised}
@@ -58,24 +58,37 @@ pub reads-limit : {b : Body} (T : LentBody) {x place after : ℕ} (t q : ℕ) �
     → leZ (pos t) (pos (b .cycle) -ℤ pos (mix-of (T .summaries) (place * b .levels + q) q after)) ≡ leZ (pos t) (lent-plan b T .limit x q)
 reads-limit T t q s = ap (leZ (pos t)) (sym (limit-read T q s))
 
--- What is told of the level above, at a row and by summaries alone: of a level that is there its limit, else nothing.
-pub record Told (b : Body) (s : List ℕ) (row above after t : ℕ) (r : Bool) : Type 0 where
-  pub limit : (x place : ℕ) → row ≡ place * b .levels → Standing b x place after → above < b .levels
-      → r ≡ leZ (pos t) (lent-plan b (record { order = []; summaries = s; worst = [] }) .limit x above)
-  pub none : b .levels ≤ above → r ≡ false
+-- the same by the bodies after it as numbers
+pub reads-within : {b : Body} (T : LentBody) {x place after q : ℕ} {l : Later} (t entry : ℕ) → BodiesAfter (T .summaries) q after l
+    → entry ≡ place * b .levels + q → Standing b x place after
+    → leZ (pos t) (pos (b .cycle) -ℤ pos (mix-before (stretch-at (T .summaries) entry) l)) ≡ leZ (pos t) (lent-plan b T .limit x q)
+reads-within {b} T {after = after} {q = q} t entry B e s =
+    ap (λ (y : ℕ). leZ (pos t) (pos (b .cycle) -ℤ pos y)) (B .joins (stretch-at (T .summaries) entry) ∙ ap (λ (y : ℕ). mix-of (T .summaries) y q after) e)
+    ∙ reads-limit T t q s
 
-module _ {b : Body} (T : LentBody) {place after q t : ℕ} {r : Bool} (told : Told b (T .summaries) (place * b .levels) (q + 1) after t r)
-    {x : ℕ} (s : Standing b x place after) where
-  pub told-limit : suc q < b .levels → r ≡ leZ (pos t) (lent-plan b T .limit x (suc q))
-  unfolding lent-plan
-  told-limit l = rw (add-one q) at (told .limit x place refl s (omega arith))
+-- a coast stops by the level above, or only where the level itself does not fit
+pub stops-above : (a b c : Bool) → a ≡ true → b ≡ true → true ≡ ((a && b) || not c)
+stops-above a b c e f = rw (e, f)
 
-  pub told-some : r ≡ true → suc q < b .levels
-  told-some e = by (decLe (b .levels) (q + 1))
-    where
-      by : Dec (b .levels ≤ q + 1) → suc q < b .levels
-      by (yes top) = absurd (not-both e (told .none top))
-      by (no low) = omega arith
+pub stops-own : (a b c : Bool) {w : Bool} → w ≡ c → (a ≡ false) ⊎ (b ≡ false) → not w ≡ ((a && b) || not c)
+stops-own a b c e (inl f) = rw (e, f)
+stops-own true b c e (inr f) = rw (e, f)
+stops-own false b c e (inr f) = rw e
+
+-- why it stops, and why it goes on
+pub stop-why : (a b c : Bool) → ((a && b) || not c) ≡ true → ((a ≡ true) × (b ≡ true)) ⊎ (c ≡ false)
+stop-why true true c e = inl (refl, refl)
+stop-why true false true e = absurd (not-both e refl)
+stop-why true false false e = inr refl
+stop-why false b true e = absurd (not-both e refl)
+stop-why false b false e = inr refl
+
+pub go-why : (a b c : Bool) → ((a && b) || not c) ≡ false → (a ≡ true → b ≡ false) × (c ≡ true)
+go-why true true c e = absurd (not-both refl e)
+go-why true false true e = ((λ h. refl), refl)
+go-why true false false e = absurd (not-both refl e)
+go-why false b true e = ((λ h. absurd (not-both h refl)), refl)
+go-why false b false e = absurd (not-both refl e)
 
 -- another place of the same body
 pub elsewhere : {b : Body} {s : List ℕ} {place after x to later : ℕ} → Summarised b s place after → Standing b x to later → Summarised b s to later

@@ -1,5 +1,7 @@
 // A frame of a body repeated, run dry: the image is planned and the frame run over given durations, in one call. Demands 2 and 3 over the unrolled
 // positions are its promise.
+use repeat_decision::choose;
+use repeat_limits::spot_of;
 use repeat_run::BodyRun;
 use rules::Body;
 use rules::Refusal;
@@ -50,9 +52,10 @@ fn asked(run: BodyRun, summaries: &[u32], worst: &[u32]) -> BodyRun
         (lent-plan (run .body) (record { order = []; summaries = now (summaries .entry); worst = now (worst .entry) })) (steps-of run)) ⌝ }
 {
     if run.left == 0 {
-        let made = run.decided(summaries, worst);
-        let next = made.run;
-        return next;
+        let body = run.body;
+        let spot = spot_of(body, run.position as usize);
+        let made = choose(body, summaries, worst, spot.place, spot.after, run.clock);
+        return run.decided(made);
     }
     run.coasted()
 }

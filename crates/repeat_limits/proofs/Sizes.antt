@@ -6,50 +6,55 @@ use mathlib.Core.Logic.{_≢_}
 use native.Mathlib.Nat.{mul-le-mul}
 use native.Mathlib.Omega.{arith}
 use lib.ListN.{getD}
+use borrow.Author.Tests.{eq-eqb, ne-eqb}
 use Rattle.rules.specs.Numbers.{most-repeats, summary-numbers}
 use Rattle.rules.specs.Repeat.{Sums, followed, bodies, stretch-at}
-use Rattle.repeat_laws.proofs.Ranges.{Within, followed-within}
-use Rattle.repeat_limits.specs.Limits.{most-entry, greatest-mix}
-
--- the entries of a lent list
-pub record Small (l : List ℕ) : Type 0 where
-  pub at : (k : ℕ) → getD l k 0 ≤ most-entry
-
-pub small-stretch : {l : List ℕ} → Small l → (x : ℕ) → Within most-entry (stretch-at l x)
-small-stretch s x = record { average = s .at _; lowest = s .at _; mix = s .at _ }
+use Rattle.repeat_limits.specs.Limits.{most-entry, greatest-later, mix-before}
+use Rattle.repeat_limits.specs.declared.Later.{Later}
 
 -- so many bodies, or one less, times a number of 32 bits
-pub times-small : (m x : ℕ) → m < most-repeats → x ≤ most-entry → m * x ≤ 6953552050605
+pub times-small : (m x : ℕ) → m < most-repeats → x ≤ most-entry → m * x ≤ greatest-later
 times-small m x few h = let less : m ≤ 1619 = omega arith in mul-le-mul less h
+
+-- one of some bodies is counted by its M, the others by the greater of A and W
+pub later-small : (m x y : ℕ) → m ≢ 0 → m < most-repeats → x ≤ most-entry → y ≤ most-entry → y + (m - 1) * x ≤ greatest-later
+later-small m x y some few h k = let less : m - 1 ≤ 1618 = omega arith in omega (arith, mul-le-mul less h, k)
 
 -- M of the rest of a body, then of fewer bodies than there are repeats
 abbrev pub mix-of : List ℕ → ℕ → ℕ → ℕ → ℕ
 mix-of l x q after = followed (stretch-at l x) (bodies (stretch-at l q) after) .mix
 
-pub mix-small : {l : List ℕ} → Small l → (x q after : ℕ) → after < most-repeats → mix-of l x q after ≤ greatest-mix
-mix-small s x q after few =
-    omega (arith, followed-within (small-stretch s x) (small-stretch s q) after .mix, times-small after most-entry few (omega arith))
-
 -- with some bodies after it
-pub mix-some : (x y : Sums) (after : ℕ) → after ≢ 0
+mix-some : (x y : Sums) (after : ℕ) → after ≢ 0
     → followed x (bodies y after) .mix ≡ max (x .mix + after * y .lowest) (x .average + (y .mix + (after - 1) * max (y .average) (y .lowest)))
 mix-some x y zero some = absurd (some refl)
 mix-some x y (suc m) some = let e : suc m - 1 ≡ m = omega arith in rw e
 
--- the same by numbers read one at a time: those of entry x, `a` and `m`, and those of entry q
-pub record Read (l : List ℕ) (x q a m average lowest mix : ℕ) : Type 0 where
-  pub own-average : a ≡ getD l (x * summary-numbers + 0) 0
-  pub own-mix : m ≡ getD l (x * summary-numbers + 2) 0
+-- the numbers of an entry, read one at a time
+pub record Read (l : List ℕ) (q average lowest mix : ℕ) : Type 0 where
   pub average-is : average ≡ getD l (q * summary-numbers + 0) 0
   pub lowest-is : lowest ≡ getD l (q * summary-numbers + 1) 0
   pub mix-is : mix ≡ getD l (q * summary-numbers + 2) 0
 
-pub mix-read : {l : List ℕ} {x q a m average lowest mix : ℕ} → Read l x q a m average lowest mix → (after : ℕ) → after ≢ 0
-    → max (m + after * lowest) (a + (mix + (after - 1) * max average lowest)) ≡ mix-of l x q after
-mix-read {l} {x} {q} R after some =
-    let ex : x * summary-numbers + 0 ≡ x * summary-numbers = omega arith in
-    let eq : q * summary-numbers + 0 ≡ q * summary-numbers = omega arith in
-    rw (R .own-average, R .own-mix, R .average-is, R .lowest-is, R .mix-is, ex, eq) (sym (mix-some (stretch-at l x) (stretch-at l q) after some))
+pub some-join : {l : List ℕ} {q average lowest mix : ℕ} → Read l q average lowest mix → (after : ℕ) → after ≢ 0 → (x : Sums)
+    → max (x .mix + after * lowest) (x .average + (mix + (after - 1) * max average lowest)) ≡ followed x (bodies (stretch-at l q) after) .mix
+some-join {l} {q} R after some x =
+    let first : q * summary-numbers + 0 ≡ q * summary-numbers = omega arith in
+    rw (R .average-is, R .lowest-is, R .mix-is, first) (sym (mix-some x (stretch-at l q) after some))
 
-pub mix-none : (x y : Sums) (after : ℕ) → after ≡ 0 → followed x (bodies y after) .mix ≡ x .mix
-mix-none x y after e = rw e
+pub none-joins : (x y : Sums) (after : ℕ) → after ≡ 0 → x .mix ≡ followed x (bodies y after) .mix
+none-joins x y after e = rw e
+
+-- the bodies after a stretch as numbers: none, or some
+pub before-none : (l : Later) (x : Sums) → l .bodies ≡ 0 → mix-before x l ≡ x .mix
+before-none l x e = rw (eq-eqb (l .bodies) 0 e)
+
+pub before-some : (l : Later) (x : Sums) → l .bodies ≢ 0 → mix-before x l ≡ max (x .mix + l .lowest) (x .average + l .mix)
+before-some l x some = rw (ne-eqb (l .bodies) 0 some)
+
+-- the stretch's own numbers read one at a time, `m` its M and `a` its averages
+pub read-before : (s : List ℕ) (x : ℕ) {a m : ℕ} (l : Later) → m ≡ getD s (x * summary-numbers + 2) 0 → a ≡ getD s (x * summary-numbers + 0) 0 → l .bodies ≢ 0
+    → max (m + l .lowest) (a + l .mix) ≡ mix-before (stretch-at s x) l
+read-before s x l mix average some =
+    let first : x * summary-numbers + 0 ≡ x * summary-numbers = omega arith in
+    rw (mix, average, first) (sym (before-some l (stretch-at s x) some))

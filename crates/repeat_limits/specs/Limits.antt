@@ -1,7 +1,9 @@
 -- The calls for a limit and a coast bound of a body repeated: what they answer, on lent summaries whoever wrote them, and on planning's.
-use Prim.Native.Nat.{ℕ, suc, _+_, _-_, _*_, _≤_, _<_}
+use Prim.Native.Nat.{ℕ, suc, _+_, _-_, _*_, _≤_, _<_, max}
 use mathlib.Core.Path.{_≡_}
+use mathlib.Core.Bool.{cond}
 use mathlib.Core.List.{List, []}
+use lib.Dec.{eqb}
 use lib.IntN.{pos}
 use lib.ListN.{length}
 use Rattle.rules.specs.Numbers.{most-actions, most-levels, last-clock, most-repeats, longest-coast, summary-numbers}
@@ -9,9 +11,10 @@ use Rattle.rules.specs.Image.{Profile}
 use Rattle.rules.specs.Order.{Order, TheOrder}
 use Rattle.rules.specs.Limits.{tables, limit, planned}
 use Rattle.rules.specs.Refusals.{kept}
-use Rattle.rules.specs.Repeat.{unrolled, LentBody, positions, lent-plan, PlannedBody, body-limit-refusal, body-bound-refusal, bound-or-absent}
+use Rattle.rules.specs.Repeat.{unrolled, Sums, followed, bodies, stretch-at, LentBody, positions, lent-plan, PlannedBody, body-limit-refusal, body-bound-refusal, bound-or-absent}
 use Rattle.rules.specs.declared.Body.{Body}
 use Rattle.repeat_limits.specs.declared.Limited.{Limited}
+use Rattle.repeat_limits.specs.declared.Later.{Later}
 
 -- ---- the calls
 
@@ -37,9 +40,12 @@ pub record BoundAnswers (b : Body) (lent : LentBody) (i q r : ℕ) (x : Limited)
 abbrev pub latest : ℕ
 latest = 4611686018427387904
 
--- entries of 32 bits, whoever wrote them: one, the most that 1,620 bodies come to, and that with the worst times of 15 positions
+-- entries of 32 bits, whoever wrote them: one, the most that 1,619 and 1,620 bodies come to, and that with the worst times of 15 positions
 abbrev pub most-entry : ℕ
 most-entry = 4294967295
+
+abbrev pub greatest-later : ℕ
+greatest-later = 6953552050605
 
 abbrev pub greatest-mix : ℕ
 greatest-mix = 6957847017900
@@ -70,6 +76,22 @@ pub record Summed (summaries : List ℕ) (x q after : ℕ) : Type 0 where
   pub own : x * summary-numbers + summary-numbers ≤ length summaries
   pub whole : q * summary-numbers + summary-numbers ≤ length summaries
   pub few : after < most-repeats
+
+-- M of a stretch and the bodies after it, by these as numbers
+abbrev pub mix-before : Sums → Later → ℕ
+mix-before x l = cond (eqb (l .bodies) 0) (x .mix) (max (x .mix + l .lowest) (x .average + l .mix))
+
+-- so many bodies, each summed up in entry q: what they add to any stretch before them
+pub record BodiesAfter (summaries : List ℕ) (q after : ℕ) (l : Later) : Type 0 where
+  pub few-lowest : l .lowest ≤ greatest-later
+  pub few-mix : l .mix ≤ greatest-later
+  pub joins : (x : Sums) → mix-before x l ≡ followed x (bodies (stretch-at summaries q) after) .mix
+
+-- the summaries of entry x, and bodies after it
+pub record Before (summaries : List ℕ) (x : ℕ) (l : Later) : Type 0 where
+  pub own : x * summary-numbers + summary-numbers ≤ length summaries
+  pub few-lowest : l .lowest ≤ greatest-later
+  pub few-mix : l .mix ≤ greatest-later
 
 -- a place of the body, and after the last one a body more
 pub record MoreAfter (b : Body) (place after : ℕ) : Type 0 where

@@ -8,11 +8,11 @@ ghost use Prim.Native.Nat.{ℕ, suc, _+_, _*_, _≤_, _<_, max};
 ghost use lib.IntN.{pos, _-ℤ_};
 ghost use lib.ListN.{length, getD};
 ghost use lib.Signed.{leZ, mag};
-ghost use Rattle.rules.specs.Numbers.{summary-numbers};
+ghost use Rattle.rules.specs.Numbers.{most-repeats, summary-numbers};
 ghost use Rattle.rules.specs.Refusals.{first};
 ghost use Rattle.rules.specs.Repeat.{followed, bodies, stretch-at, positions, lent-plan, body-tests, body-limit-refusal, body-bound-refusal};
 ghost use Rattle.repeat_laws.specs.Standing.{Standing};
-ghost use Rattle.repeat_limits.specs.Limits.{latest, most-entry, greatest-mix, greatest-reach, CountsIn, Stands, Summed, MoreAfter, Coasts, LimitAnswers, BoundAnswers};
+ghost use Rattle.repeat_limits.specs.Limits.{latest, most-entry, greatest-mix, greatest-reach, CountsIn, Stands, Summed, BodiesAfter, Before, mix-before, MoreAfter, Coasts, LimitAnswers, BoundAnswers};
 
 // What the limit or the coast bound asked for is; with a refusal it is 0.
 #[repr(C)]
@@ -38,30 +38,65 @@ fn number_at(summaries: &[u32], x: usize, k: usize) -> u64
     summaries[x * rules::SUMMARY_NUMBERS + k] as u64
 }
 
-// M of the rest of a body, summed up in entry x, with so many whole bodies after it, each summed up in entry q.
+// The whole bodies after one at a level, summed up: how many they are, and where there are some W and M of them all.
+pub struct Later {
+    pub bodies: u64,
+    pub lowest: u64,
+    pub mix: u64,
+}
+
+// So many bodies, each summed up in entry q. A coast stays with them as long as it stays in its body, so that they are multiplied once.
+pub fn bodies_after(summaries: &[u32], q: usize, after: u64) -> Later
+    requires { ⌜ (q * summary-numbers + summary-numbers ≤ length (now summaries)) × (after < most-repeats) ⌝ }
+    ensures { λ r. ⌜ BodiesAfter (now (summaries .entry)) q after r ⌝ }
+{
+    if after == 0 {
+        return Later {
+            bodies: 0,
+            lowest: 0,
+            mix: 0,
+        };
+    }
+    let average = number_at(summaries, q, 0);
+    let lowest = number_at(summaries, q, 1);
+    let mix = number_at(summaries, q, 2) + (after - 1) * greater(average, lowest);
+    let all = after * lowest;
+    Later {
+        bodies: after,
+        lowest: all,
+        mix,
+    }
+}
+
+// M of the rest of a body, summed up in entry x, with these bodies after it.
+fn mix_before(summaries: &[u32], x: usize, later: Later) -> u64
+    requires { ⌜ Before (now summaries) x later ⌝ }
+    ensures mixed { λ r. ⌜ r ≡ mix-before (stretch-at (now (summaries .entry)) x) later ⌝ }
+    ensures small { λ r. ⌜ r ≤ greatest-mix ⌝ }
+{
+    let mix = number_at(summaries, x, 2);
+    if later.bodies == 0 {
+        return mix;
+    }
+    greater(mix + later.lowest, number_at(summaries, x, 0) + later.mix)
+}
+
+// The same, with so many bodies after it, each summed up in entry q.
 fn mix_from(summaries: &[u32], x: usize, q: usize, after: u32) -> u64
     requires { ⌜ Summed (now summaries) x q after ⌝ }
     ensures mixed { λ r. ⌜ r ≡ followed (stretch-at (now (summaries .entry)) x) (bodies (stretch-at (now (summaries .entry)) q) after) .mix ⌝ }
     ensures small { λ r. ⌜ r ≤ greatest-mix ⌝ }
 {
-    let mix = number_at(summaries, x, 2);
-    if after == 0 {
-        return mix;
-    }
-    let many = after as u64;
-    let average = number_at(summaries, q, 0);
-    let lowest = number_at(summaries, q, 1);
-    let later = number_at(summaries, q, 2) + (many - 1) * greater(average, lowest);
-    greater(mix + many * lowest, number_at(summaries, x, 0) + later)
+    let later = bodies_after(summaries, q, after as u64);
+    mix_before(summaries, x, later)
 }
 
 // Whether t is at most what this leaves of the cycle, the limit of entry x.
-pub fn within(summaries: &[u32], x: usize, q: usize, after: u32, cycle: u32, t: u64) -> bool
-    requires { ⌜ Summed (now summaries) x q after × (t ≤ latest) ⌝ }
-    ensures { λ r. ⌜ r ≡ leZ (pos t)
-        (pos cycle -ℤ pos (followed (stretch-at (now (summaries .entry)) x) (bodies (stretch-at (now (summaries .entry)) q) after) .mix)) ⌝ }
+pub fn within(summaries: &[u32], x: usize, later: Later, cycle: u32, t: u64) -> bool
+    requires { ⌜ Before (now summaries) x later × (t ≤ latest) ⌝ }
+    ensures { λ r. ⌜ r ≡ leZ (pos t) (pos cycle -ℤ pos (mix-before (stretch-at (now (summaries .entry)) x) later)) ⌝ }
 {
-    t + mix_from(summaries, x, q, after) <= cycle as u64
+    t + mix_before(summaries, x, later) <= cycle as u64
 }
 
 // ---- walking along the positions

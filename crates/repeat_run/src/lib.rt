@@ -1,34 +1,34 @@
 // The run record of a body repeated and its calls: start, ask and report, by the steps of a plain cycle. Each call takes the record and hands the
 // next one back. What a turn is made of is public too, for `repeat_frame`, which runs a whole frame.
-use repeat_decision::left_granted;
-use repeat_decision::level_given;
+use repeat_decision::Choice;
+use repeat_decision::choose;
 use repeat_limits::body_refusal;
 use repeat_limits::spot_of;
-use repeat_limits::within;
 use rules::Body;
 use rules::Refusal;
 use run::Answer;
 ghost use mathlib.Core.Path.{_≡_};
-ghost use mathlib.Core.Bool.{not};
-ghost use mathlib.Core.List.{[]};
 ghost use Prim.Native.Nat.{_+_, _*_, _<_, _≤_};
 ghost use Rattle.rules.specs.Numbers.{most-positions, longest-coast};
-ghost use Rattle.rules.specs.Run.{begun, coast, decide, ended, fits};
-ghost use Rattle.rules.specs.Repeat.{positions, lent-plan, body-in-range, body-start, body-ask-refusal, body-ask, body-report-refusal, body-report};
-ghost use Rattle.repeat_run.specs.Calls.{steps-of, started-of, asked-of, reported-of, MayDecide};
+ghost use Rattle.rules.specs.Limits.{Plan};
+ghost use Rattle.rules.specs.Run.{begun, coast, decide, ended};
+ghost use Rattle.rules.specs.Repeat.{positions, body-in-range, body-start, body-ask-refusal, body-ask, body-report-refusal, body-report};
+ghost use Rattle.repeat_decision.specs.Decision.{Chooses};
+ghost use Rattle.repeat_run.specs.Calls.{steps-of, started-of, asked-of, reported-of};
 
 // The fields and their ranges are `body-in-range` of the rules. The position and the decisions are those of the unrolled system. The clock has 64
-// bits for a dry run, which goes on past the latest clock; between calls it is within it.
+// bits for a dry run, which goes on past the latest clock; between calls it is within it. No byte is left unused between the fields, so that a call
+// copies the record without gaps.
 #[repr(C)]
 pub struct BodyRun {
-    pub clock: u64,
     pub body: Body,
+    pub clock: u64,
     pub position: u32,
     pub level: u32,
-    pub left: u32,
     pub decisions: u32,
-    pub running: bool,
+    pub left: u8,
     pub overrun: bool,
+    pub running: bool,
     pub late: bool,
 }
 
@@ -52,25 +52,19 @@ pub struct BodyReported {
     pub refusal: Refusal,
 }
 
-// A decision made: the record with the action running, and whether no level fits.
-pub struct BodyDecided {
-    pub run: BodyRun,
-    pub late: bool,
-}
-
 // A start sets the body, all else 0 or no.
 pub fn begun(body: Body) -> BodyRun
     ensures { λ r. ⌜ (r .body ≡ body) × (steps-of r ≡ begun (positions body) (body .levels) 0) ⌝ }
 {
     BodyRun {
-        clock: 0,
         body,
+        clock: 0,
         position: 0,
         level: 0,
-        left: 0,
         decisions: 0,
-        running: false,
+        left: 0,
         overrun: false,
+        running: false,
         late: false,
     }
 }
@@ -107,7 +101,7 @@ impl BodyRun {
             return false;
         }
         let n = body.repeats * body.n;
-        let left = self.left;
+        let left = self.left as u32;
         if n < self.position {
             return false;
         }
@@ -130,32 +124,20 @@ impl BodyRun {
         true
     }
 
-    // A decision here and now takes the level given, leaves r - 1 to coast, counts, and sets the late mark where no level fits.
-    pub fn decided(self, summaries: &[u32], worst: &[u32]) -> BodyDecided
-        requires { ⌜ MayDecide (record { order = []; summaries = now summaries; worst = now worst }) (self .body) (steps-of self) ⌝ }
-        ensures body { λ r. ⌜ r .run .body ≡ self .body ⌝ }
-        ensures run { λ r. ⌜ steps-of (r .run) ≡ decide longest-coast
-            (lent-plan (self .body) (record { order = []; summaries = now (summaries .entry); worst = now (worst .entry) })) (steps-of self) ⌝ }
-        ensures late { λ r. ⌜ r .late ≡ not (fits
-            (lent-plan (self .body) (record { order = []; summaries = now (summaries .entry); worst = now (worst .entry) })) (self .clock) (self .position)) ⌝ }
+    // A decision takes the level given, leaves r - 1 to coast, counts, and sets the late mark where no level fits. What it reads of the summaries is a
+    // function apart, which is handed no record, so that an asking keeps its own in registers.
+    pub fn decided(self, made: Choice) -> BodyRun
+        requires { ⌜ self .decisions ≤ most-positions ⌝ }
+        ensures { λ r. ⌜ (r .body ≡ self .body)
+            × ((P : Plan) → Chooses P (self .clock) (self .position) made → steps-of r ≡ decide longest-coast P (steps-of self)) ⌝ }
     {
-        let body = self.body;
-        let t = self.clock;
-        let spot = spot_of(body, self.position as usize);
-        let level = level_given(body, summaries, spot.place, spot.after, t);
-        let entry = spot.place * body.levels as usize + level;
-        let late = !within(summaries, entry, level, spot.after, body.cycle, t);
-        let mut left = 0;
-        if !late {
-            left = left_granted(body, summaries, worst, spot.place, spot.after, level, t);
-        }
         let mut run = self;
-        run.level = level as u32;
-        run.left = left;
+        run.level = made.level;
         run.decisions = self.decisions + 1;
+        run.left = made.left;
         run.running = true;
-        run.late = self.late | late;
-        BodyDecided { run, late }
+        run.late = self.late | made.late;
+        run
     }
 
     // A coasted asking gives the same level undecided and lowers what is left by 1.
@@ -227,16 +209,16 @@ impl BodyRun {
             };
         }
         let body = self.body;
-        let place = self.position % body.n;
-        let action = self.position - place + order[place as usize] as u32;
+        let spot = spot_of(body, self.position as usize);
+        let place = spot.place;
+        let action = self.position - place as u32 + order[place] as u32;
         if self.left == 0 {
-            let made = self.decided(summaries, worst);
-            let run = made.run;
+            let made = choose(body, summaries, worst, place, spot.after, self.clock);
             return BodyAsked {
-                run,
+                run: self.decided(made),
                 answer: Answer::Given {
                     action,
-                    level: run.level,
+                    level: made.level,
                     decided: true,
                     late: made.late,
                 },

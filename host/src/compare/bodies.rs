@@ -172,7 +172,7 @@ impl Pair<'_> {
         if answer.late {
             self.tally.event("body late");
         }
-        if run.position % run.body.n + run.left >= run.body.n {
+        if run.position % run.body.n + u32::from(run.left) >= run.body.n {
             self.tally.event("coast into the next repeat");
         }
     }

@@ -83,7 +83,7 @@ impl Draw {
             body,
             position,
             level: self.between(0, body.levels - 1),
-            left: if self.once_in(2) { 0 } else { self.between(0, (positions - reached).min(15)) },
+            left: if self.once_in(2) { 0 } else { self.between(0, (positions - reached).min(15)) as u8 },
             decisions: self.between(0, reached),
             running,
             overrun: self.once_in(2),
@@ -100,12 +100,19 @@ impl Draw {
             3 => run.position = self.edge(positions),
             4 => run.clock = self.pick(&[LAST_CLOCK.into(), u64::from(LAST_CLOCK) + 1, 1 << 32, u64::MAX]),
             5 => run.level = self.edge(run.body.levels - 1),
-            6 => run.left = self.edge(15),
-            7 => run.left = self.edge(positions - reached),
+            6 => run.left = self.edged_left(15),
+            7 => run.left = self.edged_left(positions - reached),
             8 => run.decisions = self.edge(reached),
             _ => run.running = !run.running,
         }
         run
+    }
+
+    /// What is left of a coast, a byte: at a limit, over it by a little, or anything above 15.
+    fn edged_left(&mut self, limit: u32) -> u8 {
+        let most = u32::from(u8::MAX);
+        let left = if self.once_in(4) { self.between(16, most) } else { self.edge(limit) };
+        left.min(most) as u8
     }
 
     /// Summaries that no planner wrote, for a body and a clock: any words, or such that many limits are close to the clock.

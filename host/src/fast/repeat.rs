@@ -288,7 +288,7 @@ pub fn body_ask(run: &mut BodyRun, tables: BodyTables) -> Answer<Given> {
     let (summaries, worst) = (&summaries[..cells * SUMMARY_NUMBERS], &worst[..cells]);
     let decision = decide(body, summaries, worst, place as usize, body.repeats - 1 - repeat, run.clock);
     run.level = decision.level as u32;
-    run.left = decision.grant - 1;
+    run.left = (decision.grant - 1) as u8;
     run.decisions += 1;
     run.late |= decision.late;
     Ok(Given { action, level: run.level, decided: true, late: decision.late })

@@ -315,7 +315,7 @@ pub fn body_fields_out(run: BodyRun) -> Vec<&'static str> {
         ("clock", run.clock > u64::from(LAST_CLOCK)),
         ("running", reached > positions && run.running),
         ("level", run.level >= levels),
-        ("coast left", run.left > 15 || number(run.left) + reached > positions),
+        ("coast left", run.left > 15 || i64::from(run.left) + reached > positions),
         ("decisions", number(run.decisions) > reached),
     ];
     tests.into_iter().filter(|(_, out)| *out).map(|(name, _)| name).collect()
@@ -346,7 +346,7 @@ fn given(run: BodyRun, bounds: &impl Limits, action: u32) -> (BodyRun, Given) {
     let next = BodyRun {
         running: true,
         level: level as u32,
-        left: granted(bounds, i, t, level) as u32 - 1,
+        left: (granted(bounds, i, t, level) - 1) as u8,
         decisions: run.decisions + 1,
         late: run.late || late,
         ..run

@@ -29,10 +29,10 @@ returns-3 : tie.Need-returns-3
 returns-3 c = not-ranged _ _ (λ none C. omega (arith, C .left))
 
 add-asked : tie.Need-add-asked
-add-asked c = omega (arith, few (c .before .before .before .before .before .before), c .before .one-if .ensures)
+add-asked c = omega (arith, few (c .before .before .before .before .before .before .before), c .before .one-if .ensures)
 
 add-if4 : tie.Need-add-if4
-add-if4 c = omega (arith, few (c .before .before .before .before .before .before), c .before .one-if .ensures)
+add-if4 c = omega (arith, few (c .before .before .before .before .before .before .before), c .before .one-if .ensures)
 
 returns-4 : tie.Need-returns-4
 returns-4 c = not-ranged _ _ (λ none C. omega (arith, C .room, c .before .before .one-if .ensures))
@@ -52,7 +52,7 @@ returns-8 : tie.Need-returns-8
 returns-8 c =
     let asked = c .before .before .before .before .before .before .before .before .before in
     let e = asked .one-if .ensures in
-    let else1 = asked .before .before .before .before .before in
+    let else1 = asked .before .before .before .before .before .before in
     is-ranged _ _ (none else1) (record {
       position = omega arith;
       clock = omega arith;
@@ -70,6 +70,7 @@ in-range-spec =
     (λ c κs. search needs)
     returns
     mul-n
+    (λ c. search needs)
     returns-2
     (λ c. search needs)
     returns-3

@@ -1,0 +1,33 @@
+-- No level fits, or the greatest that does with its coast. Assumes nothing.
+use Prim.Native.Nat.{_-_}
+use mathlib.Core.List.{[]}
+use native.Mathlib.Omega.{arith}
+use borrow.Author.Needs.{needs}
+use Rattle.repeat_decision.specs.Decision.{MayGrant}
+use Rattle.repeat_decision.proofs.Going.{from-stands}
+use Rattle.repeat_decision.proofs.Choosing.{may-grant, chosen, chosen-late}
+use Rattle.repeat_decision.proofs.choose.Statement.{statement}
+use Rattle.repeat_decision.proofs.choose.Tie as tie
+
+returns : tie.Need-returns
+returns c x s = chosen-late (c .before .before .before .before .pre) (c .before .fitting .ensures) (c .if1 .taken) s
+
+-- after the test of the levels
+grants : (c : tie.Else1) → let s = c .before .before .before .before in
+    MayGrant (s .args .body) (record { order = []; summaries = s .args .summaries .now; worst = s .args .worst .now }) (s .args .place) (s .args .after)
+    (c .before .fitting .result - 1) (s .args .t)
+grants c = let pre = c .before .before .before .before .pre in may-grant pre (c .before .fitting .ensures) (from-stands (pre .summarised)) (c .if1 .left)
+
+left-granted-requires : tie.Need-left-granted-requires
+left-granted-requires c κs = grants c
+
+cast-t11 : tie.Need-cast-t11
+cast-t11 c = let g = grants (c .before) in omega (arith, g .level, g .summarised .counts .few-levels)
+
+returns-2 : tie.Need-returns-2
+returns-2 c x s =
+    let some = c .before in
+    chosen (some .before .before .before .before .pre) (some .before .fitting .ensures) (some .if1 .left) x s (c .left-granted .ensures x s)
+
+pub choose-spec : {M : Type 1} → statement M
+choose-spec = tie.close (tie.spec (λ c κs. search needs) returns (λ c. search needs) left-granted-requires cast-t11 returns-2)
