@@ -29,7 +29,9 @@ use Rattle.repeat_run.proofs.BodyStarted as body-started′
 use Rattle.repeat_run.proofs.BodyReported as body-reported′
 use Rattle.nyokazerubi.specs.declared.bodies.Asked as bodies
 use Rattle.nyokazerubi.proofs.bodies.Asked as body-asked′
-use Rattle.nyokazerubi.proofs.Plain.{Kind, Still, Pair}
+use Rattle.repeat_run.specs.declared.BodyEnds.{BodyEnds}
+use Rattle.repeat_run.proofs.BodyEnds as body-ends′
+use Rattle.nyokazerubi.proofs.Plain.{Kind, Still, Pair, again, Result}
 
 abbrev pub run : Kind
 run = record { type = run′.the-type; laws = run-laws.the-laws; plain = run-laws.the-plain }
@@ -98,4 +100,15 @@ body-reported = record {
   next = λ r. r .run;
   answer = λ r. r .refusal;
   one = body-reported′.the-type .to-one;
+}
+
+-- an end: its record, and the one that an overrun leaves
+abbrev pub body-ends : Result body-run refusal
+body-ends = record {
+  name = body-ends′.the-type .name;
+  D = BodyEnds;
+  next = λ r. r .run;
+  answer = λ r. r .refusal;
+  stores = again (λ r. r .cut) (λ r. r .over);
+  one = body-ends′.the-type .to-one;
 }

@@ -121,8 +121,11 @@ pub extern "C" fn nyokazerubi_body_report(
     ensures answer { λ r. ⌜ next-flat (steps-of (now (run .exit))) r
         ≡ body-report (now (run .entry) .body) (now («worst_by_position» .entry)) clock (steps-of (now (run .entry))) ⌝ }
 {
-    let out = BodyRun::report(*run, clock, worst_by_position);
+    let out = BodyRun::ends(*run, clock, worst_by_position);
     *run = out.run;
+    if out.over {
+        *run = out.cut;
+    }
     out.refusal
 }
 

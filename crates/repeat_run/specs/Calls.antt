@@ -1,5 +1,6 @@
 -- What the record of a body repeated and the answers of its calls say in the rules' words.
-use Prim.Native.Nat.{_*_, _≤_, _<_}
+use Prim.Native.Nat.{ℕ, suc, _*_, _≤_, _<_}
+use mathlib.Core.Bool.{true, false, cond}
 use lib.ListN.{length}
 use Rattle.rules.specs.Numbers.{summary-numbers}
 use Rattle.rules.specs.Repeat.{LentBody, positions}
@@ -12,6 +13,7 @@ use Rattle.repeat_run.specs.declared.BodyRun.{BodyRun}
 use Rattle.repeat_run.specs.declared.BodyStarted.{BodyStarted}
 use Rattle.repeat_run.specs.declared.BodyAsked.{BodyAsked}
 use Rattle.repeat_run.specs.declared.BodyReported.{BodyReported}
+use Rattle.repeat_run.specs.declared.BodyEnds.{BodyEnds}
 
 -- The record, field by field; its n is the number of positions.
 abbrev pub steps-of : BodyRun → rules.Run
@@ -28,6 +30,35 @@ steps-of r = record {
   late = r .late;
 }
 
+-- The action ended at clock t within its worst time; and the rest of its coast cancelled, with the overrun mark.
+abbrev pub passed-by : ℕ → rules.Run → rules.Run
+passed-by t r = record {
+  n = r .n;
+  levels = r .levels;
+  position = suc (r .position);
+  clock = t;
+  running = false;
+  level = r .level;
+  left = r .left;
+  decisions = r .decisions;
+  overrun = r .overrun;
+  late = r .late;
+}
+
+abbrev pub cut-short : rules.Run → rules.Run
+cut-short r = record {
+  n = r .n;
+  levels = r .levels;
+  position = r .position;
+  clock = r .clock;
+  running = r .running;
+  level = r .level;
+  left = 0;
+  decisions = r .decisions;
+  overrun = true;
+  late = r .late;
+}
+
 -- What a start, an asking and a report answer. The body of the record stays, whatever the answer.
 abbrev pub started-of : BodyStarted → Body × rules.Next
 started-of a = (a .run .body, record { number = a .refusal .number; run = steps-of (a .run) })
@@ -37,6 +68,13 @@ asked-of a = with-run (a .answer) (steps-of (a .run))
 
 abbrev pub reported-of : BodyReported → rules.Next
 reported-of a = record { number = a .refusal .number; run = steps-of (a .run) }
+
+-- the record that an end leaves, and so what it answers
+abbrev pub left-by : BodyEnds → BodyRun
+left-by a = cond (a .over) (a .cut) (a .run)
+
+abbrev pub ends-of : BodyEnds → rules.Next
+ends-of a = record { number = a .refusal .number; run = steps-of (left-by a) }
 
 -- ---- asked between the functions of this crate, and of those above it
 

@@ -14,7 +14,7 @@ ghost use Rattle.rules.specs.Limits.{Plan};
 ghost use Rattle.rules.specs.Run.{begun, coast, decide, ended};
 ghost use Rattle.rules.specs.Repeat.{positions, body-in-range, body-start, body-ask-refusal, body-ask, body-report-refusal, body-report};
 ghost use Rattle.repeat_decision.specs.Decision.{Chooses};
-ghost use Rattle.repeat_run.specs.Calls.{steps-of, started-of, asked-of, reported-of};
+ghost use Rattle.repeat_run.specs.Calls.{steps-of, passed-by, cut-short, started-of, asked-of, left-by, ends-of, reported-of};
 
 // The fields and their ranges are `body-in-range` of the rules. The position and the decisions are those of the unrolled system. The clock has 64
 // bits for a dry run, which goes on past the latest clock; between calls it is within it. No byte is left unused between the fields, so that a call
@@ -50,6 +50,16 @@ pub struct BodyAsked {
 pub struct BodyReported {
     pub run: BodyRun,
     pub refusal: Refusal,
+}
+
+// The same before it is known which record is the next: `cut`, without its coast, where the action took too long, else `run`. A host's record takes
+// the one and then, rarely, the other, so that an end within the worst time touches neither coast nor mark.
+#[repr(C)]
+pub struct BodyEnds {
+    pub run: BodyRun,
+    pub refusal: Refusal,
+    pub cut: BodyRun,
+    pub over: bool,
 }
 
 // A start sets the body, all else 0 or no.
@@ -151,6 +161,28 @@ impl BodyRun {
         run
     }
 
+    // The action ended at a clock, within its worst time.
+    fn passed(self, clock: u64) -> BodyRun
+        requires { ⌜ self .position < most-positions ⌝ }
+        ensures { λ r. ⌜ (r .body ≡ self .body) × (steps-of r ≡ passed-by clock (steps-of self)) ⌝ }
+    {
+        let mut run = self;
+        run.clock = clock;
+        run.position = self.position + 1;
+        run.running = false;
+        run
+    }
+
+    // The rest of the coast cancelled, with the overrun mark.
+    fn cut(self) -> BodyRun
+        ensures { λ r. ⌜ (r .body ≡ self .body) × (steps-of r ≡ cut-short (steps-of self)) ⌝ }
+    {
+        let mut run = self;
+        run.left = 0;
+        run.overrun = true;
+        run
+    }
+
     // The action's end at a clock, where its worst time at its level is `worst`: a longer duration sets the overrun mark and cancels the rest of
     // the coast.
     pub fn ended(self, worst: u32, clock: u64) -> BodyRun
@@ -158,13 +190,9 @@ impl BodyRun {
         ensures { λ r. ⌜ (r .body ≡ self .body) × (steps-of r ≡ ended worst clock (steps-of self)) ⌝ }
     {
         let over = (worst as u64) < clock - self.clock;
-        let mut run = self;
-        run.position = self.position + 1;
-        run.clock = clock;
-        run.running = false;
+        let run = self.passed(clock);
         if over {
-            run.left = 0;
-            run.overrun = true;
+            return run.cut();
         }
         run
     }
@@ -259,22 +287,43 @@ impl BodyRun {
     }
 
     // The end of the running action, by the clock since the cycle began. A refusal gives back the record.
-    pub fn report(self, clock: u32, worst: &[u32]) -> BodyReported
-        ensures body { λ r. ⌜ r .run .body ≡ self .body ⌝ }
-        ensures answer { λ r. ⌜ reported-of r ≡ body-report (self .body) (now (worst .entry)) clock (steps-of self) ⌝ }
+    pub fn ends(self, clock: u32, worst: &[u32]) -> BodyEnds
+        ensures body { λ r. ⌜ left-by r .body ≡ self .body ⌝ }
+        ensures answer { λ r. ⌜ ends-of r ≡ body-report (self .body) (now (worst .entry)) clock (steps-of self) ⌝ }
     {
         let number = self.report_refusal(clock, worst);
         if number != 0 {
-            return BodyReported {
+            return BodyEnds {
                 run: self,
                 refusal: Refusal { number },
+                cut: self,
+                over: false,
             };
         }
         let body = self.body;
         let at = (self.position % body.n * body.levels + self.level) as usize;
-        BodyReported {
-            run: self.ended(worst[at], clock as u64),
+        let over = (worst[at] as u64) < clock as u64 - self.clock;
+        let run = self.passed(clock as u64);
+        BodyEnds {
+            run,
             refusal: Refusal { number: 0 },
+            cut: run.cut(),
+            over,
         }
+    }
+
+    // The same by value.
+    pub fn report(self, clock: u32, worst: &[u32]) -> BodyReported
+        ensures body { λ r. ⌜ r .run .body ≡ self .body ⌝ }
+        ensures answer { λ r. ⌜ reported-of r ≡ body-report (self .body) (now (worst .entry)) clock (steps-of self) ⌝ }
+    {
+        let out = self.ends(clock, worst);
+        let refusal = out.refusal;
+        if out.over {
+            let run = out.cut;
+            return BodyReported { run, refusal };
+        }
+        let run = out.run;
+        BodyReported { run, refusal }
     }
 }

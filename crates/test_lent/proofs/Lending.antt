@@ -43,7 +43,7 @@ use denote.Triple.Clauses.{Ended, Clauses, Lasts, atExit, closing}
 use denote.Triple.Call.{calls-from}
 use denote.Triple.Table.{entered, cited}
 use denote.Triple.Walked.{Stays, stay-none, goes-none, walkOf, onExit, Ending, walked, walk-meets, ends-at}
-use Rattle.nyokazerubi.proofs.Plain.{Kind, Still, Value, row, mir-type, val, vals, own, Known, tells, makes, typed, Pair, both, known-both}
+use Rattle.nyokazerubi.proofs.Plain.{Kind, Still, Value, row, mir-type, val, vals, own, Known, tells, makes, typed, Pair, both, known-both, simple}
 use Rattle.nyokazerubi.proofs.Beside.{Other, by-value, lent, slots, tys, stays, rows, words, values, Own, all-tell, as-passed, fit, had, all-go}
 use Rattle.nyokazerubi.proofs.Beside.{all-typed, twice}
 use Rattle.nyokazerubi.proofs.Beside.{locals, in-front, after, operands, one-later, found, past, allocs-all, passes-all, frees-all, reads}
@@ -201,23 +201,23 @@ module _ {M : Type 1} (𝓤 : URA M) (H : Heap 𝓤) (A : Atoms 𝓤) (W : Given
 -- callee says of
 -- the record behind the reference and of its answer is what the function says of its result. Each is shown by computation
 pub record Agrees {M : Type 1} (𝓤 : URA M) {S Q : Kind} (u : Still S) (p : Pair S Q) (made : Made p) {n : ℕ} (os : List (Other n))
-    (d : Clauses 𝓤 (Callee p os whole)) (c : Clauses 𝓤 (Lending S Q os)) : Type 1 where
+    (d : Clauses 𝓤 (Callee (simple p) os whole)) (c : Clauses 𝓤 (Lending S Q os)) : Type 1 where
   pub asks : (κs : Lfts (suc n)) (b : Args (Lending S Q os .signature) κs) → (x : c κs b .ghost) × ent 𝓤 (emp 𝓤) (c κs b .requires x)
   pub over : (κs : Lfts (suc n)) → Denots (rows by-value (κs .1) os) → Denots (rows lent κs os)
   pub same : (κs : Lfts (suc n)) (a : Denots (rows by-value (κs .1) os))
       → (flat (rows lent κs os) (values lent κs os (over κs a)) ≡ flat (rows by-value (κs .1) os) (values by-value (κs .1) os a)) ×
       (Own lent κs os (over κs a) ≡ Own by-value (κs .1) os a)
-  pub says : (κs : Lfts (suc n)) (a : Args (Callee p os whole .signature) (κs .1)) (l : ℕ) (δ : GName) (x : d (κs .1) a .ghost) (q : Value Q)
+  pub says : (κs : Lfts (suc n)) (a : Args (Callee (simple p) os whole .signature) (κs .1)) (l : ℕ) (δ : GName) (x : d (κs .1) a .ghost) (q : Value Q)
       → let b : Args (Lending S Q os .signature) κs = (record { ptr = (l, 0); name = δ; now = a .0 }, over κs (a .1)) in
       (ws : Lasts (Lending S Q os) κs b) → ent 𝓤 (c κs b .ensures (asks κs b .0) q (atExit (Lending S Q os) κs b ws))
-      (d (κs .1) a .ensures x (made .make (ws .0) q) (atExit (Callee p os whole) (κs .1) a (u .last (a .0), as-passed by-value (κs .1) os (a .1))))
+      (d (κs .1) a .ensures x (made .make (ws .0) q) (atExit (Callee (simple p) os whole) (κs .1) a (u .last (a .0), as-passed by-value (κs .1) os (a .1))))
 
 module _ {M : Type 1} (𝓤 : URA M) (H : Heap 𝓤) (A : Atoms 𝓤) (W : Given 𝓤 H A) (𝓣 : Tables 𝓤 H) {S Q : Kind} (u : Still S) (p : Pair S Q) (made : Made p) {n : ℕ}
     (os : List (Other n)) (g : Name)
-    (d : Clauses 𝓤 (Callee p os whole)) (c : Clauses 𝓤 (Lending S Q os)) (agree : Agrees 𝓤 u p made os d c)
+    (d : Clauses 𝓤 (Callee (simple p) os whole)) (c : Clauses 𝓤 (Lending S Q os)) (agree : Agrees 𝓤 u p made os d c)
     (known : Triple 𝓤 (𝓣 .C g) (tripleOf 𝓤 H A (Lending S Q os .signature) (closing 𝓤 H A (Lending S Q os) c))) where
   abbrev T : Ended
-  T = Callee p os whole
+  T = Callee (simple p) os whole
 
   abbrev stayed : Stays (T .signature .params) (T .kept)
   stayed = (stay-none (λ _. row S) yes, stays by-value os)
@@ -296,13 +296,13 @@ module _ {M : Type 1} (𝓤 : URA M) (H : Heap 𝓤) (A : Atoms 𝓤) (W : Given
 pub returns-by : {M : Type 1} (𝓤 : URA M) (H : Heap 𝓤) (𝓜 : Model 𝓤 H) (𝓖 : GhostRules 𝓤 H) (𝓡 : Running 𝓤 H 𝓜) {S Q : Kind} (u : Still S) (p : Pair S Q)
     (made : Made p) {n : ℕ} (os : List (Other n)) (γ : Routines) (f g : Name)
     → Closed 𝓤 H (tables 𝓤 H 𝓜 𝓡 γ .C) (tables 𝓤 H 𝓜 𝓡 γ .Λ) f (function p g n (tys by-value os))
-    → (d : Clauses 𝓤 (Callee p os whole)) (c : Clauses 𝓤 (Lending S Q os)) (r : Routine) → γ g ≡ r
+    → (d : Clauses 𝓤 (Callee (simple p) os whole)) (c : Clauses 𝓤 (Lending S Q os)) (r : Routine) → γ g ≡ r
     → Triple 𝓤 (𝓡 .run r) (tripleOf 𝓤 H (𝓖 .A) (Lending S Q os .signature) (closing 𝓤 H (𝓖 .A) (Lending S Q os) c)) → Agrees 𝓤 u p made os d c
-    → Triple 𝓤 (𝓡 .run (γ f)) (tripleOf 𝓤 H (𝓖 .A) (Callee p os whole .signature) (closing 𝓤 H (𝓖 .A) (Callee p os whole) d))
+    → Triple 𝓤 (𝓡 .run (γ f)) (tripleOf 𝓤 H (𝓖 .A) (Callee (simple p) os whole .signature) (closing 𝓤 H (𝓖 .A) (Callee (simple p) os whole) d))
 unfolding tablesOf
 returns-by 𝓤 H 𝓜 𝓖 𝓡 {S} {Q} u p made {n} os γ f g unfolded d c r is met agree =
     let A = 𝓖 .A in
-    entered 𝓤 H (tripleOf 𝓤 H A (Callee p os whole .signature) (closing 𝓤 H A (Callee p os whole) d)) (tables 𝓤 H 𝓜 𝓡 γ .C) (tables 𝓤 H 𝓜 𝓡 γ .Λ) f
+    entered 𝓤 H (tripleOf 𝓤 H A (Callee (simple p) os whole .signature) (closing 𝓤 H A (Callee (simple p) os whole) d)) (tables 𝓤 H 𝓜 𝓡 γ .C) (tables 𝓤 H 𝓜 𝓡 γ .Λ) f
     (function p g n (tys by-value os)) unfolded
     (meets 𝓤 H A (givenOf 𝓤 H 𝓜 𝓖) (tablesOf 𝓤 H 𝓜 (tables 𝓤 H 𝓜 𝓡 γ)) u p made os g d c agree
     (cited 𝓤 H (tripleOf 𝓤 H A (Lending S Q os .signature) (closing 𝓤 H A (Lending S Q os) c)) 𝓜 𝓡 γ g r is met))

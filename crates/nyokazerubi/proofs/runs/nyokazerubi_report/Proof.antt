@@ -5,6 +5,7 @@ use base.Logic.{id⊢}
 use mir.Syntax.{w32}
 use denote.Builtin.{u32}
 use Rattle.nyokazerubi.proofs.Beside.{number, slice}
+use Rattle.nyokazerubi.proofs.Plain.{simple}
 use Rattle.nyokazerubi.proofs.Lent.{whole, lends}
 use Rattle.nyokazerubi.proofs.Records.{reported}
 use Rattle.run.proofs.Run.report as g
@@ -18,7 +19,7 @@ use Rattle.nyokazerubi.proofs.runs.nyokazerubi_report.Code as code
 pub nyokazerubi-report-spec : {M : Type 1} → statement M
 unfolding code.routine
 nyokazerubi-report-spec 𝓤 H 𝓜 𝓖 𝓡 =
-    lends 𝓤 H 𝓜 𝓖 𝓡 reported whole (number w32 ∷ slice 0 tt u32 ∷ []) code.env name g-def.name (code.unfolded 𝓤 H 𝓜 𝓡)
+    lends 𝓤 H 𝓜 𝓖 𝓡 (simple reported) whole (number w32 ∷ slice 0 tt u32 ∷ []) code.env name g-def.name (code.unfolded 𝓤 H 𝓜 𝓡)
     (f.clauses 𝓤 H (𝓖 .A) (𝓜 .mem) (𝓡 .run)) (g.clauses 𝓤 H (𝓖 .A) (𝓜 .mem) (𝓡 .run)) g-def.routine code.calls-run·Run·report
     (g-thm.met 𝓤 H 𝓜 𝓖 𝓡)
     (record { asks = λ κs a. (tt, id⊢ 𝓤 _); over = λ κs a. a; same = λ κs a. (refl, refl); says = λ κs a x r ws. id⊢ 𝓤 _ })

@@ -1,76 +1,13 @@
--- Refused or ended. Assumes nothing.
-use Prim.Native.Nat.{_+_, _*_, _%_, _≤_}
-use mathlib.Core.Path.{_≡_, refl, sym, _∙_}
-use native.Mathlib.Omega.{arith}
+-- The record that is left. Assumes nothing.
 use borrow.Author.Needs.{needs}
-use Rattle.rules.specs.Repeat.{body-report-refusal, body-report}
-use Rattle.run.proofs.Turns.{reported-refused, reported-ended}
-use Rattle.repeat_run.specs.Calls.{steps-of}
-use Rattle.repeat_run.proofs.Ranges.{Reportable, reportable, cell-in}
 use Rattle.repeat_run.proofs.BodyRun.report.Statement.{statement}
 use Rattle.repeat_run.proofs.BodyRun.report.Tie as tie
 
-abbrev start : tie.Else1 → tie.Start
-start c = c .before .before .before
-
 returns : tie.Need-returns
-unfolding body-report
-returns c = let e = c .before .report-refusal .ensures in (refl, rw (sym e) (reported-refused _ _ _ _ (c .if1 .taken)))
-
--- after the test of the refusal
-none : (c : tie.Else1) → let a = start c .args in 0 ≡ body-report-refusal (a .self .body) (a .worst .now) (a .clock) (steps-of (a .self))
-none c = sym (c .if1 .left) ∙ c .before .report-refusal .ensures
-
-ready : (c : tie.Else1) → let a = start c .args in Reportable (a .self .body) (a .worst .now) (a .clock) (steps-of (a .self))
-ready c = reportable _ _ _ _ (none c)
-
--- the entry read
-entry : (c : tie.Else1) → let r = start c .args .self in
-    r .position % r .body .n * r .body .levels + r .body .levels ≤ r .body .n * r .body .levels
-entry c = let r = start c .args .self in cell-in (r .body) (ready c .ranged .counts) (r .position)
-
-rem-at : tie.Need-rem-at
-rem-at c = ready (c .before .before .before) .ranged .counts .some-action
-
-mul-at : tie.Need-mul-at
-mul-at c = let e = c .before .before .before .before in omega (arith, entry e, ready e .ranged .products)
-
-add-at : tie.Need-add-at
-add-at c = let e = c .before .before .before .before .before in omega (arith, entry e, ready e .ranged .products, ready e .ranged .cycle .level)
-
-cast-at : tie.Need-cast-at
-cast-at c = let e = c .before .before .before .before .before in omega (arith, entry e, ready e .ranged .products, ready e .ranged .cycle .level)
-
-mul-ended : tie.Need-mul-ended
-mul-ended c = let e = c .before .before .before .before .before in omega (arith, entry e, ready e .ranged .products, ready e .ranged .cycle .level)
-
-shared-slice-read-ended : tie.Need-shared-slice-read-ended
-shared-slice-read-ended c =
-    let e = c .before .before .before .before .before .before in
-    omega (arith, entry e, ready e .ranged .cycle .level, ready e .timed)
-
-ended-requires : tie.Need-ended-requires
-ended-requires c κs =
-    let h = ready (c .before .before .before .before .before .before) in
-    (omega (arith, h .more, h .ranged .products), h .onward)
+returns c = rw (c .before .if1 .taken) at (c .before .before .before .ends .ensures)
 
 returns-2 : tie.Need-returns-2
-unfolding body-report
-returns-2 c =
-    let d = c .ended .ensures in
-    (d .0, reported-ended _ _ _ _ _ (none (c .before .before .before .before .before .before .before)) (d .1))
+returns-2 c = rw (c .before .if1 .left) at (c .before .before .before .ends .ensures)
 
 pub report-spec : {M : Type 1} → statement M
-report-spec =
-    tie.close
-    (tie.spec
-    (λ c κs. search needs)
-    returns
-    rem-at
-    mul-at
-    add-at
-    cast-at
-    mul-ended
-    shared-slice-read-ended
-    ended-requires
-    returns-2)
+report-spec = tie.close (tie.spec (λ c κs. search needs) returns returns-2)
