@@ -20,10 +20,6 @@ use Rattle.repeat_planner.specs.declared.BodyPlanned.{BodyPlanned}
 use Rattle.repeat_text.specs.declared.Begun.{Begun}
 use Rattle.repeat_text.specs.declared.Told.{Told}
 
--- 64 actions 1,620 times
-abbrev pub most-positions : ℕ
-most-positions = 103680
-
 abbrev pub longest-line : ℕ
 longest-line = 218
 

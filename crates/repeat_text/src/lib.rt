@@ -13,12 +13,13 @@ ghost use Prim.Native.Nat.{_+_, _≤_, _<_};
 ghost use mathlib.Core.List.{[], _∷_};
 ghost use lib.ListN.{length};
 ghost use Rattle.io.specs.Counts.{Counts};
+ghost use Rattle.rules.specs.Numbers.{most-positions};
 ghost use Rattle.rules.specs.Words.{cat};
 ghost use Rattle.rules.specs.Repeat.{positions, lent-plan, action-at};
 ghost use Rattle.text.specs.Digits.{space, signed};
 ghost use Rattle.text.specs.Put.{Puts};
 ghost use Rattle.repeat_limits.specs.Limits.{Stands};
-ghost use Rattle.repeat_text.specs.Text.{most-positions, longest-line, lent-line, Lent, TellsLines, TellsFirst};
+ghost use Rattle.repeat_text.specs.Text.{longest-line, lent-line, Lent, TellsLines, TellsFirst};
 
 // No line is longer: two numbers of up to 20 digits each, eight limits with a sign and a space before each, the space between and the newline.
 const LONGEST_LINE: usize = 218;

@@ -4,13 +4,14 @@ use mathlib.Core.Path.{ap, _∙_}
 use mathlib.Core.List.{List, [], _∷_, _++_}
 use native.Mathlib.Omega.{arith}
 use borrow.Author.Needs.{needs}
+use Rattle.rules.specs.Numbers.{most-positions}
 use Rattle.rules.specs.Words.{cat}
 use Rattle.rules.specs.Repeat.{lent-plan}
 use Rattle.text.specs.Digits.{newline, space, decimal}
 use Rattle.text.proofs.Puts.{put-then, put-as}
 use Rattle.print.proofs.Lines.{position-is}
 use Rattle.repeat_limits.proofs.Refusing.{products}
-use Rattle.repeat_text.specs.Text.{most-positions, lent-line}
+use Rattle.repeat_text.specs.Text.{lent-line}
 use Rattle.repeat_text.proofs.Lines.{entry}
 use Rattle.repeat_text.proofs.put_position.Statement.{statement}
 use Rattle.repeat_text.proofs.put_position.Tie as tie
