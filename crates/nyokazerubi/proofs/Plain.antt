@@ -104,12 +104,7 @@ module _ {S Q : Kind} (p : Pair S Q) where
     plain = (LL.field-plain (S .type) (S .plain), (LL.field-plain (Q .type) (Q .plain), tt));
   }
 
-  -- what is known of each part
-  pub parts-known : (x : p .D) (v : Val) → Is (row both) x (v ∷ []) → Known S (p .next x) × Known Q (p .answer x)
-  parts-known x v is =
-      let owed = LL.owed (both .type) (both .laws) x (v ∷ []) is in
-      (owed .0, owed .1 .0)
-
+  -- a whole is known by its parts
   pub known-both : (x : p .D) → Known S (p .next x) → Known Q (p .answer x) → Known both x
   known-both x s q = LL.owes (both .type) (both .laws) x (s, (q, tt))
 

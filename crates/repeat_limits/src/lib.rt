@@ -119,7 +119,7 @@ pub fn spot_of(body: Body, position: usize) -> Spot
 }
 
 // Where the next position stands: in the next place, and after the last place in the first of the next body.
-pub fn next_spot(body: Body, place: usize, after: u32) -> Spot
+fn next_spot(body: Body, place: usize, after: u32) -> Spot
     requires { ⌜ MoreAfter body place after ⌝ }
     ensures { λ r. ⌜ ((x : ℕ) → Standing body x place after → suc x < positions body → Standing body (suc x) (r .place) (r .after)) ⌝ }
 {
