@@ -1,5 +1,5 @@
 -- What a decision of a body repeated is, and what its functions need.
-use Prim.Native.Nat.{ℕ, suc, _+_, _*_, _≤_, _<_}
+use Prim.Native.Nat.{ℕ, suc, _+_, _*_, _%_, _≤_, _<_}
 use mathlib.Core.Path.{_≡_}
 use mathlib.Core.Bool.{Bool, true, false, not, cond, _&&_, _||_}
 use mathlib.Core.List.{List}
@@ -7,13 +7,13 @@ use lib.Dec.{ltb}
 use lib.IntN.{pos}
 use lib.ListN.{length}
 use lib.Signed.{leZ}
-use Rattle.rules.specs.Numbers.{longest-coast, summary-numbers}
+use Rattle.rules.specs.Numbers.{most-actions, most-levels, longest-coast, summary-numbers}
 use Rattle.rules.specs.Limits.{Plan}
 use Rattle.rules.specs.Run.{level-given, fits, left-granted}
-use Rattle.rules.specs.Repeat.{LentBody, lent-plan}
+use Rattle.rules.specs.Repeat.{LentBody, positions, stretch-at, lent-plan}
 use Rattle.rules.specs.declared.Body.{Body}
 use Rattle.repeat_laws.specs.Standing.{Standing}
-use Rattle.repeat_limits.specs.Limits.{latest, CountsIn, BodiesAfter}
+use Rattle.repeat_limits.specs.Limits.{latest, most-entry, CountsIn, later-of, room-left, fits-in}
 use Rattle.repeat_decision.specs.declared.Choice.{Choice}
 use Rattle.repeat_decision.specs.declared.Reached.{Reached}
 
@@ -33,10 +33,6 @@ pub record Chooses (P : Plan) (t x : ℕ) (c : Choice) : Type 0 where
 abbrev pub fitting-levels : Plan → ℕ → ℕ → ℕ
 fitting-levels P t x = cond (fits P t x) (suc (level-given P t x)) 0
 
--- A coast at level q decided at t stops before position x, which begins at the latest then: the level above fits at t, or the level does not.
-abbrev pub stops-there : Plan → ℕ → ℕ → ℕ → ℕ → Bool
-stops-there P t begins x q = (ltb (suc q) (P .levels) && leZ (pos t) (P .limit x (suc q))) || not (leZ (pos begins) (P .limit x q))
-
 -- a place of a body and fewer bodies after it than there are repeats, with the summaries lent as long as the body says
 pub record Summarised (b : Body) (summaries : List ℕ) (place after : ℕ) : Type 0 where
   pub counts : CountsIn b
@@ -44,26 +40,45 @@ pub record Summarised (b : Body) (summaries : List ℕ) (place after : ℕ) : Ty
   pub inside : place < b .n
   pub fewer : after < b .repeats
 
--- the entry of its level, and the bodies after it as they count there and at the level above
-pub record Reaches (b : Body) (summaries : List ℕ) (q : ℕ) (r : Reached) : Type 0 where
-  pub entry-is : r .entry ≡ r .place * b .levels + q
-  pub own : BodiesAfter summaries q (r .after) (r .own)
-  pub above : suc q < b .levels → BodiesAfter summaries (suc q) (r .after) (r .above)
+-- position x stands where the entry of level q is, with so many whole bodies after it
+pub record StandsAt (b : Body) (q entry after x : ℕ) : Type 0 where
+  pub standing : Standing b x (x % b .n) after
+  pub entry-is : entry ≡ x % b .n * b .levels + q
 
--- where a coast has got to, and after the last place a body more
-pub record Leads (b : Body) (summaries : List ℕ) (r : Reached) (q : ℕ) : Type 0 where
-  pub summarised : Summarised b summaries (r .place) (r .after)
+-- a body, fewer bodies after it than there are repeats, the summaries, a level, and times that are not too late
+pub record MayReach (b : Body) (summaries : List ℕ) (after begins q t : ℕ) : Type 0 where
+  pub counts : CountsIn b
+  pub summed : b .n * b .levels * summary-numbers ≤ length summaries
+  pub fewer : after < b .repeats
   pub level : q < b .levels
-  pub reaches : Reaches b summaries q r
-  pub more : suc (r .place) ≡ b .n → 0 < r .after
-
--- where a coast has got to, the time of its decision, and when the position begins at the latest
-pub record MayStop (b : Body) (summaries : List ℕ) (r : Reached) (q t begins : ℕ) : Type 0 where
-  pub summarised : Summarised b summaries (r .place) (r .after)
-  pub level : q < b .levels
-  pub reaches : Reaches b summaries q r
+  pub begins-in : begins ≤ latest
   pub early : t ≤ latest
-  pub latest-begin : begins ≤ latest
+
+-- the room where the position begins, and at the decision that of the level above
+pub record Reaches (b : Body) (summaries : List ℕ) (q t : ℕ) (r : Reached) : Type 0 where
+  pub own : r .own ≡ room-left (b .cycle) (r .begins) (later-of (stretch-at summaries q) (r .after))
+  pub above : suc q < b .levels → r .above ≡ room-left (b .cycle) t (later-of (stretch-at summaries (suc q)) (r .after))
+
+-- where a coast has got to, and a position that stands there and is not the last
+pub record Leads (b : Body) (summaries : List ℕ) (r : Reached) (q t : ℕ) : Type 0 where
+  pub may : MayReach b summaries (r .after) (r .begins + most-entry) q t
+  pub reaches : Reaches b summaries q t r
+  pub position : ℕ
+  pub stands : StandsAt b q (r .entry) (r .after) position
+  pub more : suc position < positions b
+
+-- the entries that are looked at
+pub record MayStop (b : Body) (summaries : List ℕ) (r : Reached) (q : ℕ) : Type 0 where
+  pub level : q < b .levels
+  pub own : r .entry * summary-numbers + summary-numbers ≤ length summaries
+  pub above : suc q < b .levels → suc (r .entry) * summary-numbers + summary-numbers ≤ length summaries
+  pub few : r .entry < most-actions * most-levels
+
+-- The level does not fit, or the level above does, if there is one.
+abbrev pub stops-there : Body → List ℕ → Reached → ℕ → Bool
+stops-there b summaries r q =
+    not (fits-in (stretch-at summaries (r .entry)) (r .own))
+    || (ltb (suc q) (b .levels) && fits-in (stretch-at summaries (suc (r .entry))) (r .above))
 
 -- the worst times too, and a level that fits at a time where the level above does not
 pub record MayGrant (b : Body) (T : LentBody) (place after q t : ℕ) : Type 0 where

@@ -1,17 +1,21 @@
 // A decision of a body repeated, read of the lent summaries, whoever wrote them: the level given, the coast granted, and whether it is late. A
 // position is told by its place in its body and by the whole bodies after that one.
-use repeat_limits::Later;
-use repeat_limits::bodies_after;
-use repeat_limits::within;
+use repeat_limits::Room;
+use repeat_limits::has_room;
+use repeat_limits::room_before;
+use repeat_limits::taken;
 use rules::Body;
 ghost use mathlib.Core.Path.{_≡_};
 ghost use mathlib.Core.List.{[]};
 ghost use Prim.Native.Nat.{ℕ, suc, _+_, _*_, _≤_, _<_, min};
+ghost use lib.IntN.{pos, _-ℤ_};
+ghost use lib.Signed.{mag};
 ghost use Rattle.rules.specs.Numbers.{most-actions, most-repeats, longest-coast};
 ghost use Rattle.rules.specs.Run.{left-granted};
 ghost use Rattle.rules.specs.Repeat.{positions, lent-plan};
 ghost use Rattle.repeat_laws.specs.Standing.{Standing};
-ghost use Rattle.repeat_decision.specs.Decision.{last-start, fitting-levels, stops-there, Summarised, Reaches, Leads, MayStop, MayGrant, MayChoose, Chooses};
+ghost use Rattle.repeat_limits.specs.Limits.{signed-above};
+ghost use Rattle.repeat_decision.specs.Decision.{last-start, fitting-levels, stops-there, Summarised, StandsAt, MayReach, Reaches, Leads, MayStop, MayGrant, MayChoose, Chooses};
 
 // What a decision takes: the level, what it leaves to coast, and whether no level fits.
 pub struct Choice {
@@ -32,8 +36,8 @@ fn fitting(body: Body, summaries: &[u32], place: usize, after: u32, t: u64) -> u
     let row = place * levels;
     let mut q = levels;
     while 0 < q {
-        let later = bodies_after(summaries, q - 1, after as u64);
-        if within(summaries, row + q - 1, later, body.cycle, t) {
+        let room = room_before(summaries, q - 1, after as u64, body.cycle, t);
+        if has_room(summaries, row + q - 1, room) {
             return q;
         }
         q -= 1;
@@ -43,66 +47,91 @@ fn fitting(body: Body, summaries: &[u32], place: usize, after: u32, t: u64) -> u
 
 // ---- the coast
 
-// Where a coast has got to: a place of a body, the entry of its level there, and the bodies after it at that level and at the one above.
+// Where a coast has got to: the entry of its level, the bodies after it, when the position begins at the latest, and the room there: of the level
+// from then on, and of the level above, if there is one, from the decision on.
 struct Reached {
-    place: usize,
-    after: u64,
     entry: usize,
-    own: Later,
-    above: Later,
+    after: u64,
+    begins: u64,
+    own: Room,
+    above: Room,
 }
 
-fn at_place(body: Body, summaries: &[u32], place: usize, after: u64, level: usize) -> Reached
-    requires { ⌜ Summarised body (now summaries) place after × (level < body .levels) ⌝ }
-    ensures { λ r. ⌜ (r .place ≡ place) × (r .after ≡ after) × Reaches body (now (summaries .entry)) level r ⌝ }
+fn at_entry(
+    body: Body,
+    summaries: &[u32],
+    entry: usize,
+    after: u64,
+    begins: u64,
+    level: usize,
+    t: u64,
+) -> Reached
+    requires { ⌜ MayReach body (now summaries) after begins level t ⌝ }
+    ensures { λ r. ⌜ (r .entry ≡ entry) × (r .after ≡ after) × (r .begins ≡ begins) × Reaches body (now (summaries .entry)) level t r ⌝ }
 {
-    let own = bodies_after(summaries, level, after);
-    let entry = place * body.levels as usize + level;
+    let own = room_before(summaries, level, after, body.cycle, begins);
     let mut above = own;
     if level + 1 < body.levels as usize {
-        above = bodies_after(summaries, level + 1, after);
+        above = room_before(summaries, level + 1, after, body.cycle, t);
     }
     Reached {
-        place,
-        after,
         entry,
+        after,
+        begins,
         own,
         above,
     }
 }
 
-// The next position: the next place of the same body, where the bodies after it stay, or after the last place the first of the next body.
-fn onward(body: Body, summaries: &[u32], here: Reached, level: usize) -> Reached
-    requires { ⌜ Leads body (now summaries) here level ⌝ }
-    ensures { λ r. ⌜ Reaches body (now (summaries .entry)) level r
-        × ((x : ℕ) → Standing body x (here .place) (here .after) → suc x < positions body → Standing body (suc x) (r .place) (r .after)) ⌝ }
+// The room for what begins later by a worst time.
+fn narrowed(room: Room, worst: u32) -> Room
+    requires { ⌜ (mag (room .mix -ℤ pos worst) < signed-above) × (mag (room .average -ℤ pos worst) < signed-above) ⌝ }
+    ensures { λ r. ⌜ r ≡ record { mix = room .mix -ℤ pos worst; average = room .average -ℤ pos worst } ⌝ }
 {
-    let next = here.place + 1;
-    if next == body.n as usize {
-        return at_place(body, summaries, 0, here.after - 1, level);
+    Room {
+        mix: taken(room.mix, worst as u64),
+        average: taken(room.average, worst as u64),
     }
-    let mut there = here;
-    there.place = next;
-    there.entry = here.entry + body.levels as usize;
-    there
 }
 
-// Whether a coast decided at t stops before the position reached, which begins at the latest then: the level above, if there is one, fits at t, or
-// the level does not.
-fn stops(body: Body, summaries: &[u32], here: Reached, level: usize, t: u64, begins: u64) -> bool
-    requires { ⌜ MayStop body (now summaries) here level t begins ⌝ }
-    ensures { λ r. ⌜ ((x : ℕ) → Standing body x (here .place) (here .after)
-        → r ≡ stops-there (lent-plan body (record { order = []; summaries = now (summaries .entry); worst = [] })) t begins x level) ⌝ }
+// The next position: the next place of the same body, where the bodies after it stay, or after the last place the first of the next body.
+fn onward(body: Body, summaries: &[u32], here: Reached, worst: u32, level: usize, t: u64) -> Reached
+    requires { ⌜ Leads body (now summaries) here level t ⌝ }
+    ensures { λ r. ⌜ Reaches body (now (summaries .entry)) level t r × (r .begins ≡ here .begins + worst)
+        × ((x : ℕ) → StandsAt body level (here .entry) (here .after) x → suc x < positions body → StandsAt body level (r .entry) (r .after) (suc x)) ⌝ }
 {
-    let entry = here.entry;
-    if level + 1 < body.levels as usize {
-        let above = here.above;
-        if within(summaries, entry + 1, above, body.cycle, t) {
-            return true;
-        }
+    let levels = body.levels as usize;
+    let next = here.entry + levels;
+    let begins = here.begins + worst as u64;
+    if body.n as usize * levels <= next {
+        return at_entry(body, summaries, level, here.after - 1, begins, level, t);
     }
     let own = here.own;
-    !within(summaries, entry, own, body.cycle, begins)
+    let above = here.above;
+    Reached {
+        entry: next,
+        after: here.after,
+        begins,
+        own: narrowed(own, worst),
+        above,
+    }
+}
+
+// Whether a coast stops before the position reached: the level does not fit there, or the level above does.
+fn stops(body: Body, summaries: &[u32], here: Reached, level: usize) -> bool
+    requires { ⌜ MayStop body (now summaries) here level ⌝ }
+    ensures { λ r. ⌜ r ≡ stops-there body (now (summaries .entry)) here level ⌝ }
+{
+    let entry = here.entry;
+    let own = here.own;
+    if has_room(summaries, entry, own) {
+        if level + 1 < body.levels as usize {
+            let above = here.above;
+            return has_room(summaries, entry + 1, above);
+        }
+        return false;
+    }
+    true
 }
 
 // The lesser of the longest coast and what is left of the frame: `own` of this body, and the bodies after it.
@@ -136,14 +165,13 @@ fn left_granted(
 {
     let n = body.n as usize;
     let end = most(n, n - place, after);
-    let mut here = at_place(body, summaries, place, after as u64, level);
-    let mut begins = t;
+    let entry = place * body.levels as usize + level;
+    let mut here = at_entry(body, summaries, entry, after as u64, t, level, t);
     let mut left: usize = 0;
     while left + 1 < end {
-        let entry = here.entry;
-        begins += worst[entry] as u64;
-        here = onward(body, summaries, here, level);
-        if stops(body, summaries, here, level, t, begins) {
+        let at = here.entry;
+        here = onward(body, summaries, here, worst[at], level, t);
+        if stops(body, summaries, here, level) {
             return left as u8;
         }
         left += 1;

@@ -1,5 +1,6 @@
 pub mod Sizes
 pub mod Refusing
 pub mod Reading
+pub mod Rooms
 pub mod Answers
 pub mod Reaching

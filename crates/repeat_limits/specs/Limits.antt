@@ -1,11 +1,12 @@
 -- The calls for a limit and a coast bound of a body repeated: what they answer, on lent summaries whoever wrote them, and on planning's.
-use Prim.Native.Nat.{ℕ, suc, _+_, _-_, _*_, _≤_, _<_, max}
+use Prim.Native.Nat.{ℕ, zero, suc, _+_, _-_, _*_, _≤_, _<_, max}
 use mathlib.Core.Path.{_≡_}
-use mathlib.Core.Bool.{cond}
+use mathlib.Core.Bool.{Bool, cond, _&&_}
 use mathlib.Core.List.{List, []}
 use lib.Dec.{eqb}
-use lib.IntN.{pos}
+use lib.IntN.{pos, _-ℤ_}
 use lib.ListN.{length}
+use lib.Signed.{leZ}
 use Rattle.rules.specs.Numbers.{most-actions, most-levels, last-clock, most-repeats, longest-coast, summary-numbers}
 use Rattle.rules.specs.Image.{Profile}
 use Rattle.rules.specs.Order.{Order, TheOrder}
@@ -15,6 +16,7 @@ use Rattle.rules.specs.Repeat.{unrolled, Sums, followed, bodies, stretch-at, Le
 use Rattle.rules.specs.declared.Body.{Body}
 use Rattle.repeat_limits.specs.declared.Limited.{Limited}
 use Rattle.repeat_limits.specs.declared.Later.{Later}
+use Rattle.repeat_limits.specs.declared.Room.{Room}
 
 -- ---- the calls
 
@@ -36,9 +38,17 @@ pub record BoundAnswers (b : Body) (lent : LentBody) (i q r : ℕ) (x : Limited)
 
 -- ---- asked between the functions of this crate, and of those above it
 
--- the latest clock that the sums are added to: so far no sum of 64 bits wraps
+-- above every number of 64 bits with a sign
+abbrev pub signed-above : ℕ
+signed-above = 9223372036854775808
+
+-- the latest time that the room is told of, 2 ^ 42: a decision and 15 worst times of 32 bits are before it
 abbrev pub latest : ℕ
-latest = 4611686018427387904
+latest = 4398046511104
+
+-- what is room for any averages, 2 ^ 62
+abbrev pub ample : ℕ
+ample = 4611686018427387904
 
 -- entries of 32 bits, whoever wrote them: one, the most that 1,619 and 1,620 bodies come to, and that with the worst times of 15 positions
 abbrev pub most-entry : ℕ
@@ -77,15 +87,36 @@ pub record Summed (summaries : List ℕ) (x q after : ℕ) : Type 0 where
   pub whole : q * summary-numbers + summary-numbers ≤ length summaries
   pub few : after < most-repeats
 
--- M of a stretch and the bodies after it, by these as numbers
+-- so many bodies after a stretch, as numbers
+abbrev pub later-of : Sums → ℕ → Later
+later-of y zero = record { bodies = 0; lowest = 0; mix = 0 }
+later-of y (suc m) = record { bodies = suc m; lowest = suc m * y .lowest; mix = y .mix + m * max (y .average) (y .lowest) }
+
+-- M of a stretch and the bodies after it, by these numbers
 abbrev pub mix-before : Sums → Later → ℕ
 mix-before x l = cond (eqb (l .bodies) 0) (x .mix) (max (x .mix + l .lowest) (x .average + l .mix))
 
--- so many bodies, each summed up in entry q: what they add to any stretch before them
+-- so many bodies, each summed up in entry q
 pub record BodiesAfter (summaries : List ℕ) (q after : ℕ) (l : Later) : Type 0 where
   pub few-lowest : l .lowest ≤ greatest-later
   pub few-mix : l .mix ≤ greatest-later
-  pub joins : (x : Sums) → mix-before x l ≡ followed x (bodies (stretch-at summaries q) after) .mix
+  pub is : l ≡ later-of (stretch-at summaries q) after
+
+-- What they leave of a cycle, from a time on, for M and for the averages of the stretch before them: without a body the averages are of no account.
+abbrev pub room-left : ℕ → ℕ → Later → Room
+room-left cycle begins l = record {
+  mix = pos cycle -ℤ pos (begins + l .lowest);
+  average = cond (eqb (l .bodies) 0) (pos (cycle + ample) -ℤ pos begins) (pos cycle -ℤ pos (begins + l .mix));
+}
+
+abbrev pub fits-in : Sums → Room → Bool
+fits-in x r = leZ (pos (x .average)) (r .average) && leZ (pos (x .mix)) (r .mix)
+
+-- the summaries of entry q, fewer bodies than there are repeats, and a time that is not too late
+pub record LeavesRoom (summaries : List ℕ) (q after begins : ℕ) : Type 0 where
+  pub whole : q * summary-numbers + summary-numbers ≤ length summaries
+  pub few : after < most-repeats
+  pub early : begins ≤ latest
 
 -- the summaries of entry x, and bodies after it
 pub record Before (summaries : List ℕ) (x : ℕ) (l : Later) : Type 0 where

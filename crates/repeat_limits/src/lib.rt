@@ -7,12 +7,12 @@ ghost use mathlib.Core.List.{[]};
 ghost use Prim.Native.Nat.{ℕ, suc, _+_, _*_, _≤_, _<_, max};
 ghost use lib.IntN.{pos, _-ℤ_};
 ghost use lib.ListN.{length, getD};
-ghost use lib.Signed.{leZ, mag};
+ghost use lib.Signed.{mag};
 ghost use Rattle.rules.specs.Numbers.{most-repeats, summary-numbers};
 ghost use Rattle.rules.specs.Refusals.{first};
 ghost use Rattle.rules.specs.Repeat.{followed, bodies, stretch-at, positions, lent-plan, body-tests, body-limit-refusal, body-bound-refusal};
 ghost use Rattle.repeat_laws.specs.Standing.{Standing};
-ghost use Rattle.repeat_limits.specs.Limits.{latest, most-entry, greatest-mix, greatest-reach, CountsIn, Stands, Summed, BodiesAfter, Before, mix-before, MoreAfter, Coasts, LimitAnswers, BoundAnswers};
+ghost use Rattle.repeat_limits.specs.Limits.{signed-above, most-entry, greatest-mix, greatest-reach, CountsIn, Stands, Summed, later-of, BodiesAfter, Before, mix-before, LeavesRoom, room-left, fits-in, MoreAfter, Coasts, LimitAnswers, BoundAnswers};
 
 // What the limit or the coast bound asked for is; with a refusal it is 0.
 #[repr(C)]
@@ -27,6 +27,14 @@ fn greater(a: u64, b: u64) -> u64
     ensures { λ r. ⌜ r ≡ max a b ⌝ }
 {
     if a < b { b } else { a }
+}
+
+// One number less another, whichever is the greater.
+fn less(a: u64, b: u64) -> i64
+    requires { ⌜ (a < signed-above) × (b < signed-above) ⌝ }
+    ensures { λ r. ⌜ r ≡ pos a -ℤ pos b ⌝ }
+{
+    a as i64 - b as i64
 }
 
 // Number k of entry x: 0 is A, 1 is W, 2 is M.
@@ -91,12 +99,50 @@ fn mix_from(summaries: &[u32], x: usize, q: usize, after: u32) -> u64
     mix_before(summaries, x, later)
 }
 
-// Whether t is at most what this leaves of the cycle, the limit of entry x.
-pub fn within(summaries: &[u32], x: usize, later: Later, cycle: u32, t: u64) -> bool
-    requires { ⌜ Before (now summaries) x later × (t ≤ latest) ⌝ }
-    ensures { λ r. ⌜ r ≡ leZ (pos t) (pos cycle -ℤ pos (mix-before (stretch-at (now (summaries .entry)) x) later)) ⌝ }
+// ---- whether a level fits, by the room that the bodies after a place leave
+
+// More than any time and any average that is looked at: 2 to the 62nd.
+const AMPLE: u64 = 4_611_686_018_427_387_904;
+
+// What the rest of a body may come to: M at most `mix`, and the averages at most `average`, which are of no account without a body after it.
+pub struct Room {
+    pub mix: i64,
+    pub average: i64,
+}
+
+// What is left of a room of which so much is taken.
+pub fn taken(room: i64, much: u64) -> i64
+    requires { ⌜ (much < signed-above) × (mag (room -ℤ pos much) < signed-above) ⌝ }
+    ensures { λ r. ⌜ r ≡ room -ℤ pos much ⌝ }
 {
-    t + mix_before(summaries, x, later) <= cycle as u64
+    room - much as i64
+}
+
+// What is left of the cycle for the rest of a body that begins at a time, before so many bodies, each summed up in entry q.
+pub fn room_before(summaries: &[u32], q: usize, after: u64, cycle: u32, begins: u64) -> Room
+    requires { ⌜ LeavesRoom (now summaries) q after begins ⌝ }
+    ensures { λ r. ⌜ r ≡ room-left cycle begins (later-of (stretch-at (now (summaries .entry)) q) after) ⌝ }
+{
+    let later = bodies_after(summaries, q, after);
+    let left = less(cycle as u64, begins);
+    let mix = taken(left, later.lowest);
+    if after == 0 {
+        let average = less(cycle as u64 + AMPLE, begins);
+        return Room { mix, average };
+    }
+    let average = taken(left, later.mix);
+    Room { mix, average }
+}
+
+// Whether the rest of a body, summed up in entry x, has room. The averages are looked at first: where a level does not fit, they mostly tell.
+pub fn has_room(summaries: &[u32], x: usize, room: Room) -> bool
+    requires { ⌜ x * summary-numbers + summary-numbers ≤ length (now summaries) ⌝ }
+    ensures { λ r. ⌜ r ≡ fits-in (stretch-at (now (summaries .entry)) x) room ⌝ }
+{
+    if number_at(summaries, x, 0) as i64 <= room.average {
+        return number_at(summaries, x, 2) as i64 <= room.mix;
+    }
+    false
 }
 
 // ---- walking along the positions
@@ -250,7 +296,7 @@ fn limit_at(body: Body, summaries: &[u32], position: usize, level: usize) -> i64
 {
     let spot = spot_of(body, position);
     let x = spot.place * body.levels as usize + level;
-    body.cycle as i64 - mix_from(summaries, x, level, spot.after) as i64
+    less(body.cycle as u64, mix_from(summaries, x, level, spot.after))
 }
 
 // The limit at an unrolled position and a level, any values.
@@ -307,6 +353,6 @@ pub fn bound(
     );
     Limited {
         refusal: Refusal { number: 0 },
-        limit: body.cycle as i64 - most as i64,
+        limit: less(body.cycle as u64, most),
     }
 }

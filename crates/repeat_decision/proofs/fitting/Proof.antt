@@ -1,5 +1,5 @@
 -- From the top level down: those from q on do not fit. Assumes nothing.
-use Prim.Native.Nat.{ℕ, suc, _-_, _≤_, _<_}
+use Prim.Native.Nat.{ℕ, suc, _+_, _-_, _*_, _≤_, _<_}
 use mathlib.Core.Path.{_≡_, refl, sym, ap, _∙_}
 use mathlib.Core.Bool.{Bool, true, false}
 use mathlib.Core.List.{List, []}
@@ -7,15 +7,17 @@ use native.Mathlib.Omega.{arith}
 use lib.IntN.{pos}
 use lib.Signed.{leZ}
 use borrow.Author.Needs.{needs}
+use Rattle.rules.specs.Numbers.{summary-numbers}
 use Rattle.rules.specs.Words.{last-passing}
 use Rattle.rules.specs.Limits.{Plan}
 use Rattle.rules.specs.Run.{level-given, fits}
-use Rattle.rules.specs.Repeat.{LentBody, lent-plan}
+use Rattle.rules.specs.Repeat.{LentBody, stretch-at, lent-plan}
 use Rattle.rules.specs.declared.Body.{Body}
 use Rattle.rules.proofs.Tests.{last-here, last-past}
 use Rattle.repeat_laws.specs.Standing.{Standing}
+use Rattle.repeat_limits.specs.Limits.{fits-in}
 use Rattle.repeat_decision.specs.Decision.{fitting-levels}
-use Rattle.repeat_decision.proofs.Going.{row, summed-level, reads-within}
+use Rattle.repeat_decision.proofs.Going.{row, leaves-room, reads-room}
 use Rattle.repeat_decision.proofs.fitting.Statement.{statement}
 use Rattle.repeat_decision.proofs.fitting.Tie as tie
 
@@ -49,43 +51,41 @@ mul-row c = omega (arith, row (c .before .before .pre .0))
 loop-holds : tie.Need-loop-holds Inv-loop μ-loop
 loop-holds c = (search needs, (λ x s. refl), λ x s l. absurd (omega arith))
 
-bodies-after-requires : tie.Need-bodies-after-requires Inv-loop μ-loop
-bodies-after-requires c κs =
-    let low : c .before .loop .q - 1 < c .before .before .before .before .args .body .levels = omega (arith, c .before .loop .inv .0) in
-    let s = summed-level (c .before .before .before .before .pre .0) _ low in
-    (s .whole, s .few)
+abbrev start : tie.At-loop Inv-loop μ-loop → tie.Start Inv-loop μ-loop
+start c = c .before .before .before
 
-add-within : tie.Need-add-within Inv-loop μ-loop
-add-within c = omega (arith, row (c .before .before .before .before .before .pre .0), c .before .before .loop .inv .0)
+room-before-requires : tie.Need-room-before-requires Inv-loop μ-loop
+room-before-requires c κs =
+    let pre = start (c .before) .pre in
+    let h = pre .0 in
+    leaves-room (h .counts) (h .summed) (h .fewer) (omega (arith, c .before .loop .inv .0)) (omega (arith, pre .1))
 
-sub-within : tie.Need-sub-within Inv-loop μ-loop
-sub-within c = search needs
+add-has-room : tie.Need-add-has-room Inv-loop μ-loop
+add-has-room c = let at = c .before .before in omega (arith, row (start at .pre .0), at .loop .inv .0)
 
-within-requires : tie.Need-within-requires Inv-loop μ-loop
-within-requires c κs =
-    let pre = c .before .before .before .before .before .pre in
-    let e = c .bodies-after .ensures in (
-      record {
-        own = omega (arith, row (pre .0), pre .0 .summed, c .before .before .loop .inv .0);
-        few-lowest = e .few-lowest;
-        few-mix = e .few-mix;
-      },
-      omega (arith, pre .1),
-    )
+sub-has-room : tie.Need-sub-has-room Inv-loop μ-loop
+sub-has-room c = search needs
+
+has-room-requires : tie.Need-has-room-requires Inv-loop μ-loop
+has-room-requires c κs = let at = c .before .before in omega (arith, row (start at .pre .0), start at .pre .0 .summed, at .loop .inv .0)
 
 -- what is told of the level tested
-reads : (c : tie.After-within Inv-loop μ-loop) → let a = c .before .before .before .before .before .before .args in
-    (x : ℕ) → Standing (a .body) x (a .place) (a .after)
-    → c .within .result ≡ fit (a .body) (a .summaries .now) (a .t) x (c .before .before .before .loop .q - 1)
+reads : (c : tie.After-has-room Inv-loop μ-loop) → let at = c .before .before .before in let a = start at .args in
+    (x : ℕ) → Standing (a .body) x (a .place) (a .after) → c .has-room .result ≡ fit (a .body) (a .summaries .now) (a .t) x (at .loop .q - 1)
 reads c x s =
-    let a = c .before .before .before .before .before .before .args in
-    c .within .ensures ∙ reads-within (alone (a .summaries .now)) (a .t) _ (c .before .bodies-after .ensures) (omega arith) s
+    let at = c .before .before .before in
+    let a = start at .args in
+    let entry : ℕ = a .place * a .body .levels + at .loop .q - 1 in
+    c .has-room .ensures ∙ ap (fits-in (stretch-at (a .summaries .now) entry)) (c .before .room-before .ensures)
+    ∙ reads-room (alone (a .summaries .now)) (a .t) (at .loop .q - 1) entry
+    (omega (arith, at .before .before .shared-slice-known .given (entry * summary-numbers))) (omega (arith, start at .pre .1)) (omega arith) s
 
 returns : tie.Need-returns Inv-loop μ-loop
 unfolding level-given lent-plan
 returns c x s =
-    let a = c .before .before .before .before .before .before .before .args in
-    let l = c .before .before .before .before .loop in
+    let at = c .before .before .before .before in
+    let a = start at .args in
+    let l = at .loop in
     let h = sym (reads (c .before) x s) ∙ c .if1 .taken in
     let is = l .inv .1 x s ∙ last-here (fit (a .body) (a .summaries .now) (a .t) x) (l .q - 1) (l .q) (omega arith) h in
     let all : l .q ≡ suc (l .q - 1) = omega arith in
@@ -93,8 +93,9 @@ returns c x s =
 
 loop-again : tie.Need-loop-again Inv-loop μ-loop
 loop-again c =
-    let a = c .before .before .before .before .before .before .before .args in
-    let l = c .before .before .before .before .loop in (
+    let at = c .before .before .before .before in
+    let a = start at .args in
+    let l = at .loop in (
       search needs,
       (λ x s.
           let h = sym (reads (c .before) x s) ∙ c .if1 .left in
@@ -121,10 +122,10 @@ fitting-spec =
     mul-row
     loop-holds
     (λ c. search needs)
-    bodies-after-requires
-    add-within
-    sub-within
-    within-requires
+    room-before-requires
+    add-has-room
+    sub-has-room
+    has-room-requires
     returns
     (λ c. search needs)
     (λ c. search needs)

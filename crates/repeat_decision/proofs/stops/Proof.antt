@@ -1,76 +1,76 @@
--- By the level above, where there is one, and by the level. Assumes nothing.
-use Prim.Native.Nat.{suc, _+_}
-use mathlib.Core.Path.{sym, _∙_}
-use mathlib.Core.List.{[]}
-use mathlib.Core.Logic.{⊎-elim, inl, inr}
+-- By the level, and where there is one by the level above. Assumes nothing.
+use Prim.Native.Nat.{ℕ, suc, _+_}
+use mathlib.Core.Path.{_≡_, ap, sym, _∙_}
+use mathlib.Core.Bool.{Bool, true, false, not, _&&_, _||_}
 use native.Mathlib.Omega.{arith}
-use lib.IntN.{pos}
-use lib.Signed.{leZ}
 use borrow.Author.Needs.{needs}
 use borrow.Author.Tests.{lt-ltb, le-ltb}
-use Rattle.rules.specs.Repeat.{LentBody, lent-plan}
-use Rattle.repeat_decision.proofs.Going.{row, reads-within, stops-above, stops-own}
+use lib.Dec.{ltb}
+use Rattle.rules.specs.Repeat.{stretch-at}
+use Rattle.repeat_limits.specs.Limits.{fits-in}
 use Rattle.repeat_decision.proofs.stops.Statement.{statement}
 use Rattle.repeat_decision.proofs.stops.Tie as tie
 
-abbrev lent : tie.Start → LentBody
-lent s = record { order = []; summaries = s .args .summaries .now; worst = [] }
+by-above : (a b c : Bool) {r : Bool} → a ≡ true → b ≡ true → r ≡ c → r ≡ (not a || (b && c))
+by-above a b c e f g = rw (e, f, g)
 
-add-within : tie.Need-add-within
-add-within c =
-    let pre = c .before .before .before .before .pre in
-    omega (arith, row (pre .summarised), pre .reaches .entry-is, pre .level)
+at-top : (a b c : Bool) → a ≡ true → b ≡ false → false ≡ (not a || (b && c))
+at-top a b c e f = rw (e, f)
 
-within-requires : tie.Need-within-requires
-within-requires c κs =
-    let pre = c .before .before .before .before .pre in
-    let top = c .before .if1 .taken in
-    let A = pre .reaches .above (omega (arith, top)) in (
-      record {
-        own = omega (arith, row (pre .summarised), pre .reaches .entry-is, pre .summarised .summed, top);
-        few-lowest = A .few-lowest;
-        few-mix = A .few-mix;
-      },
-      pre .early,
-    )
+by-own : (a b c : Bool) → a ≡ false → true ≡ (not a || (b && c))
+by-own a b c e = rw e
+
+-- whether the level fits, whether there is one above it, and whether that fits
+abbrev own-fits : tie.Start → Bool
+own-fits s = fits-in (stretch-at (s .args .summaries .now) (s .args .here .entry)) (s .args .here .own)
+
+abbrev higher : tie.Start → Bool
+higher s = ltb (suc (s .args .level)) (s .args .body .levels)
+
+abbrev above-fits : tie.Start → ℕ → Bool
+above-fits s entry = fits-in (stretch-at (s .args .summaries .now) entry) (s .args .here .above)
+
+has-room-requires : tie.Need-has-room-requires
+has-room-requires c κs = c .before .before .pre .own
+
+has-room-requires-2 : tie.Need-has-room-requires-2
+has-room-requires-2 c κs =
+    let pre = c .before .before .before .before .before .before .before .pre in
+    omega (arith, pre .above (omega (arith, c .before .if2 .taken)))
 
 returns : tie.Need-returns
-unfolding lent-plan
-returns c x s =
-    let start = c .before .before .before .before .before .before in
-    let a = start .args in
-    let top = c .before .before .before .if1 .taken in
-    let R = start .pre .reaches in
-    let reads = reads-within (lent start) (a .t) (a .here .entry + 1) (R .above (omega (arith, top))) (omega (arith, R .entry-is)) s in
-    stops-above _ _ (leZ (pos (a .begins)) (lent-plan (a .body) (lent start) .limit x (a .level))) (lt-ltb (suc (a .level)) (a .body .levels) (omega (arith, top))) (sym reads ∙ sym (c .before .within .ensures) ∙ c .if2 .taken)
-
-within-requires-2 : tie.Need-within-requires-2
-within-requires-2 c κs =
-    let pre = c .before .before .before .before .pre in
-    let O = pre .reaches .own in (
-      record {
-        own = omega (arith, row (pre .summarised), pre .reaches .entry-is, pre .summarised .summed, pre .level);
-        few-lowest = O .few-lowest;
-        few-mix = O .few-mix;
-      },
-      pre .latest-begin,
-    )
+returns c =
+    let own = c .before .before .before .before in
+    let s = own .before .before .before .before in
+    let a = s .args in
+    let next : a .here .entry + 1 ≡ suc (a .here .entry) = omega arith in
+    by-above (own-fits s) (higher s) (above-fits s (suc (a .here .entry)))
+    (sym (own .before .has-room .ensures) ∙ own .if1 .taken)
+    (lt-ltb (suc (a .level)) (a .body .levels) (omega (arith, c .before .before .if2 .taken)))
+    (c .has-room2 .ensures ∙ ap (above-fits s) next)
 
 returns-2 : tie.Need-returns-2
-unfolding lent-plan
-returns-2 c x s =
-    let start = c .before .before .before .before .before in
-    let a = start .args in
-    let R = start .pre .reaches in
-    stops-own _ _ _ (c .within2 .ensures ∙ reads-within (lent start) (a .begins) (a .here .entry) (R .own) (R .entry-is) s)
-    (⊎-elim
-    (λ low.
-    let reads = reads-within (lent start) (a .t) (a .here .entry + 1) (R .above (omega (arith, low .0 .taken))) (omega (arith, R .entry-is)) s in
-    inr (sym reads ∙ sym (low .2 .ensures) ∙ low .3 .left))
-    (λ top. inl (le-ltb (suc (a .level)) (a .body .levels) (omega (arith, top .left))))
-    (c .before .before .if1 .came))
+returns-2 c =
+    let own = c .before .before in
+    let s = own .before .before .before .before in
+    at-top (own-fits s) (higher s) (above-fits s (suc (s .args .here .entry)))
+    (sym (own .before .has-room .ensures) ∙ own .if1 .taken)
+    (le-ltb (suc (s .args .level)) (s .args .body .levels) (omega (arith, c .if2 .left)))
+
+returns-3 : tie.Need-returns-3
+returns-3 c =
+    let s = c .before .before .before .before in
+    by-own (own-fits s) (higher s) (above-fits s (suc (s .args .here .entry))) (sym (c .before .has-room .ensures) ∙ c .if1 .left)
 
 pub stops-spec : {M : Type 1} → statement M
 stops-spec =
     tie.close
-    (tie.spec (λ c. search needs) (λ c. search needs) add-within within-requires returns within-requires-2 returns-2)
+    (tie.spec
+    has-room-requires
+    (λ c. search needs)
+    (λ c. search needs)
+    (λ c. search needs)
+    has-room-requires-2
+    returns
+    returns-2
+    returns-3)

@@ -1,11 +1,10 @@
 -- No body adds nothing; some are multiplied out. Assumes nothing.
 use Prim.Native.Nat.{_+_, _-_, _*_, _≤_}
-use mathlib.Core.Path.{_∙_}
 use native.Mathlib.Omega.{arith}
 use borrow.Author.Needs.{needs}
 use Rattle.rules.specs.Repeat.{stretch-at}
 use Rattle.repeat_limits.specs.Limits.{most-entry, greatest-later}
-use Rattle.repeat_limits.proofs.Sizes.{times-small, later-small, Read, some-join, none-joins, before-some}
+use Rattle.repeat_limits.proofs.Sizes.{times-small, later-small, Read, none-later, read-later}
 use Rattle.repeat_limits.proofs.bodies_after.Statement.{statement}
 use Rattle.repeat_limits.proofs.bodies_after.Tie as tie
 
@@ -15,7 +14,7 @@ returns c =
     record {
       few-lowest = omega arith;
       few-mix = omega arith;
-      joins = λ x. none-joins x (stretch-at (a .summaries .now) (a .q)) (a .after) (c .if1 .taken);
+      is = none-later (stretch-at (a .summaries .now) (a .q)) (a .after) (c .if1 .taken);
     }
 
 -- ---- with some bodies
@@ -65,7 +64,7 @@ returns-2 c =
     record {
       few-lowest = few c .lowest;
       few-mix = few c .mix;
-      joins = λ x. before-some _ x some ∙ rw (c .greater .ensures) (some-join (read c) (a .after) some x);
+      is = rw (c .greater .ensures) (read-later (read c) (a .after) some);
     }
 
 pub bodies-after-spec : {M : Type 1} → statement M

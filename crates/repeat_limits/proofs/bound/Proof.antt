@@ -2,16 +2,12 @@
 use mathlib.Core.Path.{_≡_, sym, _∙_}
 use mathlib.Core.List.{[]}
 use native.Mathlib.Omega.{arith}
-use lib.IntN.{pos, _-ℤ_}
-use mir.Syntax.{w64}
-use mir.Val.{SFits, toZ}
-use mir.Facts.{toZ-ofZ, toZ-pos}
 use borrow.Author.Needs.{needs}
 use Rattle.rules.specs.Repeat.{LentBody, body-bound-refusal}
-use Rattle.repeat_laws.proofs.Ranges.{difference-within}
 use Rattle.repeat_laws.proofs.Standing.{place-in, fewer, rest-left}
 use Rattle.repeat_limits.proofs.Refusing.{products, Bounded, bound-bounded}
 use Rattle.repeat_limits.proofs.Answers.{bound-refused, absent-is, present-is, bound-answered}
+use Rattle.repeat_limits.proofs.Rooms.{kept}
 use Rattle.repeat_limits.proofs.bound.Statement.{statement}
 use Rattle.repeat_limits.proofs.bound.Tie as tie
 
@@ -69,39 +65,17 @@ reach-requires c κs =
       room = omega (arith, rest-left n at, c .before .if2 .left);
     }
 
--- the two numbers, and their difference
-abbrev else1 : tie.After-reach → tie.Else1
-else1 c = c .before .before .before .before .before
-
-abbrev start : tie.After-reach → tie.Start
-start c = else1 c .before .before .before .before
-
-cycle-is : (c : tie.After-reach) → toZ w64 (start c .args .body .cycle) ≡ pos (start c .args .body .cycle)
-cycle-is c = toZ-pos w64 (omega (arith, bounded (else1 c) .stands .counts .cycle-in))
-
-most-is : (c : tie.After-reach) → toZ w64 (c .reach .result) ≡ pos (c .reach .result)
-most-is c = toZ-pos w64 (omega (arith, c .reach .ensures .0))
-
-fits : (c : tie.After-reach) → SFits w64 (pos (start c .args .body .cycle) -ℤ pos (c .reach .result))
-fits c = record {
-  sfits = omega (
-    arith,
-    difference-within (start c .args .body .cycle) (c .reach .result) 7022271527326 (omega (arith, bounded (else1 c) .stands .counts .cycle-in))
-        (omega (arith, c .reach .ensures .0)),
-  );
-}
-
-sub-t20 : tie.Need-sub-t20
-sub-t20 c = let r = c .before in rw (cycle-is r, most-is r) (fits r)
+less-requires : tie.Need-less-requires
+less-requires c κs = (omega arith, omega (arith, c .before .reach .ensures .0))
 
 returns-3 : tie.Need-returns-3
 returns-3 c =
-    let r = c .before in
-    let e = else1 r in
-    let s = start r in
+    let r = c .before .before in
+    let e = r .before .before .before .before .before in
+    let s = e .before .before .before .before in
     let a = s .args in
     let h = bounded e in
-    rw (cycle-is r, most-is r, toZ-ofZ (fits r))
+    rw (kept (a .body .cycle) (r .reach .result) (c .less .ensures) (omega arith) (omega (arith, r .reach .ensures .0)))
     (bound-answered (a .body) (lent s) (a .position) (a .level) (a .length) _ (h .stands .level) (h .some) (clear e)
     (r .reach .ensures .1 (a .position) (r .before .spot-of .ensures)
     ∙ present-is (a .body) (lent s) (a .position) (a .level) (a .length) (r .before .before .if2 .left)))
@@ -120,6 +94,5 @@ bound-spec =
     spot-of-requires
     reach-requires
     (λ c. search needs)
-    (λ c. search needs)
-    sub-t20
+    less-requires
     returns-3)
