@@ -2,7 +2,6 @@
 use Prim.Native.Nat.{ℕ, suc, _-_, _<_}
 use mathlib.Core.Path.{_≡_, refl, sym, ap, _∙_}
 use mathlib.Core.Bool.{Bool, true, false, not, cond}
-use mathlib.Core.List.{List, []}
 use mathlib.Core.Logic.{_≢_, ⊎-elim}
 use native.Mathlib.Omega.{arith}
 use lib.IntN.{pos}
@@ -14,10 +13,8 @@ use Rattle.rules.specs.declared.Body.{Body}
 use Rattle.rules.proofs.Tests.{failed, not-both, last-is}
 use Rattle.repeat_laws.specs.Standing.{Standing}
 use Rattle.repeat_laws.proofs.Coasting.{granted-none}
-use Rattle.repeat_decision.specs.Decision.{fitting-levels, MayGrant, MayChoose, Chooses}
-
-abbrev alone : List ℕ → LentBody
-alone s = record { order = []; summaries = s; worst = [] }
+use Rattle.repeat_decision.specs.Decision.{fitting-levels, Fits, MayGrant, MayChoose, Chooses}
+use Rattle.repeat_decision.specs.declared.Fit.{Fit}
 
 -- what a count of levels tells, by whether one fits
 some-fits : (f : Bool) (k m : ℕ) → m ≡ cond f (suc k) 0 → m ≢ 0 → (f ≡ true) × (k ≡ m - 1)
@@ -28,52 +25,53 @@ none-fits : (f : Bool) (k m : ℕ) → m ≡ cond f (suc k) 0 → m ≡ 0 → f 
 none-fits true k m e none = absurd (omega (arith, e, none))
 none-fits false k m e none = refl
 
-module _ {b : Body} {T : LentBody} {place after t m : ℕ} (h : MayChoose b T place after t)
-    (counted : (x : ℕ) → Standing b x place after → m ≡ fitting-levels (lent-plan b (alone (T .summaries))) t x) where
+module _ {b : Body} {T : LentBody} {place after t : ℕ} {f : Fit} (h : MayChoose b T place after t) (F : Fits b (T .summaries) place after t f) where
   -- the summaries alone tell it
-  told : (x : ℕ) → Standing b x place after → m ≡ fitting-levels (lent-plan b T) t x
+  told : (x : ℕ) → Standing b x place after → f .levels ≡ fitting-levels (lent-plan b T) t x
   unfolding lent-plan level-given fits
-  told x s = counted x s
+  told x s = F .levels x s
 
-  module _ (some : m ≢ 0) {x : ℕ} (s : Standing b x place after) where
-    pub level-is : level-given (lent-plan b T) t x ≡ m - 1
-    level-is = some-fits (fits (lent-plan b T) t x) (level-given (lent-plan b T) t x) m (told x s) some .1
+  module _ (some : f .levels ≢ 0) {x : ℕ} (s : Standing b x place after) where
+    pub level-is : level-given (lent-plan b T) t x ≡ f .levels - 1
+    level-is = some-fits (fits (lent-plan b T) t x) (level-given (lent-plan b T) t x) (f .levels) (told x s) some .1
 
     pub fits-here : fits (lent-plan b T) t x ≡ true
-    fits-here = some-fits (fits (lent-plan b T) t x) (level-given (lent-plan b T) t x) m (told x s) some .0
+    fits-here = some-fits (fits (lent-plan b T) t x) (level-given (lent-plan b T) t x) (f .levels) (told x s) some .0
 
-    level-fits : leZ (pos t) (lent-plan b T .limit x (m - 1)) ≡ true
+    level-fits : leZ (pos t) (lent-plan b T .limit x (f .levels - 1)) ≡ true
     unfolding fits
     level-fits = rw level-is at fits-here
 
-    level-low : m - 1 < b .levels
+    level-low : f .levels - 1 < b .levels
     unfolding lent-plan level-given
     level-low = omega (arith, level-is, last-is (λ q. leZ (pos t) (lent-plan b T .limit x q)) (b .levels) .below (h .summarised .counts .some-level))
 
-    none-above : suc (m - 1) < b .levels → leZ (pos t) (lent-plan b T .limit x (suc (m - 1))) ≡ false
+    none-above : suc (f .levels - 1) < b .levels → leZ (pos t) (lent-plan b T .limit x (suc (f .levels - 1))) ≡ false
     unfolding lent-plan level-given
     none-above l =
-        failed _ (last-is (λ q. leZ (pos t) (lent-plan b T .limit x q)) (b .levels) .none-above (suc (m - 1)) (omega (arith, level-is)) l)
+        failed _ (last-is (λ q. leZ (pos t) (lent-plan b T .limit x q)) (b .levels) .none-above (suc (f .levels - 1)) (omega (arith, level-is)) l)
 
-  pub may-grant : {x : ℕ} → Standing b x place after → m ≢ 0 → MayGrant b T place after (m - 1) t
+  pub may-grant : {x : ℕ} → Standing b x place after → f .levels ≢ 0 → MayGrant b T place after f t
   may-grant s some = record {
     summarised = h .summarised;
     timed = h .timed;
+    some = omega (arith, some);
     level = level-low some s;
     early = h .early;
+    rooms = F;
     fits = λ x at. level-fits some at;
     none-above = λ x at. none-above some at;
   }
 
   -- where a level fits, with what is left to coast at it
-  pub chosen : {left : ℕ} → m ≢ 0 → (x : ℕ) → Standing b x place after
-      → left ≡ left-granted longest-coast (lent-plan b T) t x (m - 1) → Chooses (lent-plan b T) t x (record { level = m - 1; left = left; late = false })
+  pub chosen : {left : ℕ} → f .levels ≢ 0 → (x : ℕ) → Standing b x place after
+      → left ≡ left-granted longest-coast (lent-plan b T) t x (f .levels - 1) → Chooses (lent-plan b T) t x (record { level = f .levels - 1; left = left; late = false })
   chosen some x s l = record { level = sym (level-is some s); left = l; late = ap not (sym (fits-here some s)) }
 
   -- where none does, level 0 for one action
-  module _ (none : m ≡ 0) {x : ℕ} (s : Standing b x place after) where
+  module _ (none : f .levels ≡ 0) {x : ℕ} (s : Standing b x place after) where
     none-here : fits (lent-plan b T) t x ≡ false
-    none-here = none-fits (fits (lent-plan b T) t x) (level-given (lent-plan b T) t x) m (told x s) none
+    none-here = none-fits (fits (lent-plan b T) t x) (level-given (lent-plan b T) t x) (f .levels) (told x s) none
 
     level-none : level-given (lent-plan b T) t x ≡ 0
     unfolding lent-plan level-given fits

@@ -1,2 +1,4 @@
+pub mod Walking
 pub mod Going
+pub mod Coasts
 pub mod Choosing

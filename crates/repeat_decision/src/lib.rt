@@ -3,19 +3,18 @@
 use repeat_limits::Room;
 use repeat_limits::has_room;
 use repeat_limits::room_before;
+use repeat_limits::room_nearer;
 use repeat_limits::taken;
 use rules::Body;
 ghost use mathlib.Core.Path.{_≡_};
 ghost use mathlib.Core.List.{[]};
-ghost use Prim.Native.Nat.{ℕ, suc, _+_, _*_, _≤_, _<_, min};
-ghost use lib.IntN.{pos, _-ℤ_};
-ghost use lib.Signed.{mag};
-ghost use Rattle.rules.specs.Numbers.{most-actions, most-repeats, longest-coast};
+ghost use Prim.Native.Nat.{ℕ, _+_, _-_, _*_, _≤_, _<_, min};
+ghost use Rattle.rules.specs.Numbers.{most-actions, most-levels, most-repeats, longest-coast};
 ghost use Rattle.rules.specs.Run.{left-granted};
-ghost use Rattle.rules.specs.Repeat.{positions, lent-plan};
+ghost use Rattle.rules.specs.Repeat.{lent-plan};
 ghost use Rattle.repeat_laws.specs.Standing.{Standing};
-ghost use Rattle.repeat_limits.specs.Limits.{signed-above};
-ghost use Rattle.repeat_decision.specs.Decision.{last-start, fitting-levels, stops-there, Summarised, StandsAt, MayReach, Reaches, Leads, MayStop, MayGrant, MayChoose, Chooses};
+ghost use Rattle.repeat_limits.specs.Limits.{Near, narrowed-by};
+ghost use Rattle.repeat_decision.specs.Decision.{last-start, most-cells, Summarised, Fits, onward-by, MayTurn, Turns, MayStop, stops-there, MayWalk, Walks, MayGrant, MayChoose, Chooses};
 
 // What a decision takes: the level, what it leaves to coast, and whether no level fits.
 pub struct Choice {
@@ -26,67 +25,59 @@ pub struct Choice {
 
 // ---- the level
 
-// How many levels there are up to the greatest that fits at a time; 0 where none fits.
-fn fitting(body: Body, summaries: &[u32], place: usize, after: u32, t: u64) -> usize
-    requires { ⌜ Summarised body (now summaries) place after × (t ≤ last-start) ⌝ }
-    ensures { λ r. ⌜ ((x : ℕ) → Standing body x place after
-        → r ≡ fitting-levels (lent-plan body (record { order = []; summaries = now (summaries .entry); worst = [] })) t x) ⌝ }
-{
-    let levels = body.levels as usize;
-    let row = place * levels;
-    let mut q = levels;
-    while 0 < q {
-        let room = room_before(summaries, q - 1, after as u64, body.cycle, t);
-        if has_room(summaries, row + q - 1, room) {
-            return q;
-        }
-        q -= 1;
-    }
-    0
-}
-
-// ---- the coast
-
-// Where a coast has got to: the entry of its level, the bodies after it, when the position begins at the latest, and the room there: of the level
-// from then on, and of the level above, if there is one, from the decision on.
-struct Reached {
-    entry: usize,
-    after: u64,
-    begins: u64,
+// How many levels there are up to the greatest that fits at a time, 0 where none does, with the room at that level and, if there is one, at the
+// level above.
+struct Fit {
+    levels: usize,
     own: Room,
     above: Room,
 }
 
-fn at_entry(
-    body: Body,
-    summaries: &[u32],
-    entry: usize,
-    after: u64,
-    begins: u64,
-    level: usize,
-    t: u64,
-) -> Reached
-    requires { ⌜ MayReach body (now summaries) after begins level t ⌝ }
-    ensures { λ r. ⌜ (r .entry ≡ entry) × (r .after ≡ after) × (r .begins ≡ begins) × Reaches body (now (summaries .entry)) level t r ⌝ }
+fn fitting(body: Body, summaries: &[u32], place: usize, after: u32, t: u64) -> Fit
+    requires { ⌜ Summarised body (now summaries) place after × (t ≤ last-start) ⌝ }
+    ensures { λ r. ⌜ Fits body (now (summaries .entry)) place after t r ⌝ }
 {
-    let own = room_before(summaries, level, after, body.cycle, begins);
-    let mut above = own;
-    if level + 1 < body.levels as usize {
-        above = room_before(summaries, level + 1, after, body.cycle, t);
+    let levels = body.levels as usize;
+    let row = place * levels;
+    let mut above = Room { mix: 0, average: 0 };
+    let mut q = levels;
+    while 0 < q {
+        let own = room_before(summaries, q - 1, after as u64, body.cycle, t);
+        if has_room(summaries, row + q - 1, own) {
+            return Fit {
+                levels: q,
+                own,
+                above,
+            };
+        }
+        above = own;
+        q -= 1;
     }
-    Reached {
-        entry,
-        after,
-        begins,
+    let own = above;
+    Fit {
+        levels: 0,
         own,
         above,
     }
 }
 
+// ---- the coast
+
+// Where a coast has got to: the entry of its level that it looks at, that at which the longest coast would end, as if the body went on and on, the
+// bodies after this one, and the room: of the level from the time on at which the position begins at the latest, and of the level above, if there is
+// one, from the decision on.
+struct Reached {
+    entry: usize,
+    goal: usize,
+    after: u64,
+    own: Room,
+    above: Room,
+}
+
 // The room for what begins later by a worst time.
 fn narrowed(room: Room, worst: u32) -> Room
-    requires { ⌜ (mag (room .mix -ℤ pos worst) < signed-above) × (mag (room .average -ℤ pos worst) < signed-above) ⌝ }
-    ensures { λ r. ⌜ r ≡ record { mix = room .mix -ℤ pos worst; average = room .average -ℤ pos worst } ⌝ }
+    requires { ⌜ Near (narrowed-by room worst) ⌝ }
+    ensures { λ r. ⌜ r ≡ narrowed-by room worst ⌝ }
 {
     Room {
         mix: taken(room.mix, worst as u64),
@@ -94,30 +85,49 @@ fn narrowed(room: Room, worst: u32) -> Room
     }
 }
 
-// The next position: the next place of the same body, where the bodies after it stay, or after the last place the first of the next body.
-fn onward(body: Body, summaries: &[u32], here: Reached, worst: u32, level: usize, t: u64) -> Reached
-    requires { ⌜ Leads body (now summaries) here level t ⌝ }
-    ensures { λ r. ⌜ Reaches body (now (summaries .entry)) level t r × (r .begins ≡ here .begins + worst)
-        × ((x : ℕ) → StandsAt body level (here .entry) (here .after) x → suc x < positions body → StandsAt body level (r .entry) (r .after) (suc x)) ⌝ }
+// One place on in the same body, after a worst time: the bodies after it stay.
+fn onward(levels: usize, here: Reached, worst: u32) -> Reached
+    requires { ⌜ (levels ≤ most-levels) × (here .entry < most-cells) × Near (narrowed-by (here .own) worst) ⌝ }
+    ensures { λ r. ⌜ r ≡ onward-by levels worst here ⌝ }
 {
-    let levels = body.levels as usize;
-    let next = here.entry + levels;
-    let begins = here.begins + worst as u64;
-    if body.n as usize * levels <= next {
-        return at_entry(body, summaries, level, here.after - 1, begins, level, t);
-    }
     let own = here.own;
     let above = here.above;
     Reached {
-        entry: next,
+        entry: here.entry + levels,
+        goal: here.goal,
         after: here.after,
-        begins,
         own: narrowed(own, worst),
         above,
     }
 }
 
-// Whether a coast stops before the position reached: the level does not fit there, or the level above does.
+// Past the last place of a body it is the first one of the next.
+fn in_body(body: Body, summaries: &[u32], here: Reached, level: usize) -> Reached
+    requires { ⌜ MayTurn body (now summaries) here level ⌝ }
+    ensures { λ r. ⌜ Turns body (now (summaries .entry)) here level r ⌝ }
+{
+    let levels = body.levels as usize;
+    let cells = body.n as usize * levels;
+    if here.entry < cells {
+        return here;
+    }
+    let after = here.after;
+    let mut own = here.own;
+    own = room_nearer(summaries, level, after, own);
+    let mut above = here.above;
+    if level + 1 < levels {
+        above = room_nearer(summaries, level + 1, after, above);
+    }
+    Reached {
+        entry: level,
+        goal: here.goal - cells,
+        after: after - 1,
+        own,
+        above,
+    }
+}
+
+// Whether a coast stops before the position looked at: the level does not fit there, or the level above does.
 fn stops(body: Body, summaries: &[u32], here: Reached, level: usize) -> bool
     requires { ⌜ MayStop body (now summaries) here level ⌝ }
     ensures { λ r. ⌜ r ≡ stops-there body (now (summaries .entry)) here level ⌝ }
@@ -134,6 +144,36 @@ fn stops(body: Body, summaries: &[u32], here: Reached, level: usize) -> bool
     true
 }
 
+// Along the places of one body, up to the entry at which the body or the longest coast ends, or to the first before which the coast stops.
+fn along(
+    body: Body,
+    summaries: &[u32],
+    worst: &[u32],
+    from: Reached,
+    stop: usize,
+    level: usize,
+) -> Reached
+    requires { ⌜ MayWalk body (now summaries) (now worst) from stop level ⌝ }
+    ensures { λ r. ⌜ Walks body (now (summaries .entry)) (now (worst .entry)) from stop level r ⌝ }
+{
+    let levels = body.levels as usize;
+    let mut here = from;
+    while here.entry < stop {
+        if stops(body, summaries, here, level) {
+            return here;
+        }
+        let at = here.entry;
+        here = onward(levels, here, worst[at]);
+    }
+    here
+}
+
+fn lesser(a: usize, b: usize) -> usize
+    ensures { λ r. ⌜ r ≡ min a b ⌝ }
+{
+    if a < b { a } else { b }
+}
+
 // The lesser of the longest coast and what is left of the frame: `own` of this body, and the bodies after it.
 fn most(n: usize, own: usize, after: u32) -> usize
     requires { ⌜ (n ≤ most-actions) × (own ≤ most-actions) × (after < most-repeats) ⌝ }
@@ -147,36 +187,51 @@ fn most(n: usize, own: usize, after: u32) -> usize
     }
 }
 
-// What a decision leaves to coast for the level given, where that fits: one less than the greatest r that qualifies. It is found from below, up to
-// the first position at which the level above fits, or at which the level does not if each before it took its worst time: no longer coast qualifies.
+// What a decision leaves to coast for the level given, where that fits: one less than the greatest r that qualifies. It is found from below, body by
+// body, up to the first position at which the level above fits, or at which the level does not if each before it took its worst time: no longer coast
+// qualifies.
 fn left_granted(
     body: Body,
     summaries: &[u32],
     worst: &[u32],
     place: usize,
     after: u32,
-    level: usize,
+    fit: Fit,
     t: u64,
 ) -> u8
-    requires { ⌜ MayGrant body (record { order = []; summaries = now summaries; worst = now worst }) place after level t ⌝ }
+    requires { ⌜ MayGrant body (record { order = []; summaries = now summaries; worst = now worst }) place after fit t ⌝ }
     ensures { λ r. ⌜ ((x : ℕ) → Standing body x place after
         → r ≡ left-granted longest-coast
-        (lent-plan body (record { order = []; summaries = now (summaries .entry); worst = now (worst .entry) })) t x level) ⌝ }
+        (lent-plan body (record { order = []; summaries = now (summaries .entry); worst = now (worst .entry) })) t x (fit .levels - 1)) ⌝ }
 {
     let n = body.n as usize;
-    let end = most(n, n - place, after);
-    let entry = place * body.levels as usize + level;
-    let mut here = at_entry(body, summaries, entry, after as u64, t, level, t);
-    let mut left: usize = 0;
-    while left + 1 < end {
-        let at = here.entry;
-        here = onward(body, summaries, here, worst[at], level, t);
-        if stops(body, summaries, here, level) {
-            return left as u8;
+    let levels = body.levels as usize;
+    let level = fit.levels - 1;
+    let cells = n * levels;
+    let end = most(n, n - place, after) - 1;
+    let first = place * levels + level;
+    let own = fit.own;
+    let above = fit.above;
+    let mut here = onward(
+        levels,
+        Reached {
+            entry: first,
+            goal: first + levels + end * levels,
+            after: after as u64,
+            own,
+            above,
+        },
+        worst[first],
+    );
+    while here.entry < here.goal {
+        here = in_body(body, summaries, here, level);
+        let stop = lesser(here.goal, cells + level);
+        here = along(body, summaries, worst, here, stop, level);
+        if here.entry < stop {
+            return (end - (here.goal - here.entry) / levels) as u8;
         }
-        left += 1;
     }
-    left as u8
+    end as u8
 }
 
 // ---- both
@@ -194,18 +249,17 @@ pub fn choose(
     ensures { λ r. ⌜ ((x : ℕ) → Standing body x place after
         → Chooses (lent-plan body (record { order = []; summaries = now (summaries .entry); worst = now (worst .entry) })) t x r) ⌝ }
 {
-    let levels = fitting(body, summaries, place, after, t);
-    if levels == 0 {
+    let fit = fitting(body, summaries, place, after, t);
+    if fit.levels == 0 {
         return Choice {
             level: 0,
             left: 0,
             late: true,
         };
     }
-    let level = levels - 1;
-    let left = left_granted(body, summaries, worst, place, after, level, t);
+    let left = left_granted(body, summaries, worst, place, after, fit, t);
     Choice {
-        level: level as u32,
+        level: (fit.levels - 1) as u32,
         left,
         late: false,
     }

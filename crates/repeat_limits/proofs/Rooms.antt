@@ -1,11 +1,11 @@
 -- The room that the bodies after a place leave, and that a rest has room exactly where its limit allows the time. Assumes nothing.
-use Prim.Native.Nat.{ℕ, zero, suc, _+_, _≤_, _<_, max}
+use Prim.Native.Nat.{ℕ, zero, suc, _+_, _-_, _*_, _≤_, _<_, max}
 use mathlib.Core.Path.{_≡_, refl, ap, sym, _∙_}
 use mathlib.Core.Bool.{Bool, true, false, cond, _&&_}
 use mathlib.Core.Logic.{_≢_}
 use native.Mathlib.Omega.{arith}
 use lib.Dec.{T, eqb, leb, leb→le, le→leb}
-use lib.IntN.{ℤ, pos, _-ℤ_}
+use lib.IntN.{ℤ, pos, negℤ, _+ℤ_, _-ℤ_, +ℤ-assoc, +ℤ-comm, +ℤ-idr, negℤ-+ℤ, -ℤ-+ℤ-cancel}
 use lib.Signed.{leZ, mag}
 use mir.Syntax.{w64}
 use mir.Val.{toZ, ofZ}
@@ -15,13 +15,19 @@ use Rattle.rules.specs.Numbers.{last-clock}
 use Rattle.rules.specs.Repeat.{Sums, followed, bodies}
 use Rattle.rules.proofs.Differences.{at-most-difference, take-both}
 use Rattle.repeat_laws.proofs.Ranges.{difference-within}
-use Rattle.repeat_limits.specs.Limits.{signed-above, most-entry, latest, ample, greatest-later, later-of, room-left, fits-in}
+use Rattle.repeat_limits.specs.Limits.{signed-above, most-entry, latest, ample, greatest-later, later-of, room-left, narrowed-by, Near, fits-in}
 use Rattle.repeat_limits.specs.declared.Later.{Later}
 use Rattle.repeat_limits.specs.declared.Room.{Room}
 
--- a difference as a number of 64 bits keeps it
+-- a number as 64 bits keep it, and so a difference
+pub stored : {z x : ℤ} → z ≡ x → mag x < signed-above → toZ w64 (ofZ w64 z) ≡ x
+stored e near = rw e (toZ-ofZ {w = w64} (record { sfits = near }))
+
 pub kept : {z : ℤ} (a b : ℕ) → z ≡ pos a -ℤ pos b → a < signed-above → b < signed-above → toZ w64 (ofZ w64 z) ≡ pos a -ℤ pos b
-kept a b e l h = rw e (toZ-ofZ {w = w64} (record { sfits = difference-within a b signed-above l h }))
+kept a b e l h = stored e (difference-within a b signed-above l h)
+
+pub same-near : {r s : Room} → r ≡ s → Near s → Near r
+same-near e h = rw e h
 
 -- without a body, and with some
 pub room-none : (c b : ℕ) (y : Sums) (after : ℕ) {l : Later} → l ≡ later-of y after → after ≡ 0
@@ -33,9 +39,30 @@ pub room-some : (c b : ℕ) (y : Sums) (after : ℕ) {l : Later} → l ≡ later
 room-some c b y zero e some = absurd (some refl)
 room-some c b y (suc m) e some = rw (e, ne-eqb (suc m) 0 some)
 
+pub room-within : (c b : ℕ) (l : Later) → c ≤ last-clock → b ≤ latest → l .lowest ≤ greatest-later → l .mix ≤ greatest-later
+    → Near (room-left c b l)
+room-within c b l cycle early lowest mix = (
+  difference-within c (b + l .lowest) signed-above (omega (arith, cycle)) (omega (arith, early, lowest)),
+  near (eqb (l .bodies) 0),
+)
+  where
+    near : (none : Bool) → mag (cond none (pos (c + ample) -ℤ pos b) (pos c -ℤ pos (b + l .mix))) < signed-above
+    near true = difference-within (c + ample) b signed-above (omega (arith, cycle)) (omega (arith, early))
+    near false = difference-within c (b + l .mix) signed-above (omega (arith, cycle)) (omega (arith, early, mix))
+
+-- to narrow twice, and not at all
+pub narrowed-both : (r : Room) (a b : ℕ) → narrowed-by (narrowed-by r a) b ≡ narrowed-by r (a + b)
+narrowed-both r a b = rw (twice (r .mix), twice (r .average))
+  where
+    twice : (z : ℤ) → z -ℤ pos a -ℤ pos b ≡ z -ℤ pos (a + b)
+    twice z = +ℤ-assoc z (negℤ (pos a)) (negℤ (pos b)) ∙ ap (λ (x : ℤ). z +ℤ x) (sym (negℤ-+ℤ (pos a) (pos b)))
+
+pub narrowed-none : (r : Room) → narrowed-by r 0 ≡ r
+narrowed-none r = rw (+ℤ-idr (r .mix), +ℤ-idr (r .average))
+
 -- From a later time on there is less room by as much: as numbers, and still within 64 bits.
 module _ (c b w : ℕ) (l : Later) where
-  pub later-room : {r : Room} → r ≡ room-left c b l → record { mix = r .mix -ℤ pos w; average = r .average -ℤ pos w } ≡ room-left c (b + w) l
+  pub later-room : {r : Room} → r ≡ room-left c b l → narrowed-by r w ≡ room-left c (b + w) l
   later-room e = rw (e, mix, averages (eqb (l .bodies) 0))
     where
       mix : pos c -ℤ pos (b + l .lowest) -ℤ pos w ≡ pos c -ℤ pos (b + w + l .lowest)
@@ -47,21 +74,48 @@ module _ (c b w : ℕ) (l : Later) where
       averages false = let sum : b + l .mix + w ≡ b + w + l .mix = omega arith in take-both c (b + l .mix) w ∙ ap (λ (k : ℕ). pos c -ℤ pos k) sum
 
   pub room-near : c ≤ last-clock → b + w ≤ latest → l .lowest ≤ greatest-later → l .mix ≤ greatest-later → {r : Room} → r ≡ room-left c b l
-      → (mag (r .mix -ℤ pos w) < signed-above) × (mag (r .average -ℤ pos w) < signed-above)
-  room-near cycle early lowest mix {r} e = rw (ap mix-of-room (later-room e), ap average-of-room (later-room e)) (
-    difference-within c (b + w + l .lowest) signed-above (omega (arith, cycle)) (omega (arith, early, lowest)),
-    near (eqb (l .bodies) 0),
-  )
-    where
-      mix-of-room : Room → ℤ
-      mix-of-room x = x .mix
+      → Near (narrowed-by r w)
+  room-near cycle early lowest mix e = same-near (later-room e) (room-within c (b + w) l cycle early lowest mix)
 
-      average-of-room : Room → ℤ
-      average-of-room x = x .average
+-- With one body fewer after it there is more room: by its worst times at level 0 for M, and for the averages by the greater of both.
+given-back : (a b c : ℕ) → pos a -ℤ pos (b + c) +ℤ pos c ≡ pos a -ℤ pos b
+given-back a b c = ap (λ (z : ℤ). z +ℤ pos c) (sym (take-both a b c)) ∙ -ℤ-+ℤ-cancel (pos a -ℤ pos b) (pos c)
 
-      near : (none : Bool) → mag (cond none (pos (c + ample) -ℤ pos (b + w)) (pos c -ℤ pos (b + w + l .mix))) < signed-above
-      near true = difference-within (c + ample) (b + w) signed-above (omega (arith, cycle)) (omega (arith, early))
-      near false = difference-within c (b + w + l .mix) signed-above (omega (arith, cycle)) (omega (arith, early, mix))
+given-more : (a b c : ℕ) → pos a -ℤ pos b +ℤ pos c ≡ pos (a + c) -ℤ pos b
+given-more a b c =
+    +ℤ-assoc (pos a) (negℤ (pos b)) (pos c) ∙ ap (λ (z : ℤ). pos a +ℤ z) (+ℤ-comm (negℤ (pos b)) (pos c))
+    ∙ sym (+ℤ-assoc (pos a) (pos c) (negℤ (pos b)))
+
+-- the room with what one of so many bodies gives back
+abbrev pub room-given : Sums → ℕ → Room → Room
+room-given y after r = record {
+  mix = r .mix +ℤ pos (y .lowest);
+  average = cond (eqb after 1) (r .mix +ℤ pos (y .lowest) +ℤ pos ample) (r .average +ℤ pos (max (y .average) (y .lowest)));
+}
+
+pub nearer : (c b : ℕ) (y : Sums) (after : ℕ) → 0 < after → {r : Room} → r ≡ room-left c b (later-of y after)
+    → room-given y after r ≡ room-left c b (later-of y (after - 1))
+nearer c b y zero some e = absurd (omega (arith, some))
+nearer c b y (suc zero) some e =
+    let one : b + 1 * y .lowest ≡ b + 0 + y .lowest = omega arith in
+    let none : b + 0 ≡ b = omega arith in
+    rw (e, one, given-back c (b + 0) (y .lowest), none, given-more c b ample)
+nearer c b y (suc (suc m)) some e =
+    let G : ℕ = max (y .average) (y .lowest) in
+    let less : suc (suc m) - 1 ≡ suc m = omega arith in
+    let lowest : b + suc (suc m) * y .lowest ≡ b + suc m * y .lowest + y .lowest = omega arith in
+    let average : b + (y .mix + suc m * G) ≡ b + (y .mix + m * G) + G = omega arith in
+    rw (
+      less,
+      e,
+      ne-eqb (suc (suc m)) 1 (λ x. absurd (omega (arith, x))),
+      ne-eqb (suc (suc m)) 0 (λ x. absurd (omega (arith, x))),
+      ne-eqb (suc m) 0 (λ x. absurd (omega (arith, x))),
+      lowest,
+      given-back c (b + suc m * y .lowest) (y .lowest),
+      average,
+      given-back c (b + (y .mix + m * G)) G,
+    )
 
 -- two tests are one of the greater
 both-tests : (a b c d m k : ℕ) → (a ≤ b → c ≤ d → m ≤ k) → (m ≤ k → a ≤ b) → (m ≤ k → c ≤ d) → (leb a b && leb c d) ≡ leb m k

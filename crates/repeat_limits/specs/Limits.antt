@@ -6,7 +6,7 @@ use mathlib.Core.List.{List, []}
 use lib.Dec.{eqb}
 use lib.IntN.{pos, _-ℤ_}
 use lib.ListN.{length}
-use lib.Signed.{leZ}
+use lib.Signed.{leZ, mag}
 use Rattle.rules.specs.Numbers.{most-actions, most-levels, last-clock, most-repeats, longest-coast, summary-numbers}
 use Rattle.rules.specs.Image.{Profile}
 use Rattle.rules.specs.Order.{Order, TheOrder}
@@ -109,6 +109,14 @@ room-left cycle begins l = record {
   average = cond (eqb (l .bodies) 0) (pos (cycle + ample) -ℤ pos begins) (pos cycle -ℤ pos (begins + l .mix));
 }
 
+-- from a later time on there is less, for both
+abbrev pub narrowed-by : Room → ℕ → Room
+narrowed-by r later = record { mix = r .mix -ℤ pos later; average = r .average -ℤ pos later }
+
+-- both numbers are within 64 bits
+abbrev pub Near : Room → Type 0
+Near r = (mag (r .mix) < signed-above) × (mag (r .average) < signed-above)
+
 abbrev pub fits-in : Sums → Room → Bool
 fits-in x r = leZ (pos (x .average)) (r .average) && leZ (pos (x .mix)) (r .mix)
 
@@ -117,6 +125,17 @@ pub record LeavesRoom (summaries : List ℕ) (q after begins : ℕ) : Type 0 whe
   pub whole : q * summary-numbers + summary-numbers ≤ length summaries
   pub few : after < most-repeats
   pub early : begins ≤ latest
+
+-- the room before some bodies, each summed up in entry q, from a time on that is not too late
+pub record Nears (summaries : List ℕ) (q after : ℕ) (room : Room) : Type 0 where
+  pub whole : q * summary-numbers + summary-numbers ≤ length summaries
+  pub some : 0 < after
+  pub few : after < most-repeats
+  pub cycle : ℕ
+  pub begins : ℕ
+  pub cycle-in : cycle ≤ last-clock
+  pub early : begins ≤ latest
+  pub is : room ≡ room-left cycle begins (later-of (stretch-at summaries q) after)
 
 -- the summaries of entry x, and bodies after it
 pub record Before (summaries : List ℕ) (x : ℕ) (l : Later) : Type 0 where

@@ -4,15 +4,15 @@ use rules::Body;
 use rules::Refusal;
 ghost use mathlib.Core.Path.{_≡_};
 ghost use mathlib.Core.List.{[]};
-ghost use Prim.Native.Nat.{ℕ, suc, _+_, _*_, _≤_, _<_, max};
-ghost use lib.IntN.{pos, _-ℤ_};
+ghost use Prim.Native.Nat.{ℕ, suc, _+_, _-_, _*_, _≤_, _<_, max};
+ghost use lib.IntN.{pos, _+ℤ_, _-ℤ_};
 ghost use lib.ListN.{length, getD};
 ghost use lib.Signed.{mag};
 ghost use Rattle.rules.specs.Numbers.{most-repeats, summary-numbers};
 ghost use Rattle.rules.specs.Refusals.{first};
 ghost use Rattle.rules.specs.Repeat.{followed, bodies, stretch-at, positions, lent-plan, body-tests, body-limit-refusal, body-bound-refusal};
 ghost use Rattle.repeat_laws.specs.Standing.{Standing};
-ghost use Rattle.repeat_limits.specs.Limits.{signed-above, most-entry, greatest-mix, greatest-reach, CountsIn, Stands, Summed, later-of, BodiesAfter, Before, mix-before, LeavesRoom, room-left, fits-in, MoreAfter, Coasts, LimitAnswers, BoundAnswers};
+ghost use Rattle.repeat_limits.specs.Limits.{signed-above, most-entry, greatest-mix, greatest-reach, CountsIn, Stands, Summed, later-of, BodiesAfter, Before, mix-before, LeavesRoom, Nears, room-left, fits-in, MoreAfter, Coasts, LimitAnswers, BoundAnswers};
 
 // What the limit or the coast bound asked for is; with a refusal it is 0.
 #[repr(C)]
@@ -118,6 +118,14 @@ pub fn taken(room: i64, much: u64) -> i64
     room - much as i64
 }
 
+// What a room comes to that so much is given back to.
+fn given(room: i64, much: u64) -> i64
+    requires { ⌜ (much < signed-above) × (mag (room +ℤ pos much) < signed-above) ⌝ }
+    ensures { λ r. ⌜ r ≡ room +ℤ pos much ⌝ }
+{
+    room + much as i64
+}
+
 // What is left of the cycle for the rest of a body that begins at a time, before so many bodies, each summed up in entry q.
 pub fn room_before(summaries: &[u32], q: usize, after: u64, cycle: u32, begins: u64) -> Room
     requires { ⌜ LeavesRoom (now summaries) q after begins ⌝ }
@@ -131,6 +139,23 @@ pub fn room_before(summaries: &[u32], q: usize, after: u64, cycle: u32, begins: 
         return Room { mix, average };
     }
     let average = taken(left, later.mix);
+    Room { mix, average }
+}
+
+// The same before one body fewer, without a multiplication: it gives back what it took.
+pub fn room_nearer(summaries: &[u32], q: usize, after: u64, room: Room) -> Room
+    requires { ⌜ Nears (now summaries) q after room ⌝ }
+    ensures { λ r. ⌜ ((cycle begins : ℕ) → room ≡ room-left cycle begins (later-of (stretch-at (now (summaries .entry)) q) after)
+        → r ≡ room-left cycle begins (later-of (stretch-at (now (summaries .entry)) q) (after - 1))) ⌝ }
+{
+    let lowest = number_at(summaries, q, 1);
+    let mix = given(room.mix, lowest);
+    if after == 1 {
+        let average = given(mix, AMPLE);
+        return Room { mix, average };
+    }
+    let most = greater(number_at(summaries, q, 0), lowest);
+    let average = given(room.average, most);
     Room { mix, average }
 }
 

@@ -15,7 +15,7 @@ use Rattle.rules.specs.Repeat.{LentBody, stretch-at, lent-plan}
 use Rattle.rules.specs.declared.Body.{Body}
 use Rattle.rules.proofs.Tests.{last-here, last-past}
 use Rattle.repeat_laws.specs.Standing.{Standing}
-use Rattle.repeat_limits.specs.Limits.{fits-in}
+use Rattle.repeat_limits.specs.Limits.{later-of, room-left, fits-in}
 use Rattle.repeat_decision.specs.Decision.{fitting-levels}
 use Rattle.repeat_decision.proofs.Going.{row, leaves-room, reads-room}
 use Rattle.repeat_decision.proofs.fitting.Statement.{statement}
@@ -37,19 +37,20 @@ unfolding fits
 none-fits P t x q e h = rw (e, h)
 
 abbrev Inv-loop : tie.InvT-loop
-Inv-loop body summaries place after t levels row q₀ q =
+Inv-loop body summaries place after t levels row above₀ q₀ above q =
     (q ≤ body .levels)
     × ((x : ℕ) → Standing body x place after → last-passing (fit body summaries t x) (body .levels) ≡ last-passing (fit body summaries t x) q)
     × ((x : ℕ) → Standing body x place after → q < body .levels → fit body summaries t x q ≡ false)
+    × (q < body .levels → above ≡ room-left (body .cycle) t (later-of (stretch-at summaries q) after))
 
 abbrev μ-loop : tie.MeasureT-loop
-μ-loop body summaries place after t levels row q₀ q = q
+μ-loop body summaries place after t levels row above₀ q₀ above q = q
 
 mul-row : tie.Need-mul-row Inv-loop μ-loop
 mul-row c = omega (arith, row (c .before .before .pre .0))
 
 loop-holds : tie.Need-loop-holds Inv-loop μ-loop
-loop-holds c = (search needs, (λ x s. refl), λ x s l. absurd (omega arith))
+loop-holds c = (search needs, (λ x s. refl), (λ x s l. absurd (omega arith)), λ l. absurd (omega arith))
 
 abbrev start : tie.At-loop Inv-loop μ-loop → tie.Start Inv-loop μ-loop
 start c = c .before .before .before
@@ -80,16 +81,28 @@ reads c x s =
     ∙ reads-room (alone (a .summaries .now)) (a .t) (at .loop .q - 1) entry
     (omega (arith, at .before .before .shared-slice-known .given (entry * summary-numbers))) (omega (arith, start at .pre .1)) (omega arith) s
 
-returns : tie.Need-returns Inv-loop μ-loop
+-- this many levels fit, whichever position stands there
+some-levels : (c : tie.After-has-room Inv-loop μ-loop) → c .has-room .result ≡ true → let at = c .before .before .before in let a = start at .args in
+    (x : ℕ) → Standing (a .body) x (a .place) (a .after) → at .loop .q ≡ fitting-levels (lent-plan (a .body) (alone (a .summaries .now))) (a .t) x
 unfolding level-given lent-plan
-returns c x s =
-    let at = c .before .before .before .before in
+some-levels c fits x s =
+    let at = c .before .before .before in
     let a = start at .args in
     let l = at .loop in
-    let h = sym (reads (c .before) x s) ∙ c .if1 .taken in
+    let h = sym (reads c x s) ∙ fits in
     let is = l .inv .1 x s ∙ last-here (fit (a .body) (a .summaries .now) (a .t) x) (l .q - 1) (l .q) (omega arith) h in
     let all : l .q ≡ suc (l .q - 1) = omega arith in
     all ∙ level-fits (lent-plan (a .body) (alone (a .summaries .now))) (a .t) x (l .q - 1) is h
+
+returns : tie.Need-returns Inv-loop μ-loop
+returns c =
+    let tested = c .before in
+    let at = tested .before .before .before in
+    record {
+      levels = some-levels tested (c .if1 .taken);
+      own = λ some. tested .before .room-before .ensures;
+      above = at .loop .inv .3;
+    }
 
 loop-again : tie.Need-loop-again Inv-loop μ-loop
 loop-again c =
@@ -100,17 +113,27 @@ loop-again c =
       (λ x s.
           let h = sym (reads (c .before) x s) ∙ c .if1 .left in
           l .inv .1 x s ∙ last-past (fit (a .body) (a .summaries .now) (a .t) x) (l .q - 1) (l .q) (omega arith) h),
-      λ x s low. sym (reads (c .before) x s) ∙ c .if1 .left,
+      (λ x s low. sym (reads (c .before) x s) ∙ c .if1 .left),
+      λ low. c .before .before .room-before .ensures,
     )
 
-returns-2 : tie.Need-returns-2 Inv-loop μ-loop
+no-levels : (c : tie.At-loop Inv-loop μ-loop) → c .loop .q ≡ 0 → let a = start c .args in
+    (x : ℕ) → Standing (a .body) x (a .place) (a .after) → 0 ≡ fitting-levels (lent-plan (a .body) (alone (a .summaries .now))) (a .t) x
 unfolding level-given lent-plan last-passing
-returns-2 c x s =
-    let start = c .before .before .before .before in
-    let a = start .args in
-    let e : c .before .loop .q ≡ 0 = omega arith in
-    none-fits (lent-plan (a .body) (alone (a .summaries .now))) (a .t) x 0 (rw e at (c .before .loop .inv .1 x s))
-    (rw e at (c .before .loop .inv .2 x s (omega (arith, start .pre .0 .counts .some-level))))
+no-levels c e x s =
+    let a = start c .args in
+    none-fits (lent-plan (a .body) (alone (a .summaries .now))) (a .t) x 0 (rw e at (c .loop .inv .1 x s))
+    (rw e at (c .loop .inv .2 x s (omega (arith, start c .pre .0 .counts .some-level))))
+
+returns-2 : tie.Need-returns-2 Inv-loop μ-loop
+returns-2 c =
+    let at = c .before in
+    let e : at .loop .q ≡ 0 = omega arith in
+    record {
+      levels = no-levels at e;
+      own = λ some. absurd (omega (arith, some));
+      above = rw e at (at .loop .inv .3);
+    }
 
 pub fitting-spec : {M : Type 1} → statement M
 fitting-spec =

@@ -1,262 +1,220 @@
--- The coast goes on to the position reached, from whichever position stands at the place. Assumes nothing.
-use Prim.Native.Nat.{ℕ, suc, _+_, _-_, _*_, _≤_, _<_, min}
+-- The coast goes on body by body, from whichever position stands at the place. Assumes nothing.
+use Prim.Native.Nat.{ℕ, suc, _+_, _-_, _*_, _/_, _≤_, _<_, min}
 use mathlib.Core.Path.{_≡_, refl, sym, ap, _∙_}
-use mathlib.Core.Bool.{Bool}
 use mathlib.Core.List.{[]}
-use mathlib.Core.Logic.{⊎-elim}
-use native.Mathlib.Nat.{mul-le-mul-right}
-use native.Mathlib.Numerals.{add-one}
+use native.Mathlib.Nat.{mul-le-mul, mul-le-mul-right}
 use native.Mathlib.Omega.{arith}
-use lib.Dec.{ltb}
-use lib.IntN.{pos}
 use lib.ListN.{getD}
-use lib.Signed.{leZ}
 use borrow.Author.Needs.{needs}
-use borrow.Author.Tests.{ltb-true, lt-ltb}
-use Rattle.rules.specs.Numbers.{summary-numbers}
-use Rattle.rules.specs.Repeat.{LentBody, positions, stretch-at, lent-plan}
-use Rattle.repeat_laws.specs.Standing.{Standing}
-use Rattle.repeat_laws.proofs.Standing.{rest-left}
-use Rattle.repeat_limits.specs.Limits.{latest, most-entry, fits-in}
-use Rattle.repeat_decision.specs.Decision.{Reaches, StandsAt}
-use Rattle.repeat_decision.proofs.Going.{from-stands, row, stands-at, in-table, low-above, reads-room, stop-why, go-why, Going, going-none, going-more, next-stands, ends-rising, ends-falling, ends-whole}
+use Rattle.rules.specs.Repeat.{LentBody, stretch-at}
+use Rattle.rules.specs.declared.Body.{Body}
+use Rattle.repeat_limits.specs.Limits.{most-entry, later-of, room-left}
+use Rattle.repeat_laws.proofs.Places.{row-of}
+use Rattle.repeat_decision.specs.Decision.{Walks}
+use Rattle.repeat_decision.proofs.Going.{row}
+use Rattle.repeat_decision.proofs.Coasts.{Setting, Coast, Looking, coast-moved, rest-some, first-near, first-coast, may-turn, looking, may-walk, steps-few, goal-left, stops-at, again, ended}
 use Rattle.repeat_decision.proofs.left_granted.Statement.{statement}
 use Rattle.repeat_decision.proofs.left_granted.Tie as tie
 
 abbrev Inv-loop : tie.InvT-loop
-Inv-loop body summaries worst place after level t n end entry here₀ left₀ here left =
-    (left + 1 ≤ end)
-    × (here .begins ≤ t + left * most-entry)
-    × Reaches body summaries level t here
-    × ((x : ℕ) → Standing body x place after
-    → Going body (record { order = []; summaries = summaries; worst = worst }) t x level left (here .entry) (here .after) (here .begins))
+Inv-loop body summaries worst place after t n levels level cells end first here₀ here =
+    (S : Setting body (record { order = []; summaries = summaries; worst = worst }) place after t level end) × Coast S here
 
 abbrev μ-loop : tie.MeasureT-loop
-μ-loop body summaries worst place after level t n end entry here₀ left₀ here left = end - left
+μ-loop body summaries worst place after t n levels level cells end first here₀ here = here .goal - here .entry
 
--- ---- the places of the code
+-- ---- before the loop
 
-abbrev lent : tie.Start Inv-loop μ-loop → LentBody
-lent s = record { order = []; summaries = s .args .summaries .now; worst = s .args .worst .now }
+abbrev start : tie.After-struct-known3 Inv-loop μ-loop → tie.Start Inv-loop μ-loop
+start c = c .before .before .before .before .before
 
--- what is left of the frame, by the place
-abbrev rest : tie.After-most Inv-loop μ-loop → ℕ
-rest c = let a = c .before .before .before .before .args in a .after * a .body .n + (a .body .n - a .place)
+sub-level : tie.Need-sub-level Inv-loop μ-loop
+sub-level c = omega (arith, start c .pre .some)
 
-end-is : (c : tie.After-most Inv-loop μ-loop) → c .most .result ≡ min 16 (rest c)
-end-is c = c .most .ensures
-
-abbrev counted : tie.At-loop Inv-loop μ-loop → tie.After-most Inv-loop μ-loop
-counted c = c .before .before .before
-
-abbrev start : tie.At-loop Inv-loop μ-loop → tie.Start Inv-loop μ-loop
-start c = c .before .before .before .before .before .before .before
-
--- the position that stands at the place, and so the one reached
-abbrev origin : tie.At-loop Inv-loop μ-loop → ℕ
-origin c = let a = start c .args in (a .body .repeats - 1 - a .after) * a .body .n + a .place
-
-going : (c : tie.At-loop Inv-loop μ-loop) → let a = start c .args in let l = c .loop in
-    Going (a .body) (lent (start c)) (a .t) (origin c) (a .level) (l .left) (l .here .entry) (l .here .after) (l .here .begins)
-going c = c .loop .inv .3 _ (from-stands (start c .pre .summarised))
-
--- one position more is there, whichever stands at the place
-follows : (c : tie.In-loop Inv-loop μ-loop) (x : ℕ) → let a = start (c .before) .args in Standing (a .body) x (a .place) (a .after)
-    → suc (x + c .before .loop .left) < positions (a .body)
-follows c x s =
-    let pre = start (c .before) .pre .summarised in
-    omega (arith, end-is (counted (c .before)), rest-left (pre .counts .some-action) s)
-
-few : (c : tie.In-loop Inv-loop μ-loop) → suc (c .before .loop .left) * most-entry ≤ 15 * most-entry
-few c = let l : suc (c .before .loop .left) ≤ 15 = omega (arith, end-is (counted (c .before))) in mul-le-mul-right most-entry l
-
--- ---- what is asked on the way
+mul-cells : tie.Need-mul-cells Inv-loop μ-loop
+mul-cells c = omega (arith, row (start c .pre .summarised))
 
 sub-most : tie.Need-sub-most Inv-loop μ-loop
-sub-most c = omega (arith, c .before .before .before .pre .summarised .inside)
+sub-most c = omega (arith, start c .pre .summarised .inside)
 
 most-requires : tie.Need-most-requires Inv-loop μ-loop
 most-requires c κs =
-    let pre = c .before .before .before .pre .summarised in
-    (pre .counts .few, omega (arith, pre .counts .few), row pre .few)
+    let h = start c .pre .summarised in
+    (h .counts .few, omega (arith, h .counts .few), row h .few)
 
-mul-entry : tie.Need-mul-entry Inv-loop μ-loop
-mul-entry c = omega (arith, row (c .before .before .before .before .before .pre .summarised))
+sub-end : tie.Need-sub-end Inv-loop μ-loop
+sub-end c = omega (arith, c .most .ensures, start (c .before) .pre .summarised .inside)
 
-add-entry : tie.Need-add-entry Inv-loop μ-loop
-add-entry c = let pre = c .before .before .before .before .before .pre in omega (arith, row (pre .summarised), pre .level)
+-- what stays
+module _ (c : tie.After-most Inv-loop μ-loop) where
+  abbrev lent : LentBody
+  lent = record { order = []; summaries = start (c .before) .args .summaries .now; worst = start (c .before) .args .worst .now }
 
-at-entry-requires : tie.Need-at-entry-requires Inv-loop μ-loop
-at-entry-requires c κs =
-    let pre = c .before .before .before .before .before .pre in
-    let h = pre .summarised in
-    record {
-      counts = h .counts;
-      summed = h .summed;
-      fewer = h .fewer;
-      level = pre .level;
-      begins-in = omega (arith, pre .early);
-      early = omega (arith, pre .early);
-    }
+  setting : let a = start (c .before) .args in Setting (a .body) lent (a .place) (a .after) (a .t) (a .fit .levels - 1) (c .most .result - 1)
+  setting =
+      let h = start (c .before) .pre in
+      record {
+        summarised = h .summarised;
+        timed = h .timed;
+        level = h .level;
+        early = h .early;
+        few-numbers = λ k. omega (arith, c .before .before .before .before .before .shared-slice-known .given k);
+        few-times = λ k. omega (arith, c .before .before .before .before .shared-slice-known2 .given k);
+        end-is = omega (arith, c .most .ensures, h .summarised .inside);
+      }
 
-loop-holds : tie.Need-loop-holds Inv-loop μ-loop
-loop-holds c =
-    let s = c .before .before .before .before .before .before in
-    let e = c .at-entry .ensures in (
-      omega (arith, end-is (c .before .before), s .pre .summarised .inside),
-      omega (arith, e .2),
-      e .3,
-      λ x at. rw (e .0, e .1, e .2)
-          (going-none (s .args .body) (lent s) (s .args .t) x (s .args .level) (stands-at at refl) (s .pre .fits x at) (s .pre .none-above x at)),
-    )
+  -- the entry of the decision, and the longest coast from it
+  first-in : let a = start (c .before) .args in a .place * a .body .levels + (a .fit .levels - 1) < a .body .n * a .body .levels
+  first-in = omega (arith, row (start (c .before) .pre .summarised), start (c .before) .pre .level)
 
-add-loop : tie.Need-add-loop Inv-loop μ-loop
-add-loop c = omega (arith, end-is (counted c), c .loop .inv .0)
+  few-cells : let a = start (c .before) .args in (a .body .n * a .body .levels ≤ 512) × (a .body .levels ≤ 8) × ((c .most .result - 1) * a .body .levels ≤ 120)
+  few-cells =
+      let h = start (c .before) .pre .summarised .counts in
+      let short : c .most .result - 1 ≤ 15 = omega (arith, c .most .ensures) in
+      (mul-le-mul (h .few) (h .few-levels), h .few-levels, mul-le-mul short (h .few-levels))
 
--- the entry read, and the worst time there
+mul-first : tie.Need-mul-first Inv-loop μ-loop
+mul-first c = omega (arith, first-in c, few-cells c)
+
+add-first : tie.Need-add-first Inv-loop μ-loop
+add-first c = omega (arith, first-in c, few-cells c)
+
+add-t19 : tie.Need-add-t19 Inv-loop μ-loop
+add-t19 c = let m = c .before .before in omega (arith, first-in m, few-cells m)
+
+mul-t18 : tie.Need-mul-t18 Inv-loop μ-loop
+mul-t18 c = let m = c .before .before in omega (arith, few-cells m)
+
+add-t20 : tie.Need-add-t20 Inv-loop μ-loop
+add-t20 c = let m = c .before .before in omega (arith, first-in m, few-cells m)
+
 mul-onward : tie.Need-mul-onward Inv-loop μ-loop
-mul-onward c =
-    let at = c .before in
-    let pre = start at .pre in
-    omega (arith, in-table (pre .summarised .counts) (pre .level) (going at .stands))
+mul-onward c = let m = c .before .before in omega (arith, first-in m, few-cells m)
 
 shared-slice-read-onward : tie.Need-shared-slice-read-onward Inv-loop μ-loop
-shared-slice-read-onward c =
-    let at = c .before .before in
-    let pre = start at .pre in
-    omega (arith, in-table (pre .summarised .counts) (pre .level) (going at .stands), pre .timed)
+shared-slice-read-onward c = let m = c .before .before .before in omega (arith, first-in m, setting m .timed)
+
+-- the room at the decision
+module _ (c : tie.After-most Inv-loop μ-loop) where
+  own-is : let a = start (c .before) .args in a .fit .own ≡ room-left (a .body .cycle) (a .t) (later-of (stretch-at (a .summaries .now) (a .fit .levels - 1)) (a .after))
+  own-is = let h = start (c .before) .pre in h .rooms .own (h .some)
+
+  above-is : let a = start (c .before) .args in suc (a .fit .levels - 1) < a .body .levels
+      → a .fit .above ≡ room-left (a .body .cycle) (a .t) (later-of (stretch-at (a .summaries .now) (suc (a .fit .levels - 1))) (a .after))
+  above-is top =
+      let h = start (c .before) .pre in
+      let e : suc (start (c .before) .args .fit .levels - 1) ≡ start (c .before) .args .fit .levels = omega (arith, h .some) in
+      rw e (h .rooms .above (omega (arith, top, e)))
 
 onward-requires : tie.Need-onward-requires Inv-loop μ-loop
 onward-requires c κs =
-    let at = c .before .before in
-    let pre = start at .pre in
-    let h = pre .summarised in
-    record {
-      may = record {
-        counts = h .counts;
-        summed = h .summed;
-        fewer = in-table (h .counts) (pre .level) (going at .stands) .fewer;
-        level = pre .level;
-        begins-in = omega (arith, at .loop .inv .1, few (c .before), pre .early);
-        early = omega (arith, pre .early);
-      };
-      reaches = at .loop .inv .2;
-      position = origin at + at .loop .left;
-      stands = going at .stands;
-      more = follows (c .before) (origin at) (from-stands h);
-    }
+    let m = c .before .before .before in
+    (few-cells m .1, omega (arith, first-in m, few-cells m), first-near (setting m) (own-is m) (above-is m) _ (setting m .few-times _))
 
--- ---- the next position
+loop-holds : tie.Need-loop-holds Inv-loop μ-loop
+loop-holds c =
+    let m = c .before .before .before .before in
+    let h = start (m .before) .pre in
+    (setting m, coast-moved (setting m) (c .onward .ensures) (first-coast (setting m) (own-is m) (above-is m) (h .fits) (h .none-above)))
 
-module _ (c : tie.After-onward Inv-loop μ-loop) where
-  abbrev turn : tie.In-loop Inv-loop μ-loop
-  turn = c .before .before
+-- ---- in the loop
 
+abbrev counted : tie.At-loop Inv-loop μ-loop → tie.After-most Inv-loop μ-loop
+counted c = c .before .before .before .before .before
+
+-- the setting, and the coast so far
+module _ (c : tie.At-loop Inv-loop μ-loop) where
+  abbrev S : let m = counted c in let a = start (m .before) .args in
+      Setting (a .body) (lent m) (a .place) (a .after) (a .t) (a .fit .levels - 1) (m .most .result - 1)
+  S = c .loop .inv .0
+
+  abbrev C : Coast (c .loop .inv .0) (c .loop .here)
+  C = c .loop .inv .1
+
+some-left : (c : tie.Then1 Inv-loop μ-loop) → 0 < C (c .before .before) .rest
+some-left c = let at = c .before .before in rest-some (S at) (C at) (omega (arith, c .if1 .taken))
+
+in-body-requires : tie.Need-in-body-requires Inv-loop μ-loop
+in-body-requires c κs = let at = c .before .before in may-turn (S at) (C at) (some-left c)
+
+looked : (c : tie.After-in-body Inv-loop μ-loop) → let at = c .before .before .before in (L : Looking (S at) (c .in-body .result)) × (L .rest ≡ C at .rest)
+looked c = let at = c .before .before .before in looking (S at) (C at) (some-left (c .before)) (c .in-body .ensures)
+
+add-lesser : tie.Need-add-lesser Inv-loop μ-loop
+add-lesser c = let m = counted (c .before .before .before) in omega (arith, few-cells m, start (m .before) .pre .level)
+
+along-requires : tie.Need-along-requires Inv-loop μ-loop
+along-requires c κs = let k = c .before in rw (c .lesser .ensures) (may-walk (S (k .before .before .before)) (looked k .0))
+
+-- where the walk ends
+module _ (c : tie.After-along Inv-loop μ-loop) where
   abbrev at : tie.At-loop Inv-loop μ-loop
-  at = c .before .before .before
+  at = c .before .before .before .before .before
 
-  short : let at = c .before .before .before in getD (start at .args .worst .now) (at .loop .here .entry) 0 ≤ most-entry
-  short = omega (arith, c .before .shared-slice-known3 .given (at .loop .here .entry))
+  abbrev L : Looking (S at) (c .before .before .in-body .result)
+  L = looked (c .before .before) .0
 
-  begins-in : c .onward .result .begins ≤ latest
-  begins-in = omega (arith, c .onward .ensures .1, short, at .loop .inv .1, few turn, start at .pre .early)
+  abbrev body : Body
+  body = start (counted at .before) .args .body
 
-  -- whichever position stands at the place
-  module _ (x : ℕ) (s : let a = start (c .before .before .before) .args in Standing (a .body) x (a .place) (a .after)) where
-    next : StandsAt (start (c .before .before .before) .args .body) (start (c .before .before .before) .args .level) (c .onward .result .entry)
-        (c .onward .result .after) (suc (x + c .before .before .before .loop .left))
-    next = c .onward .ensures .2 _ (at .loop .inv .3 x s .stands) (follows turn x s)
+  abbrev end : ℕ
+  end = counted at .most .result - 1
 
-    there : StandsAt (start (c .before .before .before) .args .body) (start (c .before .before .before) .args .level) (c .onward .result .entry)
-        (c .onward .result .after) (x + suc (c .before .before .before .loop .left))
-    there = let a = start at .args in next-stands (a .body) (lent (start at)) (a .t) x (a .level) (at .loop .inv .3 x s) next (c .onward .ensures .1)
+  W : let a = start (counted at .before) .args in let r = c .before .before .in-body .result in
+      Walks (a .body) (a .summaries .now) (a .worst .now) r (min (r .goal) (a .body .n * a .body .levels + (a .fit .levels - 1))) (a .fit .levels - 1) (c .along .result)
+  W = rw (c .before .lesser .ensures) at (c .along .ensures)
 
-    -- what is read there
-    small : (k : ℕ) → stretch-at (start (c .before .before .before) .args .summaries .now) k .average ≤ most-entry
-    small k = omega (arith, at .before .before .before .before .before .before .shared-slice-known .given (k * summary-numbers))
+  left-over : c .along .result .goal ≡ c .along .result .entry + (L .rest - W .steps) * body .levels
+  left-over = goal-left (S at) L W
 
-    own-reads : let at = c .before .before .before in let a = start at .args in let r = c .onward .result in
-        fits-in (stretch-at (a .summaries .now) (r .entry)) (r .own)
-        ≡ leZ (pos (r .begins)) (lent-plan (a .body) (lent (start at)) .limit (x + suc (at .loop .left)) (a .level))
-    own-reads =
-        let a = start at .args in
-        let r = c .onward .result in
-        ap (fits-in (stretch-at (a .summaries .now) (r .entry))) (c .onward .ensures .0 .own)
-        ∙ reads-room (lent (start at)) (r .begins) (a .level) (r .entry) (small (r .entry)) begins-in (there .entry-is) (there .standing)
+  some-levels : 0 < body .levels
+  some-levels = S at .summarised .counts .some-level
 
-    above-reads : let at = c .before .before .before in let a = start at .args in let r = c .onward .result in
-        suc (a .level) < a .body .levels
-        → fits-in (stretch-at (a .summaries .now) (suc (r .entry))) (r .above)
-        ≡ leZ (pos (a .t)) (lent-plan (a .body) (lent (start at)) .limit (x + suc (at .loop .left)) (suc (a .level)))
-    above-reads top =
-        let a = start at .args in
-        let r = c .onward .result in
-        ap (fits-in (stretch-at (a .summaries .now) (suc (r .entry)))) (c .onward .ensures .0 .above top)
-        ∙ reads-room (lent (start at)) (a .t) (suc (a .level)) (suc (r .entry)) (small (suc (r .entry))) (omega (arith, start at .pre .early))
-        (omega (arith, there .entry-is)) (there .standing)
+  quotient : (c .along .result .goal - c .along .result .entry) / body .levels ≡ L .rest - W .steps
+  quotient =
+      let e : c .along .result .goal - c .along .result .entry ≡ (L .rest - W .steps) * body .levels + 0 = omega (arith, left-over) in
+      ap (λ (k : ℕ). k / body .levels) e ∙ row-of some-levels (L .rest - W .steps) some-levels
 
-stops-requires : tie.Need-stops-requires Inv-loop μ-loop
-stops-requires c κs =
-    let pre = start (at c) .pre in
-    let h = pre .summarised in
-    let s = next c (origin (at c)) (from-stands h) in
-    record {
-      level = pre .level;
-      own = omega (arith, in-table (h .counts) (pre .level) s, h .summed);
-      above = λ top. omega (arith, low-above (h .counts) (pre .level) s top, h .summed);
-      few = omega (arith, in-table (h .counts) (pre .level) s);
-    }
+sub-result : tie.Need-sub-result Inv-loop μ-loop
+sub-result c = let r = c .before .before .before in omega (arith, left-over r)
 
--- ---- the ends
+div-result : tie.Need-div-result Inv-loop μ-loop
+div-result c = some-levels (c .before .before .before)
 
-small-left : (c : tie.At-loop Inv-loop μ-loop) → c .loop .left ≤ 15
-small-left c = omega (arith, end-is (counted c), c .loop .inv .0)
+sub-result-2 : tie.Need-sub-result-2 Inv-loop μ-loop
+sub-result-2 c = let r = c .before .before .before in omega (arith, quotient r, L r .few)
+
+short : (c : tie.At-loop Inv-loop μ-loop) → counted c .most .result - 1 ≤ 15
+short c = omega (arith, counted c .most .ensures)
 
 cast-result : tie.Need-cast-result Inv-loop μ-loop
-cast-result c = omega (arith, small-left (at (c .before .before)))
+cast-result c = let r = c .before .before .before in omega (arith, short (at r))
 
 returns : tie.Need-returns Inv-loop μ-loop
 returns c x s =
-    let on = c .before .before in
-    let a = start (at on) .args in
-    let T = lent (start (at on)) in
-    let g = at on .loop .inv .3 x s in
-    ⊎-elim
-    (λ down. ends-falling (a .body) T (a .t) x (a .level) g (next on x s) (on .onward .ensures .1) (sym (own-reads on x s) ∙ down))
-    (λ up.
-    let top = ltb-true (suc (a .level)) (a .body .levels) (up .0) in
-    ends-rising (a .body) T (a .t) x (a .level) g (next on x s) (on .onward .ensures .1) top (sym (above-reads on x s top) ∙ up .1))
-    (stop-why _ _ _ (sym (c .before .stops .ensures) ∙ c .if1 .taken))
+    let r = c .before .before .before in
+    rw (quotient r) (stops-at (S (at r)) (L r) (W r) (omega (arith, c .before .if2 .taken, r .before .lesser .ensures)) x s)
 
-add-left : tie.Need-add-left Inv-loop μ-loop
-add-left c = omega (arith, small-left (at (c .before .before)))
+passed : (c : tie.Else2 Inv-loop μ-loop) → let r = c .before .before in
+    (N : Coast (S (at r)) (r .along .result)) × (N .rest ≡ L r .rest - W r .steps) × (0 < W r .steps)
+passed c = let r = c .before .before in again (S (at r)) (L r) (W r) (omega (arith, c .if2 .left, r .before .lesser .ensures))
+
+loop-less : tie.Need-loop-less Inv-loop μ-loop
+loop-less c =
+    let r = c .before .before in
+    let less : suc (L r .rest - W r .steps) ≤ C (at r) .rest = omega (arith, passed c .2, steps-few (S (at r)) (L r) (W r), looked (r .before .before) .1, L r .some) in
+    omega (arith, left-over r, C (at r) .goal-is, mul-le-mul-right (body r .levels) less, some-levels r)
 
 loop-again : tie.Need-loop-again Inv-loop μ-loop
-loop-again c =
-    let on = c .before .before in
-    let a = start (at on) .args in
-    let T = lent (start (at on)) in
-    let why = go-why _ _ _ (sym (c .before .stops .ensures) ∙ c .if1 .left) in (
-      search needs,
-      omega (arith, on .onward .ensures .1, short on, at on .loop .inv .1),
-      on .onward .ensures .0,
-      λ x s.
-          rw (add-one (at on .loop .left)) (going-more (a .body) T (a .t) x (a .level) (at on .loop .inv .3 x s) (next on x s) (on .onward .ensures .1)
-          (omega (arith, end-is (counted (at on))))
-          (sym (own-reads on x s) ∙ why .0)
-          (λ top. sym (above-reads on x s top) ∙ why .1 (lt-ltb (suc (a .level)) (a .body .levels) top))),
-    )
+loop-again c = (S (at (c .before .before)), passed c .0)
+
+-- ---- after it
 
 cast-result-2 : tie.Need-cast-result-2 Inv-loop μ-loop
-cast-result-2 c = omega (arith, small-left (c .before))
+cast-result-2 c = omega (arith, short (c .before .before))
 
 returns-2 : tie.Need-returns-2 Inv-loop μ-loop
-returns-2 c x s =
-    let l = c .before in
-    let a = start l .args in
-    let pre = start l .pre .summarised in
-    ends-whole (a .body) (lent (start l)) (a .t) x (a .level) (l .loop .inv .3 x s)
-    (omega (arith, end-is (counted l), rest-left (pre .counts .some-action) s, l .loop .inv .0))
+returns-2 c x s = let k = c .before .before in ended (S k) (C k) (omega (arith, c .if1 .left)) x s
 
 pub left-granted-spec : {M : Type 1} → statement M
 left-granted-spec =
@@ -265,22 +223,31 @@ left-granted-spec =
     Inv-loop
     μ-loop
     (λ c. search needs)
+    (λ c. search needs)
+    sub-level
+    mul-cells
     sub-most
     most-requires
-    (λ c. search needs)
-    mul-entry
-    add-entry
-    at-entry-requires
-    loop-holds
-    add-loop
+    sub-end
+    mul-first
+    add-first
+    add-t19
+    mul-t18
+    add-t20
     mul-onward
     shared-slice-read-onward
     onward-requires
-    stops-requires
+    loop-holds
+    in-body-requires
+    add-lesser
+    (λ c κs. search needs)
+    along-requires
+    sub-result
+    div-result
+    sub-result-2
     cast-result
     returns
-    add-left
-    (λ c. search needs)
+    loop-less
     loop-again
     cast-result-2
     returns-2)
