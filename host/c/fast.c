@@ -784,49 +784,78 @@ uint32_t fast_body_bound(fast_body body, const uint32_t *summaries, size_t summa
     return 0;
 }
 
+/* What the rest of a body may come to: M at most `mix`, and the averages at most `average`, which are of no account
+ * without a body after it. */
+typedef struct {
+    int64_t mix, average;
+} room;
+
+/* More than any average. */
+#define AMPLE (INT64_MAX / 2)
+
+static inline room room_before(const uint32_t *summaries, uint32_t level, uint32_t bodies, int64_t left) {
+    after a = after_of(summaries, level, bodies);
+    return (room){left - a.to_mix, bodies ? left - a.to_average : AMPLE};
+}
+
+/* Before one body fewer: it gives back what it took. */
+static inline room room_nearer(const uint32_t *summaries, uint32_t level, uint32_t bodies, room r) {
+    const uint32_t *whole = summaries + level * NUMBERS;
+    uint32_t greater = whole[0] > whole[1] ? whole[0] : whole[1];
+    return (room){r.mix + whole[1], bodies == 1 ? AMPLE : r.average + greater};
+}
+
+static inline bool has_room(const uint32_t *entry, room r) { return entry[0] <= r.average && entry[2] <= r.mix; }
+
 /* The actions up to the first that could begin too late for the level, or at which the one above fits; no coast past it
- * qualifies. The first is known to be none. */
+ * qualifies. The first is known to be none. It is walked body by body: `goal` is the entry at which the longest coast
+ * ends, as if the body went on. */
 static inline __attribute__((always_inline)) uint32_t body_coast(fast_body body, const uint32_t *summaries,
                                                                  const uint32_t *worst, uint32_t place, uint32_t bodies,
-                                                                 uint32_t level, int64_t room, bool top) {
-    uint32_t rest = body.n - place + bodies * body.n, most = rest < COAST ? rest : COAST, grant = 1, at = place + 1;
-    size_t cell = (size_t)place * body.levels + level;
-    int64_t left = room - worst[cell];
-    cell += body.levels;
-    while (grant < most) {
-        if (at == body.n) {
-            at = 0;
+                                                                 uint32_t level, room own, room above, bool top) {
+    uint32_t rest = body.n - place + bodies * body.n, most = rest < COAST ? rest : COAST;
+    size_t levels = body.levels, cells = body.n * levels, entry = place * levels + level;
+    size_t goal = entry + most * levels;
+    own.mix -= worst[entry];
+    own.average -= worst[entry];
+    entry += levels;
+    while (entry < goal) {
+        if (entry >= cells) {
+            own = room_nearer(summaries, level, bodies, own);
+            if (!top) above = room_nearer(summaries, level + 1, bodies, above);
             bodies--;
-            cell = level;
+            entry = level;
+            goal -= cells;
         }
-        after own = after_of(summaries, level, bodies), above = top ? own : after_of(summaries, level + 1, bodies);
-        uint32_t end = most - grant < body.n - at ? at + (most - grant) : body.n;
-        for (; at < end; at++, grant++, cell += body.levels) {
-            const uint32_t *entry = summaries + cell * NUMBERS;
-            if (mix_of(entry, own) > left || (!top && mix_of(entry + NUMBERS, above) <= room)) return grant;
-            left -= worst[cell];
+        size_t stop = goal < cells + level ? goal : cells + level;
+        for (; entry < stop; entry += levels) {
+            const uint32_t *sums = summaries + entry * NUMBERS;
+            if (!has_room(sums, own) || (!top && has_room(sums + NUMBERS, above)))
+                return most - (uint32_t)((goal - entry) / levels);
+            own.mix -= worst[entry];
+            own.average -= worst[entry];
         }
     }
-    return grant;
+    return most;
 }
 
 /* A decision at a place of a body with so many bodies after it. */
 static inline decision body_decide(fast_body body, const uint32_t *summaries, const uint32_t *worst, uint32_t place,
                                    uint32_t bodies, uint64_t clock) {
-    /* What M may be at most. */
-    int64_t room = (int64_t)body.cycle - (int64_t)clock;
-    decision d = {body.levels, 1, false};
+    int64_t left = (int64_t)body.cycle - (int64_t)clock;
     const uint32_t *row = summaries + (size_t)place * body.levels * NUMBERS;
-    while (d.level > 0 && mix_of(row + (d.level - 1) * NUMBERS, after_of(summaries, d.level - 1, bodies)) > room)
-        d.level--;
-    if (d.level == 0) {
-        d.late = true;
-        return d;
+    room above = {0, 0};
+    for (uint32_t level = body.levels; level-- > 0;) {
+        room own = room_before(summaries, level, bodies, left);
+        if (has_room(row + level * NUMBERS, own)) {
+            bool top = level + 1 == body.levels;
+            uint32_t grant = top ? body_coast(body, summaries, worst, place, bodies, level, own, above, true)
+                                 : body_coast(body, summaries, worst, place, bodies, level, own, above, false);
+            return (decision){level, grant, false};
+        }
+        above = own;
     }
-    d.level--;
-    d.grant = d.level + 1 == body.levels ? body_coast(body, summaries, worst, place, bodies, d.level, room, true)
-                                         : body_coast(body, summaries, worst, place, bodies, d.level, room, false);
-    return d;
+    return (decision){0, 1, true};
 }
 
 static inline bool body_in_range(const fast_body_run *run) {

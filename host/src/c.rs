@@ -423,7 +423,7 @@ impl Calls for C {
         unsafe { (self.body_start)(run, body) as u8 }
     }
 
-    fn body_ask(&self, run: &mut BodyRun, tables: BodyTables) -> Answer<Given> {
+    fn body_ask(&self, run: &mut BodyRun, tables: &BodyTables) -> Answer<Given> {
         let mut asked = Given::default();
         let number = unsafe {
             (self.body_ask)(

@@ -280,7 +280,7 @@ pub trait Calls {
     fn body_start(&self, run: &mut BodyRun, body: Body) -> u8;
 
     /// The next action and its level.
-    fn body_ask(&self, run: &mut BodyRun, tables: BodyTables) -> Answer<Given>;
+    fn body_ask(&self, run: &mut BodyRun, tables: &BodyTables) -> Answer<Given>;
 
     /// The end of the running action; the number of refusal, 0 for none.
     fn body_report(&self, run: &mut BodyRun, clock: u32, worst_by_position: &[u32]) -> u8;
@@ -421,7 +421,7 @@ macro_rules! calls_of_module {
             fn body_start(&self, run: &mut BodyRun, body: Body) -> u8 {
                 $module::body_start(run, body)
             }
-            fn body_ask(&self, run: &mut BodyRun, tables: BodyTables) -> Answer<Given> {
+            fn body_ask(&self, run: &mut BodyRun, tables: &BodyTables) -> Answer<Given> {
                 $module::body_ask(run, tables)
             }
             fn body_report(&self, run: &mut BodyRun, clock: u32, worst_by_position: &[u32]) -> u8 {

@@ -370,7 +370,7 @@ impl Calls for Product {
         unsafe { nyokazerubi_body_start(run, body).number as u8 }
     }
 
-    fn body_ask(&self, run: &mut BodyRun, tables: BodyTables) -> Answer<calls::Given> {
+    fn body_ask(&self, run: &mut BodyRun, tables: &BodyTables) -> Answer<calls::Given> {
         given(unsafe {
             nyokazerubi_body_ask(
                 run,

@@ -509,10 +509,10 @@ fn bounds_of_a_body_never_rise() {
         // Late at 12: no length qualifies, though the limits after it are higher.
         let tables = BodyTables { order: &[2, 0, 1], summaries: &summaries, worst_by_position: &worst };
         let mut run = BodyRun { clock: 12, body, ..BodyRun::default() };
-        let given = calls.body_ask(&mut run, tables).expect("a turn");
+        let given = calls.body_ask(&mut run, &tables).expect("a turn");
         assert_eq!((given.action, given.level, given.late, run.left, run.late), (2, 0, true, 0, true));
         let mut run = BodyRun { clock: 11, body, ..BodyRun::default() };
-        let given = calls.body_ask(&mut run, tables).expect("a turn");
+        let given = calls.body_ask(&mut run, &tables).expect("a turn");
         assert_eq!((given.late, run.left, run.late), (false, 2, false));
     });
 }
@@ -524,7 +524,7 @@ fn body_run_records() {
         let tables = BodyTables { order: &[0; 64], summaries: &[0; 1536], worst_by_position: &[0; 512] };
         let refused = |run: BodyRun| {
             let (mut asked, mut reported) = (run, run);
-            let answer = calls.body_ask(&mut asked, tables);
+            let answer = calls.body_ask(&mut asked, &tables);
             let number = calls.body_report(&mut reported, run.clock as u32, &[0; 512]);
             assert!(answer.is_ok() || asked == run);
             assert!(number == 0 || reported == run);
@@ -579,7 +579,7 @@ fn refusals_of_a_body_run_in_order() {
         let ask = |mut run: BodyRun, rooms: [usize; 3]| {
             let (order, summaries, worst) = (&[0; 2][..rooms[0]], &[0; 6][..rooms[1]], &[0; 2][..rooms[2]]);
             let tables = BodyTables { order, summaries, worst_by_position: worst };
-            calls.body_ask(&mut run, tables).err().unwrap_or(0)
+            calls.body_ask(&mut run, &tables).err().unwrap_or(0)
         };
         let report = |mut run: BodyRun, clock: u32, room: usize| calls.body_report(&mut run, clock, &[0; 2][..room]);
         let still = BodyRun { clock: 9, body: Body { n: 2, levels: 1, cycle: 9, repeats: 3 }, ..BodyRun::default() };

@@ -50,14 +50,14 @@ fn by_turns(calls: &dyn Calls, plan: &BodyPlan, durations: &[u32]) -> (BodyDried
     assert_eq!(calls.body_start(&mut run, plan.body), 0);
     let (mut levels, mut marks) = (Vec::new(), Vec::new());
     for position in 0..plan.positions() {
-        let given = calls.body_ask(&mut run, tables).expect("a turn");
+        let given = calls.body_ask(&mut run, &tables).expect("a turn");
         assert_eq!(given.action as usize, plan.action(position));
         levels.push(given.level as u8);
         marks.push(u8::from(given.decided));
         let end = run.clock as u32 + durations[position * plan.body.levels as usize + given.level as usize];
         assert_eq!(calls.body_report(&mut run, end, &plan.worst), 0);
     }
-    assert_eq!(calls.body_ask(&mut run, tables), Err(refused::FINISHED));
+    assert_eq!(calls.body_ask(&mut run, &tables), Err(refused::FINISHED));
     let BodyRun { clock, position, decisions, overrun, late, .. } = run;
     (BodyDried { decisions, end: clock, positions: position, overrun, late }, levels, marks)
 }

@@ -1,6 +1,6 @@
 -- Along the places of one body: what is looked at, and how the room narrows. Assumes nothing.
-use Prim.Native.Nat.{ℕ, zero, suc, _+_, _-_, _*_, _≤_, _<_}
-use mathlib.Core.Path.{_≡_, refl, sym, ap, _∙_}
+use Prim.Native.Nat.{ℕ, zero, suc, _+_, _*_, _≤_, _<_}
+use mathlib.Core.Path.{_≡_, sym, ap, _∙_}
 use mathlib.Core.List.{List}
 use native.Mathlib.Decide.{decLt}
 use native.Mathlib.Nat.{mul-le-mul, mul-le-mul-right}
@@ -8,7 +8,7 @@ use native.Mathlib.Omega.{arith}
 use lib.ListN.{getD}
 use Rattle.rules.specs.Words.{sum}
 use Rattle.rules.specs.declared.Body.{Body}
-use Rattle.repeat_limits.specs.Limits.{most-entry, narrowed-by, CountsIn}
+use Rattle.repeat_limits.specs.Limits.{narrowed-by, CountsIn}
 use Rattle.repeat_limits.specs.declared.Room.{Room}
 use Rattle.repeat_limits.proofs.Rooms.{narrowed-both, narrowed-none}
 use Rattle.repeat_decision.specs.Decision.{most-cells, onward-by, walked}

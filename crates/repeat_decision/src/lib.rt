@@ -189,7 +189,7 @@ fn most(n: usize, own: usize, after: u32) -> usize
 
 // What a decision leaves to coast for the level given, where that fits: one less than the greatest r that qualifies. It is found from below, body by
 // body, up to the first position at which the level above fits, or at which the level does not if each before it took its worst time: no longer coast
-// qualifies.
+// qualifies. The room has the time of the decision in it; `t` is there for the promise.
 fn left_granted(
     body: Body,
     summaries: &[u32],

@@ -12,7 +12,7 @@ use Rattle.rules.specs.Image.{Profile}
 use Rattle.rules.specs.Order.{Order, TheOrder}
 use Rattle.rules.specs.Limits.{tables, limit, planned}
 use Rattle.rules.specs.Refusals.{kept}
-use Rattle.rules.specs.Repeat.{unrolled, Sums, followed, bodies, stretch-at, LentBody, positions, lent-plan, PlannedBody, body-limit-refusal, body-bound-refusal, bound-or-absent}
+use Rattle.rules.specs.Repeat.{unrolled, Sums, bodies, stretch-at, LentBody, positions, lent-plan, PlannedBody, body-limit-refusal, body-bound-refusal, bound-or-absent}
 use Rattle.rules.specs.declared.Body.{Body}
 use Rattle.repeat_limits.specs.declared.Limited.{Limited}
 use Rattle.repeat_limits.specs.declared.Later.{Later}

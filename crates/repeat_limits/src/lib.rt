@@ -47,14 +47,14 @@ fn number_at(summaries: &[u32], x: usize, k: usize) -> u64
 }
 
 // The whole bodies after one at a level, summed up: how many they are, and where there are some W and M of them all.
-pub struct Later {
-    pub bodies: u64,
-    pub lowest: u64,
-    pub mix: u64,
+struct Later {
+    bodies: u64,
+    lowest: u64,
+    mix: u64,
 }
 
 // So many bodies, each summed up in entry q. A coast stays with them as long as it stays in its body, so that they are multiplied once.
-pub fn bodies_after(summaries: &[u32], q: usize, after: u64) -> Later
+fn bodies_after(summaries: &[u32], q: usize, after: u64) -> Later
     requires { ⌜ (q * summary-numbers + summary-numbers ≤ length (now summaries)) × (after < most-repeats) ⌝ }
     ensures { λ r. ⌜ BodiesAfter (now (summaries .entry)) q after r ⌝ }
 {

@@ -72,13 +72,13 @@ pub fn put_position(
 }
 
 // Up to which position there are lines, and where in the buffer they end.
-pub struct Told {
-    pub next: usize,
-    pub at: usize,
+struct Told {
+    next: usize,
+    at: usize,
 }
 
 // The lines from a position on, as many as there is room for.
-pub fn put_lines(
+fn put_lines(
     out: &mut [u8],
     at: usize,
     body: Body,

@@ -155,7 +155,7 @@ impl Pair<'_> {
     fn body_ask(&mut self, run: BodyRun, tables: BodyTables) -> Result<BodyRun, String> {
         let (next, answer) = self.same("body ask", &|| format!("{run:?} {tables:?}"), |calls| {
             let mut run = run;
-            let answer = calls.body_ask(&mut run, tables);
+            let answer = calls.body_ask(&mut run, &tables);
             (run, answer)
         })?;
         self.note_body_asked(next, &answer);

@@ -175,33 +175,67 @@ pub fn body_bound(
 
 // ---- the run
 
+/// What the rest of a body may come to: M at most `mix`, and the averages at most `average`, which are of no account without a body after it.
+#[derive(Clone, Copy)]
+struct Room {
+    mix: i64,
+    average: i64,
+}
+
+/// More than any average.
+const AMPLE: i64 = i64::MAX / 2;
+
+impl Room {
+    /// Before so many bodies, of what is left of the cycle.
+    #[inline(always)]
+    fn before(summaries: &[u32], level: usize, bodies: u32, left: i64) -> Room {
+        let after = After::of(summaries, level, bodies);
+        Room { mix: left - after.to_mix, average: if bodies == 0 { AMPLE } else { left - after.to_average } }
+    }
+
+    /// Before one body fewer: it gives back what it took.
+    #[inline(always)]
+    fn nearer(self, summaries: &[u32], level: usize, bodies: u32) -> Room {
+        let &[average, lowest, _] = entry(summaries, level);
+        let given = if bodies == 1 { AMPLE } else { self.average + i64::from(average.max(lowest)) };
+        Room { mix: self.mix + i64::from(lowest), average: given }
+    }
+
+    /// From a worst time later on.
+    #[inline(always)]
+    fn later(self, worst: u32) -> Room {
+        Room { mix: self.mix - i64::from(worst), average: self.average - i64::from(worst) }
+    }
+
+    #[inline(always)]
+    fn holds(self, &[average, _, mix]: &Entry) -> bool {
+        i64::from(average) <= self.average && i64::from(mix) <= self.mix
+    }
+}
+
 /// A decision at a place of a body with so many bodies after it. The summaries and the worst times are as long as the body says.
 #[inline(always)]
 fn decide(body: Body, summaries: &[u32], worst: &[u32], place: usize, bodies: u32, clock: u64) -> Decision {
-    let (n, levels) = (body.n as usize, body.levels as usize);
-    // What M may be at most.
-    let room = i64::from(body.cycle) - clock as i64;
-    let mut level = levels;
-    loop {
-        if level == 0 {
-            return Decision { level: 0, late: true, grant: 1 };
+    let levels = body.levels as usize;
+    let left = i64::from(body.cycle) - clock as i64;
+    let mut above = Room { mix: 0, average: 0 };
+    for level in (0..levels).rev() {
+        let own = Room::before(summaries, level, bodies, left);
+        if own.holds(entry(summaries, place * levels + level)) {
+            let grant = if level + 1 == levels {
+                coast::<false>(body, summaries, worst, place, bodies, level, own, above)
+            } else {
+                coast::<true>(body, summaries, worst, place, bodies, level, own, above)
+            };
+            return Decision { level, late: false, grant };
         }
-        level -= 1;
-        if After::of(summaries, level, bodies).mix(entry(summaries, place * levels + level)) <= room {
-            break;
-        }
+        above = own;
     }
-    let most = (n - place + bodies as usize * n).min(LONGEST_COAST);
-    let grant = if level + 1 == levels {
-        coast::<false>(body, summaries, worst, place, bodies, level, room, most)
-    } else {
-        coast::<true>(body, summaries, worst, place, bodies, level, room, most)
-    };
-    Decision { level, late: false, grant }
+    Decision { level: 0, late: true, grant: 1 }
 }
 
 /// The actions up to the first that could begin too late for the level, or at which the one above fits; no coast past it qualifies. The first is
-/// known to be none.
+/// known to be none. It is walked body by body: `goal` is the cell at which the longest coast ends, as if the body went on.
 #[inline(always)]
 #[allow(clippy::too_many_arguments)]
 fn coast<const ABOVE: bool>(
@@ -209,35 +243,37 @@ fn coast<const ABOVE: bool>(
     summaries: &[u32],
     worst: &[u32],
     place: usize,
-    bodies: u32,
+    mut bodies: u32,
     level: usize,
-    room: i64,
-    most: usize,
+    mut own: Room,
+    mut above: Room,
 ) -> u32 {
     let (n, levels) = (body.n as usize, body.levels as usize);
-    let (mut at, mut bodies) = (place, bodies);
-    let mut left = room - i64::from(worst[at * levels + level]);
-    let mut grant = 1;
-    at += 1;
-    while grant < most {
-        if at == n {
-            at = 0;
-            bodies -= 1;
-        }
-        let own = After::of(summaries, level, bodies);
-        let above = if ABOVE { After::of(summaries, level + 1, bodies) } else { own };
-        let end = n.min(at + most - grant);
-        while at < end {
-            let cell = at * levels + level;
-            if own.mix(entry(summaries, cell)) > left || ABOVE && above.mix(entry(summaries, cell + 1)) <= room {
-                return grant as u32;
+    let (cells, most) = (n * levels, (n - place + bodies as usize * n).min(LONGEST_COAST));
+    let mut cell = place * levels + level;
+    let mut goal = cell + most * levels;
+    own = own.later(worst[cell]);
+    cell += levels;
+    while cell < goal {
+        if cell >= cells {
+            own = own.nearer(summaries, level, bodies);
+            if ABOVE {
+                above = above.nearer(summaries, level + 1, bodies);
             }
-            left -= i64::from(worst[cell]);
-            at += 1;
-            grant += 1;
+            bodies -= 1;
+            cell = level;
+            goal -= cells;
+        }
+        let stop = goal.min(cells + level);
+        while cell < stop {
+            if !own.holds(entry(summaries, cell)) || ABOVE && above.holds(entry(summaries, cell + 1)) {
+                return (most - (goal - cell) / levels) as u32;
+            }
+            own = own.later(worst[cell]);
+            cell += levels;
         }
     }
-    grant as u32
+    most as u32
 }
 
 fn in_range(run: &BodyRun) -> bool {
@@ -262,13 +298,13 @@ pub fn body_start(run: &mut BodyRun, body: Body) -> u8 {
 }
 
 /// The next action and its level.
-pub fn body_ask(run: &mut BodyRun, tables: BodyTables) -> Answer<Given> {
+pub fn body_ask(run: &mut BodyRun, tables: &BodyTables) -> Answer<Given> {
     if !in_range(run) {
         return Err(refused::TURN);
     }
     let body = run.body;
     let cells = body.n as usize * body.levels as usize;
-    let BodyTables { order, summaries, worst_by_position: worst } = tables;
+    let &BodyTables { order, summaries, worst_by_position: worst } = tables;
     if order.len() < body.n as usize || summaries.len() < cells * SUMMARY_NUMBERS || worst.len() < cells {
         return Err(refused::ROOM);
     }

@@ -368,11 +368,11 @@ fn ended(run: BodyRun, clock: u64, worst: i64) -> BodyRun {
 }
 
 /// Asks for the next action, told by its unrolled number, and its level.
-pub fn body_ask(run: &mut BodyRun, tables: BodyTables) -> Answer<Given> {
+pub fn body_ask(run: &mut BodyRun, tables: &BodyTables) -> Answer<Given> {
     if !body_fields_out(*run).is_empty() {
         return Err(refused::TURN);
     }
-    let BodyTables { order, summaries, worst_by_position: worst } = tables;
+    let &BodyTables { order, summaries, worst_by_position: worst } = tables;
     let lent = Lent { body: run.body, summaries, worst };
     if order.len() < lent.n() || short(run.body, summaries, worst) {
         return Err(refused::ROOM);

@@ -1,13 +1,14 @@
 -- Where it stands, or the room before one body fewer, at both levels. Assumes nothing.
 use Prim.Native.Nat.{ℕ, suc, _+_, _-_, _*_, _≤_, _<_}
-use mathlib.Core.Path.{_≡_, refl, sym, _∙_}
+use mathlib.Core.Path.{_≡_, refl, _∙_}
+use mathlib.Core.List.{List}
 use mathlib.Core.Logic.{inl, inr, ⊎-elim}
 use native.Mathlib.Nat.{mul-le-mul}
-use native.Mathlib.Numerals.{add-one}
 use native.Mathlib.Omega.{arith}
 use borrow.Author.Needs.{needs}
 use Rattle.rules.specs.Repeat.{stretch-at}
-use Rattle.repeat_limits.specs.Limits.{later-of, room-left}
+use Rattle.repeat_limits.specs.Limits.{later-of, room-left, Nears}
+use Rattle.repeat_limits.specs.declared.Room.{Room}
 use Rattle.repeat_decision.proofs.in_body.Statement.{statement}
 use Rattle.repeat_decision.proofs.in_body.Tie as tie
 
@@ -27,10 +28,13 @@ past c = omega (arith, c .if1 .left)
 room-nearer-requires : tie.Need-room-nearer-requires
 room-nearer-requires c κs = let e = c .before in start e .pre .own (past e)
 
+nears-at : {s : List ℕ} {q r after : ℕ} {room : Room} → q ≡ r → Nears s r after room → Nears s q after room
+nears-at e h = rw e h
+
 room-nearer-requires-2 : tie.Need-room-nearer-requires-2
 room-nearer-requires-2 c κs =
     let e = c .before .before .before .before in
-    rw (add-one (start e .args .level)) (start e .pre .above (past e) (omega (arith, c .if2 .taken)))
+    nears-at (omega arith) (start e .pre .above (past e) (omega (arith, c .if2 .taken)))
 
 abbrev else1 : tie.After-struct-known4 → tie.Else1
 else1 c = c .before .before .before .before .before

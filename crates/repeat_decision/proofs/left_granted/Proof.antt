@@ -1,14 +1,13 @@
 -- The coast goes on body by body, from whichever position stands at the place. Assumes nothing.
 use Prim.Native.Nat.{ℕ, suc, _+_, _-_, _*_, _/_, _≤_, _<_, min}
-use mathlib.Core.Path.{_≡_, refl, sym, ap, _∙_}
+use mathlib.Core.Path.{_≡_, ap, _∙_}
 use mathlib.Core.List.{[]}
 use native.Mathlib.Nat.{mul-le-mul, mul-le-mul-right}
 use native.Mathlib.Omega.{arith}
-use lib.ListN.{getD}
 use borrow.Author.Needs.{needs}
 use Rattle.rules.specs.Repeat.{LentBody, stretch-at}
 use Rattle.rules.specs.declared.Body.{Body}
-use Rattle.repeat_limits.specs.Limits.{most-entry, later-of, room-left}
+use Rattle.repeat_limits.specs.Limits.{later-of, room-left}
 use Rattle.repeat_laws.proofs.Places.{row-of}
 use Rattle.repeat_decision.specs.Decision.{Walks}
 use Rattle.repeat_decision.proofs.Going.{row}

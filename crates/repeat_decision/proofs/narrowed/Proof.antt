@@ -7,7 +7,6 @@ use lib.Signed.{mag}
 use mir.Syntax.{w64}
 use mir.Val.{SFits, toZ, ofZ}
 use mir.Facts.{toZ-ofZ}
-use borrow.Author.Needs.{needs}
 use Rattle.repeat_limits.specs.Limits.{signed-above}
 use Rattle.repeat_decision.proofs.narrowed.Statement.{statement}
 use Rattle.repeat_decision.proofs.narrowed.Tie as tie

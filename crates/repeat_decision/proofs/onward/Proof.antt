@@ -1,6 +1,6 @@
 -- The entry one row on, and less room. Assumes nothing.
 use Prim.Native.Nat.{_+_}
-use mathlib.Core.Path.{_≡_, ap}
+use mathlib.Core.Path.{ap}
 use borrow.Author.Needs.{needs}
 use Rattle.repeat_limits.specs.declared.Room.{Room}
 use Rattle.repeat_decision.specs.declared.Reached.{Reached}

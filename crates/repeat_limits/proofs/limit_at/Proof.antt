@@ -3,7 +3,6 @@ use Prim.Native.Nat.{ℕ, suc, _<_}
 use mathlib.Core.Path.{ap, sym, _∙_}
 use native.Mathlib.Omega.{arith}
 use lib.IntN.{pos, _-ℤ_}
-use lib.Signed.{mag}
 use borrow.Author.Needs.{needs}
 use Rattle.repeat_laws.proofs.Ranges.{difference-within}
 use Rattle.repeat_limits.proofs.Refusing.{entry-of, summed-of}

@@ -1,6 +1,5 @@
 -- Both numbers fit 64 bits with their sign, and so does the difference. Assumes nothing.
 use mathlib.Core.Path.{_≡_}
-use native.Mathlib.Omega.{arith}
 use lib.IntN.{pos, _-ℤ_}
 use mir.Syntax.{w64}
 use mir.Val.{SFits, toZ, ofZ}

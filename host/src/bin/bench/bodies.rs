@@ -85,9 +85,10 @@ impl Repeated {
     /// A whole cycle by turns.
     fn cycle(&self, calls: &dyn Calls) -> BodyRun {
         let mut run = BodyRun::default();
+        let tables = self.tables();
         calls.body_start(&mut run, self.body);
         for &clock in &self.clocks {
-            black_box(calls.body_ask(&mut run, self.tables()).is_ok());
+            black_box(calls.body_ask(&mut run, &tables).is_ok());
             black_box(calls.body_report(&mut run, clock, &self.worst));
         }
         run
@@ -96,10 +97,11 @@ impl Repeated {
     fn turns(&self) -> Turns<BodyRun> {
         let mut turns = Turns { deciding: Vec::new(), coasting: Vec::new(), reports: Vec::new() };
         let mut run = BodyRun::default();
+        let tables = self.tables();
         Fast.body_start(&mut run, self.body);
         for &clock in &self.clocks {
             let before = run;
-            let given = Fast.body_ask(&mut run, self.tables()).expect("a turn");
+            let given = Fast.body_ask(&mut run, &tables).expect("a turn");
             (if given.decided { &mut turns.deciding } else { &mut turns.coasting }).push(before);
             turns.reports.push((run, clock));
             Fast.body_report(&mut run, clock, &self.worst);
@@ -158,9 +160,10 @@ fn plain(sides: &Sides, bench: &Bench) -> [[f64; 3]; 5] {
 fn of_body(sides: &Sides, bench: &Repeated) -> [[f64; 3]; 5] {
     let turns = bench.turns();
     let repeats = bench.body.repeats;
+    let tables = bench.tables();
     let ask = |calls: &dyn Calls, record: BodyRun| {
         let mut run = record;
-        black_box(calls.body_ask(&mut run, bench.tables()).is_ok());
+        black_box(calls.body_ask(&mut run, &tables).is_ok());
         black_box(run);
     };
     let (mut given, mut marks) = (vec![0; bench.clocks.len()], vec![0; bench.clocks.len()]);
