@@ -1,7 +1,9 @@
 // The same of a body repeated: Three, in a cycle of 40, which two repeats fit. A case is a line of bodies.txt: `start`, n and how often; `ask`, and
 // how much of the order is lent; `report`, the clock, and how much of the worst times is lent.
+use crate::end_line;
 use crate::part;
 use crate::say;
+use crate::say_given;
 use crate::through;
 use nyokazerubi::bodies;
 use repeat_run::BodyRun;
@@ -69,18 +71,7 @@ fn ask(run: BodyRun, much: u32, order: [u8; 3], summaries: &[u32], worst: &[u32]
     let k = part(much, 3);
     let lent = through::body_asked(run, &order[0..k], summaries, worst);
     let value = bodies::ask_flat(run, &order[0..k], summaries, worst);
-    let a = lent.given;
-    let b = value.given;
-    say(a.refusal.number);
-    say(a.action);
-    say(a.level);
-    say(a.decided as u32);
-    say(a.late as u32);
-    let alike = a.refusal.number == b.refusal.number
-        && a.action == b.action
-        && a.level == b.level
-        && a.decided == b.decided
-        && a.late == b.late;
+    let alike = say_given(lent.given, value.given);
     tell_record(alike, lent.run, value.run);
     lent.run
 }
@@ -101,17 +92,13 @@ fn report(run: BodyRun, clock: u32, much: u32, worst: [u32; 6]) -> BodyRun {
 // ---- what is printed
 
 fn tell_record(alike: bool, lent: BodyRun, value: BodyRun) {
-    if alike && same(lent, value) {
-        io::write_all(1, b" |");
-        say(lent.position);
-        io::write_all(1, b" ");
-        io::print_decimal(1, lent.clock);
-        say(lent.running as u32);
-        say(lent.decisions);
-        io::write_all(1, b"\n");
-    } else {
-        io::write_all(1, b" differs\n");
-    }
+    end_line(
+        alike & same(lent, value),
+        lent.position,
+        lent.clock,
+        lent.running,
+        lent.decisions,
+    );
 }
 
 fn same(a: BodyRun, b: BodyRun) -> bool {

@@ -3,6 +3,7 @@
 // lent. It is told again with the answer, the number of a refusal first, and then the lent record: position, clock, running, decisions. Where the
 // two differ it says so instead.
 use nyokazerubi::runs;
+use nyokazerubi::runs::Given;
 use run::Run;
 use text::words;
 ghost use Prim.Native.Nat.{_≤_};
@@ -82,18 +83,7 @@ fn ask(run: Run, much: u32, order: [u8; 3], limits: &[i32], bounds: &[i32]) -> R
     let k = part(much, 3);
     let lent = through::asked(run, &order[0..k], limits, bounds);
     let value = runs::ask_flat(run, &order[0..k], limits, bounds);
-    let a = lent.given;
-    let b = value.given;
-    say(a.refusal.number);
-    say(a.action);
-    say(a.level);
-    say(a.decided as u32);
-    say(a.late as u32);
-    let alike = a.refusal.number == b.refusal.number
-        && a.action == b.action
-        && a.level == b.level
-        && a.decided == b.decided
-        && a.late == b.late;
+    let alike = say_given(lent.given, value.given);
     tell_record(alike, lent.run, value.run);
     lent.run
 }
@@ -118,18 +108,43 @@ fn say(x: u32) {
     io::print_decimal(1, x as u64);
 }
 
-// The end of a line: the lent record, if the two answers and the two records are the same.
-fn tell_record(alike: bool, lent: Run, value: Run) {
-    if alike && same(lent, value) {
+// What was given over the lent record; whether it is what was given by value.
+fn say_given(a: Given, b: Given) -> bool {
+    say(a.refusal.number);
+    say(a.action);
+    say(a.level);
+    say(a.decided as u32);
+    say(a.late as u32);
+    (a.refusal.number == b.refusal.number)
+        & (a.action == b.action)
+        & (a.level == b.level)
+        & (a.decided == b.decided)
+        & (a.late == b.late)
+}
+
+// The end of a line: where the lent record stands, if the two answers and the two records are the same.
+fn end_line(alike: bool, position: u32, clock: u64, running: bool, decisions: u32) {
+    if alike {
         io::write_all(1, b" |");
-        say(lent.position);
-        say(lent.clock);
-        say(lent.running as u32);
-        say(lent.decisions);
+        say(position);
+        io::write_all(1, b" ");
+        io::print_decimal(1, clock);
+        say(running as u32);
+        say(decisions);
         io::write_all(1, b"\n");
     } else {
         io::write_all(1, b" differs\n");
     }
+}
+
+fn tell_record(alike: bool, lent: Run, value: Run) {
+    end_line(
+        alike & same(lent, value),
+        lent.position,
+        lent.clock as u64,
+        lent.running,
+        lent.decisions,
+    );
 }
 
 fn same(a: Run, b: Run) -> bool {
