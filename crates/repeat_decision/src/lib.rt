@@ -179,12 +179,7 @@ fn most(n: usize, own: usize, after: u32) -> usize
     requires { ⌜ (n ≤ most-actions) × (own ≤ most-actions) × (after < most-repeats) ⌝ }
     ensures { λ r. ⌜ r ≡ min longest-coast (after * n + own) ⌝ }
 {
-    let rest = after as usize * n + own;
-    if rest < rules::LONGEST_COAST {
-        rest
-    } else {
-        rules::LONGEST_COAST
-    }
+    lesser(rules::LONGEST_COAST, after as usize * n + own)
 }
 
 // What a decision leaves to coast for the level given, where that fits: one less than the greatest r that qualifies. It is found from below, body by

@@ -42,7 +42,7 @@ pub record BoundAnswers (b : Body) (lent : LentBody) (i q r : ℕ) (x : Limited)
 abbrev pub signed-above : ℕ
 signed-above = 9223372036854775808
 
--- the latest time that the room is told of, 2 ^ 42: a decision and 15 worst times of 32 bits are before it
+-- the latest time that the room is told of, 2 ^ 42: a decision, the worst times of a coast and those of a whole body, of 32 bits each, are before it
 abbrev pub latest : ℕ
 latest = 4398046511104
 

@@ -53,7 +53,7 @@ struct Later {
     mix: u64,
 }
 
-// So many bodies, each summed up in entry q. A coast stays with them as long as it stays in its body, so that they are multiplied once.
+// So many bodies, each summed up in entry q.
 fn bodies_after(summaries: &[u32], q: usize, after: u64) -> Later
     requires { ⌜ (q * summary-numbers + summary-numbers ≤ length (now summaries)) × (after < most-repeats) ⌝ }
     ensures { λ r. ⌜ BodiesAfter (now (summaries .entry)) q after r ⌝ }
