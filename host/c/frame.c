@@ -1,7 +1,7 @@
 /* The manager in a whole frame of 1,620 encoder bodies, as a camera in C calls it: planned once, then asked before each action and told the clock
  * after it, in a plain loop of direct calls through the header. The fast form in C, an object of its own, is called the same way beside it, over the
- * same tables. Before either is timed, both must give the same at every action. Prints one section of markdown; it ends with status 1 if a call does
- * not answer as it must. */
+ * same tables. Before either is timed, both must give the same at every action. Then an asking that decides, of those bodies and of the plain cycle on
+ * the same image. Prints two sections of markdown; it ends with status 1 if a call does not answer as it must. */
 #define _POSIX_C_SOURCE 200809L
 
 #include "../../include/nyokazerubi.h"
@@ -19,12 +19,15 @@ enum {
     IMAGE = NYOKAZERUBI_IMAGE_BYTES(ACTIONS, LEVELS),
     TABLE = NYOKAZERUBI_TABLE_ENTRIES(ACTIONS, LEVELS),
     SUMMARIES = NYOKAZERUBI_SUMMARIES_ENTRIES(ACTIONS, LEVELS),
+    BOUNDS = NYOKAZERUBI_BOUNDS_ENTRIES(ACTIONS, LEVELS),
     SAMPLES = 401,
+    TURNS = 64, /* askings of a sample */
     CLOCK_SAMPLES = 1000,
     STEPS = 100000 /* additions of a sample of the processor's clock */
 };
 
-/* The plan of one body. */
+/* The image with the cycle of all repeats, and its plan as one body. */
+static uint8_t image[IMAGE];
 static uint8_t order[ACTIONS];
 static uint32_t summaries[SUMMARIES], worst_by_position[TABLE];
 
@@ -66,7 +69,6 @@ static void draw(const uint32_t *averages) {
 
 /* Plans the encoder's body, all its deadlines the cycle's, in a cycle as long as all repeats need, and draws the durations. */
 static struct nyokazerubi_body plan(void) {
-    static uint8_t image[IMAGE];
     uint64_t masks[ACTIONS];
     uint32_t deadlines[ACTIONS], averages[TABLE], worst[TABLE];
     hold(nyokazerubi_write_encoder(image, IMAGE).bytes == IMAGE, "the encoder's profile");
@@ -151,6 +153,44 @@ static double of_c(fast_body body) {
     return (double)took;
 }
 
+/* Some records of the frame before an asking that decides, evenly. */
+static void deciding(struct nyokazerubi_body body, struct nyokazerubi_body_run *turns) {
+    struct nyokazerubi_body_run run;
+    size_t met = 0, kept = 0;
+    hold(nyokazerubi_body_start(&run, body).number == NYOKAZERUBI_ACCEPTED, "a start");
+    for (size_t i = 0; i < POSITIONS; i++) {
+        if (run.left == 0 && kept < TURNS && met++ == kept * decisions / TURNS) turns[kept++] = run;
+        nyokazerubi_body_ask(&run, order, ACTIONS, summaries, SUMMARIES, worst_by_position, TABLE);
+        nyokazerubi_body_report(&run, clocks[i], worst_by_position, TABLE);
+    }
+    hold(kept == TURNS, "decisions enough");
+}
+
+/* An asking of the frame that decides, in ns. */
+static double body_decides(const struct nyokazerubi_body_run *turns) {
+    struct nyokazerubi_body_run runs[TURNS];
+    uint32_t decided = 0;
+    for (size_t k = 0; k < TURNS; k++) runs[k] = turns[k];
+    uint64_t began = now();
+    for (size_t k = 0; k < TURNS; k++)
+        decided += nyokazerubi_body_ask(&runs[k], order, ACTIONS, summaries, SUMMARIES, worst_by_position, TABLE).decided;
+    uint64_t took = now() - began;
+    hold(decided == TURNS, "each decides");
+    return (double)took / TURNS;
+}
+
+/* That of the plain cycle on the same image, which decides at its start. */
+static double plain_decides(const uint8_t *places, const int32_t *limits, const int32_t *bounds) {
+    struct nyokazerubi_run runs[TURNS];
+    uint32_t decided = 0;
+    for (size_t k = 0; k < TURNS; k++) nyokazerubi_start(&runs[k], ACTIONS, LEVELS);
+    uint64_t began = now();
+    for (size_t k = 0; k < TURNS; k++) decided += nyokazerubi_ask(&runs[k], places, ACTIONS, limits, TABLE, bounds, BOUNDS).decided;
+    uint64_t took = now() - began;
+    hold(decided == TURNS, "each decides");
+    return (double)took / TURNS;
+}
+
 static int compare(const void *one, const void *other) {
     double a = *(const double *)one, b = *(const double *)other;
     return (a > b) - (a < b);
@@ -195,6 +235,25 @@ static void row(const char *side, double ns, double clock, uint32_t frame) {
     printf("| %s | %.0f | %.0f | %.1f | %.4f %% |\n", side, ns, cycles, cycles / POSITIONS, 100 * cycles / frame);
 }
 
+/* Both, beside each other. */
+static void askings(struct nyokazerubi_body body) {
+    static struct nyokazerubi_body_run turns[TURNS];
+    static int32_t limits[TABLE], bounds[BOUNDS];
+    static double plain[SAMPLES], of_body[SAMPLES];
+    uint8_t places[ACTIONS];
+    uint32_t worst[TABLE];
+    hold(nyokazerubi_plan(image, IMAGE, places, ACTIONS, limits, TABLE, worst, TABLE, bounds, BOUNDS).refusal.number == NYOKAZERUBI_ACCEPTED,
+         "the plain plan");
+    deciding(body, turns);
+    for (size_t at = 0; at < SAMPLES; at++) {
+        plain[at] = plain_decides(places, limits, bounds);
+        of_body[at] = body_decides(turns);
+    }
+    double one = median(plain), other = median(of_body);
+    printf("\n### An asking that decides, called from C, N = %d\n\n", REPEATS);
+    printf("| plain, ns | of the body, ns | to plain |\n|---|---|---|\n| %.1f | %.1f | %.2f |\n", one, other, other / one);
+}
+
 int main(void) {
     hold(nyokazerubi_boundary() == NYOKAZERUBI_BOUNDARY, "the archive is of this header");
     struct nyokazerubi_body body = plan();
@@ -210,5 +269,6 @@ int main(void) {
     printf("| side | ns | cycles | cycles an action | part of the frame |\n|---|---|---|---|---|\n");
     row("product", median(product), clock, body.cycle);
     row("C", median(c), clock, body.cycle);
+    askings(body);
     return 0;
 }
