@@ -808,30 +808,26 @@ static inline room room_nearer(const uint32_t *summaries, uint32_t level, uint32
 static inline bool has_room(const uint32_t *entry, room r) { return entry[0] <= r.average && entry[2] <= r.mix; }
 
 /* The actions up to the first that could begin too late for the level, or at which the one above fits; no coast past it
- * qualifies. The first is known to be none. It is walked body by body: `goal` is the entry at which the longest coast
- * ends, as if the body went on. */
+ * qualifies. The first is known to be none. It is walked body by body, with `rest` still to be looked at. */
 static inline __attribute__((always_inline)) uint32_t body_coast(fast_body body, const uint32_t *summaries,
                                                                  const uint32_t *worst, uint32_t place, uint32_t bodies,
                                                                  uint32_t level, room own, room above, bool top) {
-    uint32_t rest = body.n - place + bodies * body.n, most = rest < COAST ? rest : COAST;
+    uint32_t all = body.n - place + bodies * body.n, most = all < COAST ? all : COAST, rest = most - 1;
     size_t levels = body.levels, cells = body.n * levels, entry = place * levels + level;
-    size_t goal = entry + most * levels;
     own.mix -= worst[entry];
     own.average -= worst[entry];
     entry += levels;
-    while (entry < goal) {
+    while (rest) {
         if (entry >= cells) {
             own = room_nearer(summaries, level, bodies, own);
             if (!top) above = room_nearer(summaries, level + 1, bodies, above);
             bodies--;
             entry = level;
-            goal -= cells;
         }
-        size_t stop = goal < cells + level ? goal : cells + level;
-        for (; entry < stop; entry += levels) {
+        size_t goal = entry + rest * levels, stop = goal < cells + level ? goal : cells + level;
+        for (; entry < stop; entry += levels, rest--) {
             const uint32_t *sums = summaries + entry * NUMBERS;
-            if (!has_room(sums, own) || (!top && has_room(sums + NUMBERS, above)))
-                return most - (uint32_t)((goal - entry) / levels);
+            if (!has_room(sums, own) || (!top && has_room(sums + NUMBERS, above))) return most - rest;
             own.mix -= worst[entry];
             own.average -= worst[entry];
         }
@@ -844,16 +840,14 @@ static inline decision body_decide(fast_body body, const uint32_t *summaries, co
                                    uint32_t bodies, uint64_t clock) {
     int64_t left = (int64_t)body.cycle - (int64_t)clock;
     const uint32_t *row = summaries + (size_t)place * body.levels * NUMBERS;
-    room above = {0, 0};
     for (uint32_t level = body.levels; level-- > 0;) {
         room own = room_before(summaries, level, bodies, left);
         if (has_room(row + level * NUMBERS, own)) {
-            bool top = level + 1 == body.levels;
-            uint32_t grant = top ? body_coast(body, summaries, worst, place, bodies, level, own, above, true)
-                                 : body_coast(body, summaries, worst, place, bodies, level, own, above, false);
-            return (decision){level, grant, false};
+            if (level + 1 == body.levels)
+                return (decision){level, body_coast(body, summaries, worst, place, bodies, level, own, own, true), false};
+            room above = room_before(summaries, level + 1, bodies, left);
+            return (decision){level, body_coast(body, summaries, worst, place, bodies, level, own, above, false), false};
         }
-        above = own;
     }
     return (decision){0, 1, true};
 }

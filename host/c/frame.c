@@ -1,7 +1,8 @@
 /* The manager in a whole frame of 1,620 encoder bodies, as a camera in C calls it: planned once, then asked before each action and told the clock
  * after it, in a plain loop of direct calls through the header. The fast form in C, an object of its own, is called the same way beside it, over the
- * same tables. Before either is timed, both must give the same at every action. Then an asking that decides, of those bodies and of the plain cycle on
- * the same image. Prints two sections of markdown; it ends with status 1 if a call does not answer as it must. */
+ * same tables. Before either is timed, both must give the same at every action. Then an asking that decides, of a body and of a plain cycle: the same
+ * asking of both, over seven bodies, which are 63 actions of a plain cycle too; and one of the 1,620 bodies beside the first of a plain cycle that has time
+ * enough. Prints two sections of markdown; it ends with status 1 if a call does not answer as it must. */
 #define _POSIX_C_SOURCE 200809L
 
 #include "../../include/nyokazerubi.h"
@@ -19,17 +20,30 @@ enum {
     IMAGE = NYOKAZERUBI_IMAGE_BYTES(ACTIONS, LEVELS),
     TABLE = NYOKAZERUBI_TABLE_ENTRIES(ACTIONS, LEVELS),
     SUMMARIES = NYOKAZERUBI_SUMMARIES_ENTRIES(ACTIONS, LEVELS),
-    BOUNDS = NYOKAZERUBI_BOUNDS_ENTRIES(ACTIONS, LEVELS),
+    FEW = NYOKAZERUBI_MOST_ACTIONS / ACTIONS, /* bodies that a plain cycle holds */
+    WIDE = FEW * ACTIONS,
+    WIDE_IMAGE = NYOKAZERUBI_IMAGE_BYTES(WIDE, LEVELS),
+    WIDE_TABLE = NYOKAZERUBI_TABLE_ENTRIES(WIDE, LEVELS),
+    WIDE_BOUNDS = NYOKAZERUBI_BOUNDS_ENTRIES(WIDE, LEVELS),
     SAMPLES = 401,
     TURNS = 64, /* askings of a sample */
     CLOCK_SAMPLES = 1000,
     STEPS = 100000 /* additions of a sample of the processor's clock */
 };
 
-/* The image with the cycle of all repeats, and its plan as one body. */
-static uint8_t image[IMAGE];
+/* The encoder's profile, and what is planned of it as a body, which is the same however often it is repeated. */
+static uint64_t masks[WIDE];
+static uint32_t averages[WIDE_TABLE], worst[WIDE_TABLE], encoder_cycle;
 static uint8_t order[ACTIONS];
 static uint32_t summaries[SUMMARIES], worst_by_position[TABLE];
+
+/* A plain plan, of up to seven bodies. */
+struct plain {
+    size_t n;
+    uint8_t order[WIDE];
+    int32_t limits[WIDE_TABLE], bounds[WIDE_BOUNDS];
+    uint32_t worst[WIDE_TABLE];
+};
 
 /* The frame: how long each action takes at each level; then the clock at the end of each, the decisions, and the levels given added up. */
 static uint32_t durations[POSITIONS * LEVELS], clocks[POSITIONS], decisions, levels;
@@ -60,29 +74,55 @@ static uint32_t duration(uint32_t average, uint32_t worst) {
     return near < worst ? near : worst;
 }
 
-static void draw(const uint32_t *averages) {
+static void draw(void) {
     for (size_t at = 0; at < POSITIONS * LEVELS; at++) {
         size_t cell = at % TABLE, level = cell % LEVELS;
         durations[at] = duration(averages[order[cell / LEVELS] * LEVELS + level], worst_by_position[cell]);
     }
 }
 
-/* Plans the encoder's body, all its deadlines the cycle's, in a cycle as long as all repeats need, and draws the durations. */
-static struct nyokazerubi_body plan(void) {
-    uint64_t masks[ACTIONS];
-    uint32_t deadlines[ACTIONS], averages[TABLE], worst[TABLE];
+/* Reads the encoder's profile, and repeats it as the actions of seven bodies. */
+static void read_encoder(void) {
+    uint8_t image[IMAGE];
+    uint32_t deadlines[ACTIONS];
     hold(nyokazerubi_write_encoder(image, IMAGE).bytes == IMAGE, "the encoder's profile");
     struct nyokazerubi_unpacked encoder = nyokazerubi_read(image, IMAGE, masks, ACTIONS, deadlines, ACTIONS, averages, TABLE, worst, TABLE);
     hold(encoder.refusal.number == NYOKAZERUBI_ACCEPTED && encoder.n == ACTIONS && encoder.levels == LEVELS, "it is read");
-    for (size_t a = 0; a < ACTIONS; a++) deadlines[a] = 0;
-    struct nyokazerubi_written written = nyokazerubi_write(ACTIONS, LEVELS, encoder.cycle * REPEATS, masks, ACTIONS, deadlines, ACTIONS, averages,
-                                                           TABLE, worst, TABLE, image, IMAGE);
-    hold(written.bytes == IMAGE, "it is written with the cycle of all repeats");
+    encoder_cycle = encoder.cycle;
+    for (size_t a = ACTIONS; a < WIDE; a++) masks[a] = masks[a - ACTIONS] << ACTIONS;
+    for (size_t cell = TABLE; cell < WIDE_TABLE; cell++) {
+        averages[cell] = averages[cell - TABLE];
+        worst[cell] = worst[cell - TABLE];
+    }
+}
+
+/* Writes so many of these actions, all deadlines the cycle's, in a cycle as long as so many repeats need. */
+static size_t write_image(uint8_t *image, size_t n, uint32_t repeats) {
+    static const uint32_t deadlines[WIDE];
+    size_t cells = NYOKAZERUBI_TABLE_ENTRIES(n, LEVELS), bytes = NYOKAZERUBI_IMAGE_BYTES(n, LEVELS);
+    struct nyokazerubi_written written = nyokazerubi_write(n, LEVELS, encoder_cycle * repeats, masks, n, deadlines, n, averages, cells, worst, cells,
+                                                           image, bytes);
+    hold(written.refusal.number == NYOKAZERUBI_ACCEPTED && written.bytes == bytes, "an image is written");
+    return bytes;
+}
+
+static struct nyokazerubi_body plan_body(uint32_t repeats) {
+    uint8_t image[IMAGE];
+    size_t bytes = write_image(image, ACTIONS, repeats);
     struct nyokazerubi_body_planned planned =
-        nyokazerubi_plan_body(image, IMAGE, REPEATS, order, ACTIONS, summaries, SUMMARIES, worst_by_position, TABLE);
-    hold(planned.refusal.number == NYOKAZERUBI_ACCEPTED && planned.body.repeats == REPEATS, "it is planned");
-    draw(averages);
+        nyokazerubi_plan_body(image, bytes, repeats, order, ACTIONS, summaries, SUMMARIES, worst_by_position, TABLE);
+    hold(planned.refusal.number == NYOKAZERUBI_ACCEPTED && planned.body.repeats == repeats, "a body is planned");
     return planned.body;
+}
+
+/* So many bodies as one plain cycle, with the time of so many repeats. */
+static void plan_plain(struct plain *plan, size_t bodies, uint32_t repeats) {
+    uint8_t image[WIDE_IMAGE];
+    plan->n = bodies * ACTIONS;
+    size_t bytes = write_image(image, plan->n, repeats);
+    hold(nyokazerubi_plan(image, bytes, plan->order, WIDE, plan->limits, WIDE_TABLE, plan->worst, WIDE_TABLE, plan->bounds, WIDE_BOUNDS)
+                 .refusal.number == NYOKAZERUBI_ACCEPTED,
+         "a plain cycle is planned");
 }
 
 static fast_body in_c(struct nyokazerubi_body body) { return (fast_body){body.n, body.levels, body.cycle, body.repeats}; }
@@ -153,6 +193,16 @@ static double of_c(fast_body body) {
     return (double)took;
 }
 
+/* ---- an asking that decides */
+
+static struct nyokazerubi_given ask_plain(struct nyokazerubi_run *run, const struct plain *plan) {
+    return nyokazerubi_ask(run, plan->order, WIDE, plan->limits, WIDE_TABLE, plan->bounds, WIDE_BOUNDS);
+}
+
+static struct nyokazerubi_given ask_body(struct nyokazerubi_body_run *run) {
+    return nyokazerubi_body_ask(run, order, ACTIONS, summaries, SUMMARIES, worst_by_position, TABLE);
+}
+
 /* Some records of the frame before an asking that decides, evenly. */
 static void deciding(struct nyokazerubi_body body, struct nyokazerubi_body_run *turns) {
     struct nyokazerubi_body_run run;
@@ -160,32 +210,56 @@ static void deciding(struct nyokazerubi_body body, struct nyokazerubi_body_run *
     hold(nyokazerubi_body_start(&run, body).number == NYOKAZERUBI_ACCEPTED, "a start");
     for (size_t i = 0; i < POSITIONS; i++) {
         if (run.left == 0 && kept < TURNS && met++ == kept * decisions / TURNS) turns[kept++] = run;
-        nyokazerubi_body_ask(&run, order, ACTIONS, summaries, SUMMARIES, worst_by_position, TABLE);
+        ask_body(&run);
         nyokazerubi_body_report(&run, clocks[i], worst_by_position, TABLE);
     }
     hold(kept == TURNS, "decisions enough");
 }
 
-/* An asking of the frame that decides, in ns. */
+/* Frames of seven bodies, by both at once, which give the same: the records of either before the same askings that decide. */
+static void deciding_alike(struct nyokazerubi_body body, const struct plain *plan, struct nyokazerubi_body_run *turns, struct nyokazerubi_run *same) {
+    struct nyokazerubi_body_run run;
+    struct nyokazerubi_run plain;
+    uint32_t clock = 0;
+    size_t i = WIDE;
+    for (size_t kept = 0; kept < TURNS; i++) {
+        if (i == WIDE) {
+            hold(nyokazerubi_body_start(&run, body).number == NYOKAZERUBI_ACCEPTED, "a start");
+            hold(nyokazerubi_start(&plain, WIDE, LEVELS).number == NYOKAZERUBI_ACCEPTED, "a plain start");
+            i = clock = 0;
+        }
+        if (run.left == 0) {
+            turns[kept] = run;
+            same[kept++] = plain;
+        }
+        struct nyokazerubi_given one = ask_body(&run), other = ask_plain(&plain, plan);
+        hold(one.refusal.number == NYOKAZERUBI_ACCEPTED && other.refusal.number == NYOKAZERUBI_ACCEPTED, "an action of both");
+        hold(one.action == other.action && one.level == other.level && run.left == plain.left, "both give the same");
+        size_t cell = one.action * LEVELS + one.level;
+        clock += duration(averages[cell], worst[cell]);
+        hold(nyokazerubi_body_report(&run, clock, worst_by_position, TABLE).number == NYOKAZERUBI_ACCEPTED, "its end");
+        hold(nyokazerubi_report(&plain, clock, plan->worst, WIDE_TABLE).number == NYOKAZERUBI_ACCEPTED, "its plain end");
+    }
+}
+
+/* An asking from these records, which decides, in ns. */
 static double body_decides(const struct nyokazerubi_body_run *turns) {
     struct nyokazerubi_body_run runs[TURNS];
     uint32_t decided = 0;
     for (size_t k = 0; k < TURNS; k++) runs[k] = turns[k];
     uint64_t began = now();
-    for (size_t k = 0; k < TURNS; k++)
-        decided += nyokazerubi_body_ask(&runs[k], order, ACTIONS, summaries, SUMMARIES, worst_by_position, TABLE).decided;
+    for (size_t k = 0; k < TURNS; k++) decided += ask_body(&runs[k]).decided;
     uint64_t took = now() - began;
     hold(decided == TURNS, "each decides");
     return (double)took / TURNS;
 }
 
-/* That of the plain cycle on the same image, which decides at its start. */
-static double plain_decides(const uint8_t *places, const int32_t *limits, const int32_t *bounds) {
+static double plain_decides(const struct nyokazerubi_run *turns, const struct plain *plan) {
     struct nyokazerubi_run runs[TURNS];
     uint32_t decided = 0;
-    for (size_t k = 0; k < TURNS; k++) nyokazerubi_start(&runs[k], ACTIONS, LEVELS);
+    for (size_t k = 0; k < TURNS; k++) runs[k] = turns[k];
     uint64_t began = now();
-    for (size_t k = 0; k < TURNS; k++) decided += nyokazerubi_ask(&runs[k], places, ACTIONS, limits, TABLE, bounds, BOUNDS).decided;
+    for (size_t k = 0; k < TURNS; k++) decided += ask_plain(&runs[k], plan).decided;
     uint64_t took = now() - began;
     hold(decided == TURNS, "each decides");
     return (double)took / TURNS;
@@ -235,28 +309,37 @@ static void row(const char *side, double ns, double clock, uint32_t frame) {
     printf("| %s | %.0f | %.0f | %.1f | %.4f %% |\n", side, ns, cycles, cycles / POSITIONS, 100 * cycles / frame);
 }
 
-/* Both, beside each other. */
-static void askings(struct nyokazerubi_body body) {
-    static struct nyokazerubi_body_run turns[TURNS];
-    static int32_t limits[TABLE], bounds[BOUNDS];
+/* Both from their records, beside each other. */
+static void asking(const char *what, const struct nyokazerubi_body_run *turns, const struct nyokazerubi_run *plain_turns, const struct plain *plan) {
     static double plain[SAMPLES], of_body[SAMPLES];
-    uint8_t places[ACTIONS];
-    uint32_t worst[TABLE];
-    hold(nyokazerubi_plan(image, IMAGE, places, ACTIONS, limits, TABLE, worst, TABLE, bounds, BOUNDS).refusal.number == NYOKAZERUBI_ACCEPTED,
-         "the plain plan");
-    deciding(body, turns);
     for (size_t at = 0; at < SAMPLES; at++) {
-        plain[at] = plain_decides(places, limits, bounds);
+        plain[at] = plain_decides(plain_turns, plan);
         of_body[at] = body_decides(turns);
     }
     double one = median(plain), other = median(of_body);
-    printf("\n### An asking that decides, called from C, N = %d\n\n", REPEATS);
-    printf("| plain, ns | of the body, ns | to plain |\n|---|---|---|\n| %.1f | %.1f | %.2f |\n", one, other, other / one);
+    printf("| %s | %.1f | %.1f | %.2f |\n", what, one, other, other / one);
+}
+
+static void askings(struct nyokazerubi_body body) {
+    static struct plain plan;
+    static struct nyokazerubi_body_run turns[TURNS];
+    static struct nyokazerubi_run plain_turns[TURNS];
+    printf("\n### An asking that decides, called from C\n\n");
+    printf("| | plain, ns | of the body, ns | to plain |\n|---|---|---|---|\n");
+    plan_plain(&plan, FEW, FEW);
+    deciding_alike(plan_body(FEW), &plan, turns, plain_turns);
+    asking("the same asking: 7 bodies, and the same 63 actions in a plain cycle", turns, plain_turns, &plan);
+    plan_plain(&plan, 1, REPEATS);
+    for (size_t k = 0; k < TURNS; k++) hold(nyokazerubi_start(&plain_turns[k], ACTIONS, LEVELS).number == NYOKAZERUBI_ACCEPTED, "a plain start");
+    deciding(body, turns);
+    asking("1,620 bodies, and the first of a plain cycle with their time: the top level, and all of it in one coast", turns, plain_turns, &plan);
 }
 
 int main(void) {
     hold(nyokazerubi_boundary() == NYOKAZERUBI_BOUNDARY, "the archive is of this header");
-    struct nyokazerubi_body body = plan();
+    read_encoder();
+    struct nyokazerubi_body body = plan_body(REPEATS);
+    draw();
     agree(body);
     double clock = gigahertz();
     static double product[SAMPLES], c[SAMPLES];

@@ -9,7 +9,7 @@ use native.Mathlib.Omega.{arith}
 use lib.IntN.{pos}
 use lib.ListN.{length, getD}
 use lib.Signed.{leZ}
-use Rattle.rules.specs.Numbers.{longest-coast, summary-numbers}
+use Rattle.rules.specs.Numbers.{most-actions, longest-coast, summary-numbers}
 use Rattle.rules.specs.Words.{sum}
 use Rattle.rules.specs.Run.{left-granted}
 use Rattle.rules.specs.Repeat.{LentBody, positions, stretch-at, lent-plan}
@@ -26,12 +26,12 @@ use Rattle.repeat_decision.proofs.Walking.{rows-below, sum-few}
 use Rattle.repeat_decision.proofs.Going.{from-stands, Roomed, Granted, Ahead, granted-first, stays, turns, whole, Within, stopped, passed-all}
 
 -- the row at which the places of a body end, or so many of them from one on
-ends-at : (L n p rest q : ℕ) → (last : ℕ) × (last ≤ n) × (min (p * L + q + rest * L) (n * L + q) ≡ last * L + q)
+ends-at : (L n p rest q : ℕ) → (last : ℕ) × (last ≤ n) × (last ≤ p + rest) × (min (p * L + q + rest * L) (n * L + q) ≡ last * L + q)
 ends-at L n p rest q = go (decLe (p + rest) n)
   where
-    go : Dec (p + rest ≤ n) → (last : ℕ) × (last ≤ n) × (min (p * L + q + rest * L) (n * L + q) ≡ last * L + q)
-    go (yes l) = (p + rest, l, omega (arith, mul-le-mul-right L l))
-    go (no l) = let m : n ≤ p + rest = omega (arith, l) in (n, omega arith, omega (arith, mul-le-mul-right L m))
+    go : Dec (p + rest ≤ n) → (last : ℕ) × (last ≤ n) × (last ≤ p + rest) × (min (p * L + q + rest * L) (n * L + q) ≡ last * L + q)
+    go (yes l) = (p + rest, l, omega arith, omega (arith, mul-le-mul-right L l))
+    go (no l) = let m : n ≤ p + rest = omega (arith, l) in (n, omega arith, m, omega (arith, mul-le-mul-right L m))
 
 -- What stays: the decision's place and time, its level, the tables, and how long the coast may be.
 pub record Setting (b : Body) (T : LentBody) (place after t q end : ℕ) : Type 0 where
@@ -44,40 +44,26 @@ pub record Setting (b : Body) (T : LentBody) (place after t q end : ℕ) : Type 
   pub end-is : suc end ≡ min longest-coast (after * b .n + (b .n - place))
 
 module _ {b : Body} {T : LentBody} {place after t q end : ℕ} (S : Setting b T place after t q end) where
-  -- Before a body: `rest` places are still to be looked at.
+  -- Before a body.
   pub record Coast (here : Reached) : Type 0 where
-    pub rest : ℕ
-    pub few : rest ≤ end
-    pub goal-is : here .goal ≡ here .entry + rest * b .levels
+    pub few : here .rest ≤ end
     pub begins : ℕ
-    pub late : begins ≤ t + suc (end - rest) * most-entry
+    pub late : begins ≤ t + suc (end - here .rest) * most-entry
     pub rooms : Roomed b T t q begins here
-    pub granted : (x : ℕ) → Standing b x place after → Granted b T t x q (end - rest) (here .entry) (here .after) begins
+    pub granted : (x : ℕ) → Standing b x place after → Granted b T t x q (end - here .rest) (here .entry) (here .after) begins
 
   -- In it.
   pub record Looking (here : Reached) : Type 0 where
-    pub rest : ℕ
-    pub some : 0 < rest
-    pub few : rest ≤ end
-    pub goal-is : here .goal ≡ here .entry + rest * b .levels
+    pub some : 0 < here .rest
+    pub few : here .rest ≤ end
     pub begins : ℕ
-    pub late : begins ≤ t + suc (end - rest) * most-entry
+    pub late : begins ≤ t + suc (end - here .rest) * most-entry
     pub rooms : Roomed b T t q begins here
-    pub ahead : (x : ℕ) → Standing b x place after → Ahead b T t x q (end - rest) (here .entry) (here .after) begins
+    pub ahead : (x : ℕ) → Standing b x place after → Ahead b T t x q (end - here .rest) (here .entry) (here .after) begins
     pub inside : here .entry < b .n * b .levels
 
   pub coast-moved : {x y : Reached} → x ≡ y → Coast y → Coast x
   coast-moved e c = rw e c
-
-  pub rest-some : {here : Reached} (C : Coast here) → here .entry < here .goal → 0 < C .rest
-  rest-some {here} C l = go (decLe 1 (C .rest))
-    where
-      go : Dec (1 ≤ C .rest) → 0 < C .rest
-      go (yes h) = h
-      go (no h) =
-          let none : C .rest ≡ 0 = omega (arith, h) in
-          let goal = rw none at (C .goal-is) in
-          absurd (omega (arith, l, goal))
 
   abbrev some-action : 0 < b .n
   some-action = S .summarised .counts .some-action
@@ -89,7 +75,7 @@ module _ {b : Body} {T : LentBody} {place after t q end : ℕ} (S : Setting b T 
   origin-stands : Standing b origin place after
   origin-stands = from-stands (S .summarised)
 
-  short : end ≤ 15
+  pub short : suc end ≤ longest-coast
   short = omega (arith, S .end-is)
 
   -- one more position is there
@@ -97,9 +83,9 @@ module _ {b : Body} {T : LentBody} {place after t q end : ℕ} (S : Setting b T 
   more x rest s l m = omega (arith, S .end-is, rest-left some-action s, s .present, l, m)
 
   -- so many positions begin before the latest time that the room is told of, by as much as a body's worst times
-  in-time : (begins rest : ℕ) → rest ≤ end → begins ≤ t + suc (end - rest) * most-entry → begins + 64 * most-entry ≤ latest
+  in-time : (begins rest : ℕ) → rest ≤ end → begins ≤ t + suc (end - rest) * most-entry → begins + most-actions * most-entry ≤ latest
   in-time begins rest m l =
-      let many : suc (end - rest) ≤ 16 = omega (arith, short) in
+      let many : suc (end - rest) ≤ longest-coast = omega (arith, short) in
       omega (arith, l, mul-le-mul-right most-entry many, S .early)
 
   few-later : (r m : ℕ) → m < b .repeats → let y = later-of (stretch-at (T .summaries) r) m in (y .lowest ≤ greatest-later) × (y .mix ≤ greatest-later)
@@ -125,34 +111,33 @@ module _ {b : Body} {T : LentBody} {place after t q end : ℕ} (S : Setting b T 
         → let first = place * b .levels + q in
         Coast (onward-by (b .levels) (getD (T .worst) first 0) (record {
           entry = first;
-          goal = first + b .levels + end * b .levels;
+          rest = end + 1;
           after = after;
           own = own;
           above = above;
         }))
     first-coast fits low =
         let w : ℕ = getD (T .worst) (place * b .levels + q) 0 in
+        let all : end + 1 - 1 ≡ end = omega arith in
         let none : end - end ≡ 0 = omega arith in
         let row : place * b .levels + q + b .levels ≡ suc place * b .levels + q = omega arith in
         record {
-          rest = end;
           few = omega arith;
-          goal-is = refl;
           begins = t + w;
           late = omega (arith, S .few-times (place * b .levels + q));
           rooms = record {
             own = later-room (b .cycle) t w (later-of (stretch-at (T .summaries) q) after) own-is;
             above = above-is;
           };
-          granted = λ x s. rw (none, row) (granted-first b T t x q s (fits x s) (low x s));
+          granted = λ x s. rw (all, none, row) (granted-first b T t x q s (fits x s) (low x s));
         }
 
   -- ---- into a body
 
-  module _ {here : Reached} (C : Coast here) (some : 0 < C .rest) where
+  module _ {here : Reached} (C : Coast here) (some : 0 < here .rest) where
     turning : b .n * b .levels ≤ here .entry
-        → (0 < here .after) × (here .entry ≡ b .n * b .levels + q) × Ahead b T t origin q (end - C .rest) q (here .after - 1) (C .begins)
-    turning h = turns b T t origin q some-action (C .granted origin origin-stands) (S .level) h (more origin (C .rest) origin-stands some (C .few))
+        → (0 < here .after) × (here .entry ≡ b .n * b .levels + q) × Ahead b T t origin q (end - here .rest) q (here .after - 1) (C .begins)
+    turning h = turns b T t origin q some-action (C .granted origin origin-stands) (S .level) h (more origin (here .rest) origin-stands some (C .few))
 
     bodies-few : here .after < b .repeats
     bodies-few = fewer some-action (C .granted origin origin-stands .standing)
@@ -162,8 +147,7 @@ module _ {b : Body} {T : LentBody} {place after t q end : ℕ} (S : Setting b T 
       few = S .summarised .counts .few;
       few-levels = S .summarised .counts .few-levels;
       level = S .level;
-      far = λ h. omega (arith, h, C .goal-is);
-      own = λ h. nears q (C .begins) (S .level) h (omega (arith, in-time (C .begins) (C .rest) (C .few) (C .late))) (C .rooms .own);
+      own = λ h. nears q (C .begins) (S .level) h (omega (arith, in-time (C .begins) (here .rest) (C .few) (C .late))) (C .rooms .own);
       above = λ h top. nears (suc q) t top h (omega (arith, S .early)) (C .rooms .above top);
     }
       where
@@ -180,13 +164,11 @@ module _ {b : Body} {T : LentBody} {place after t q end : ℕ} (S : Setting b T 
           is = is;
         }
 
-    pub looking : {to : Reached} → Turns b (T .summaries) here q to → (L : Looking to) × (L .rest ≡ C .rest)
+    pub looking : {to : Reached} → Turns b (T .summaries) here q to → Looking to × (to .rest ≡ here .rest)
     looking {to} (inl (l, e)) = rw e (
       record {
-        rest = C .rest;
         some = some;
         few = C .few;
-        goal-is = C .goal-is;
         begins = C .begins;
         late = C .late;
         rooms = C .rooms;
@@ -197,39 +179,36 @@ module _ {b : Body} {T : LentBody} {place after t q end : ℕ} (S : Setting b T 
     )
     looking {to} (inr (l, w)) = (
       record {
-        rest = C .rest;
-        some = some;
-        few = C .few;
-        goal-is = omega (arith, w .goal, w .entry, C .goal-is, turning l .1);
+        some = omega (arith, some, w .rest);
+        few = omega (arith, C .few, w .rest);
         begins = C .begins;
-        late = C .late;
+        late = rw (w .rest) (C .late);
         rooms = record {
           own = rw (w .after) (w .own (b .cycle) (C .begins) (C .rooms .own));
           above = λ top. rw (w .after) (w .above top (b .cycle) t (C .rooms .above top));
         };
-        ahead = λ x s. rw (w .entry, w .after) (turns b T t x q some-action (C .granted x s) (S .level) l (more x (C .rest) s some (C .few)) .2);
+        ahead = λ x s. rw (w .rest, w .entry, w .after) (turns b T t x q some-action (C .granted x s) (S .level) l (more x (here .rest) s some (C .few)) .2);
         inside = omega (arith, w .entry, S .level, mul-le-mul-right (b .levels) some-action);
       },
-      refl,
+      w .rest,
     )
 
   -- ---- along it
 
   module _ {here : Reached} (L : Looking here) where
     abbrev pub stop : ℕ
-    stop = min (here .goal) (b .n * b .levels + q)
+    stop = min (here .entry + here .rest * b .levels) (b .n * b .levels + q)
 
-    standing-at : Ahead b T t origin q (end - L .rest) (here .entry) (here .after) (L .begins)
+    standing-at : Ahead b T t origin q (end - here .rest) (here .entry) (here .after) (L .begins)
     standing-at = L .ahead origin origin-stands
 
     after-few : here .after < b .repeats
     after-few = fewer some-action (standing-at .standing)
 
-    pub may-walk : MayWalk b (T .summaries) (T .worst) here (min (here .goal) (b .n * b .levels + q)) q
+    pub may-walk : MayWalk b (T .summaries) (T .worst) here (min (here .entry + here .rest * b .levels) (b .n * b .levels + q)) q
     may-walk =
         let a = standing-at in
-        let e = ends-at (b .levels) (b .n) (a .place) (L .rest) q in
-        let goal : here .goal ≡ a .place * b .levels + q + L .rest * b .levels = omega (arith, L .goal-is, a .entry-is) in
+        let e = ends-at (b .levels) (b .n) (a .place) (here .rest) q in
         record {
           counts = S .summarised .counts;
           summed = S .summarised .summed;
@@ -238,64 +217,64 @@ module _ {b : Body} {T : LentBody} {place after t q end : ℕ} (S : Setting b T 
           place = a .place;
           last = e .0;
           inside = e .1;
+          enough = e .2;
           entry-is = a .entry-is;
-          stop-is = ap (λ (g : ℕ). min g (b .n * b .levels + q)) goal ∙ e .2;
+          stop-is = ap (λ (x : ℕ). min (x + here .rest * b .levels) (b .n * b .levels + q)) (a .entry-is) ∙ e .3;
           near = λ k l.
               let few = few-later q (here .after) after-few in
-              let all : b .n * most-entry ≤ 64 * most-entry = mul-le-mul-right most-entry (S .summarised .counts .few) in
+              let all : b .n * most-entry ≤ most-actions * most-entry = mul-le-mul-right most-entry (S .summarised .counts .few) in
               room-near (b .cycle) (L .begins) k (later-of (stretch-at (T .summaries) q) (here .after)) (S .summarised .counts .cycle-in)
-              (omega (arith, l, all, in-time (L .begins) (L .rest) (L .few) (L .late))) (few .0) (few .1) (L .rooms .own);
+              (omega (arith, l, all, in-time (L .begins) (here .rest) (L .few) (L .late))) (few .0) (few .1) (L .rooms .own);
         }
 
-    module _ {to : Reached} (W : Walks b (T .summaries) (T .worst) here (min (here .goal) (b .n * b .levels + q)) q to) where
+    module _ {to : Reached} (W : Walks b (T .summaries) (T .worst) here (min (here .entry + here .rest * b .levels) (b .n * b .levels + q)) q to) where
       abbrev time : ℕ → ℕ
       time j = getD (T .worst) (here .entry + j * b .levels) 0
 
-      -- each place looked at is in the body and before the goal
+      -- each place looked at is in the body and one of those still to be looked at
       in-body : (k : ℕ) → here .entry + k * b .levels < stop → here .entry + k * b .levels < b .n * b .levels
       in-body k l =
           let a = standing-at in
           let there : a .place + k < b .n = rows-below (b .levels) q (a .place + k) (b .n) (omega (arith, l, a .entry-is)) in
           omega (arith, a .entry-is, S .level, mul-le-mul-right (b .levels) there)
 
-      before-goal : (k : ℕ) → here .entry + k * b .levels < stop → k < L .rest
-      before-goal k l = rows-below (b .levels) (here .entry) k (L .rest) (omega (arith, l, L .goal-is))
+      before-last : (k : ℕ) → here .entry + k * b .levels < stop → k < here .rest
+      before-last k l = rows-below (b .levels) (here .entry) k (here .rest) (omega (arith, l))
 
-      spent : (k : ℕ) → k ≤ 16 → sum k time ≤ 16 * most-entry
+      spent : (k : ℕ) → k ≤ longest-coast → sum k time ≤ longest-coast * most-entry
       spent k l = omega (arith, sum-few time most-entry (λ j. S .few-times (here .entry + j * b .levels)) k, mul-le-mul-right most-entry l)
 
-      within : (x k : ℕ) → here .entry + k * b .levels < stop → Within b T t x q (λ r. S .few-numbers (r * summary-numbers)) (omega (arith, S .early)) (end - L .rest) (L .begins) here k
+      within : (x k : ℕ) → here .entry + k * b .levels < stop → Within b T t x q (λ r. S .few-numbers (r * summary-numbers)) (omega (arith, S .early)) (end - here .rest) (L .begins) here k
       within x k l =
-          let before = before-goal k l in
+          let before = before-last k l in
           record {
             inside = in-body k l;
             most = omega (arith, short, before, L .few);
-            late = omega (arith, spent k (omega (arith, short, before, L .few)), in-time (L .begins) (L .rest) (L .few) (L .late));
+            late = omega (arith, spent k (omega (arith, short, before, L .few)), in-time (L .begins) (here .rest) (L .few) (L .late));
           }
 
-      pub steps-few : W .steps ≤ L .rest
+      steps-few : W .steps ≤ here .rest
       steps-few = go (decLe 1 (W .steps))
         where
-          go : Dec (1 ≤ W .steps) → W .steps ≤ L .rest
-          go (yes l) = omega (arith, l, before-goal (W .steps - 1) (W .goes (W .steps - 1) (omega (arith, l)) .0))
+          go : Dec (1 ≤ W .steps) → W .steps ≤ here .rest
+          go (yes l) = omega (arith, l, before-last (W .steps - 1) (W .goes (W .steps - 1) (omega (arith, l)) .0))
           go (no l) = omega (arith, l)
 
       -- what is left to be looked at
-      pub entry-is : to .entry ≡ here .entry + W .steps * b .levels
+      entry-is : to .entry ≡ here .entry + W .steps * b .levels
       entry-is = ap (λ (r : Reached). r .entry) (W .is)
 
-      pub goal-left : to .goal ≡ to .entry + (L .rest - W .steps) * b .levels
-      goal-left =
-          let same : to .goal ≡ here .goal = ap (λ (r : Reached). r .goal) (W .is) in
-          let split : (W .steps + (L .rest - W .steps)) * b .levels ≡ L .rest * b .levels =
-          (let e : W .steps + (L .rest - W .steps) ≡ L .rest = omega (arith, steps-few) in ap (λ (k : ℕ). k * b .levels) e) in
-          omega (arith, same, L .goal-is, entry-is, split)
+      pub rest-is : to .rest ≡ here .rest - W .steps
+      rest-is = ap (λ (r : Reached). r .rest) (W .is)
 
-      granted-so-far : end - (L .rest - W .steps) ≡ end - L .rest + W .steps
-      granted-so-far = omega (arith, steps-few, L .few)
+      pub still-few : to .rest ≤ end
+      still-few = omega (arith, rest-is, L .few)
+
+      granted-so-far : end - to .rest ≡ end - here .rest + W .steps
+      granted-so-far = omega (arith, rest-is, steps-few, L .few)
 
       pub stops-at : to .entry < stop → (x : ℕ) → Standing b x place after
-          → end - (L .rest - W .steps) ≡ left-granted longest-coast (lent-plan b T) t x q
+          → end - to .rest ≡ left-granted longest-coast (lent-plan b T) t x q
       stops-at l x s =
           granted-so-far
           ∙ stopped b T t x q (λ r. S .few-numbers (r * summary-numbers)) (omega (arith, S .early)) some-action (L .ahead x s) (L .rooms) W (within x) l
@@ -308,40 +287,32 @@ module _ {b : Body} {T : LentBody} {place after t q end : ℕ} (S : Setting b T 
           go (yes l) = l
           go (no l) =
               let none : W .steps ≡ 0 = omega (arith, l) in
-              let far : 1 * b .levels ≤ L .rest * b .levels = mul-le-mul-right (b .levels) (L .some) in
+              let far : 1 * b .levels ≤ here .rest * b .levels = mul-le-mul-right (b .levels) (L .some) in
               let at = rw none at entry-is in
-              absurd (omega (arith, h, at, L .inside, L .goal-is, far, S .summarised .counts .some-level))
+              absurd (omega (arith, h, at, L .inside, far, S .summarised .counts .some-level))
 
       all-passed : 0 < W .steps → (x : ℕ) → Standing b x place after
-          → Granted b T t x q (end - L .rest + W .steps) (to .entry) (to .after) (L .begins + sum (W .steps) time)
+          → Granted b T t x q (end - here .rest + W .steps) (to .entry) (to .after) (L .begins + sum (W .steps) time)
           × Roomed b T t q (L .begins + sum (W .steps) time) to
       all-passed some x s =
           passed-all b T t x q (λ r. S .few-numbers (r * summary-numbers)) (omega (arith, S .early)) some-action (L .ahead x s) (L .rooms) W (within x) some
 
-      pub again : stop ≤ to .entry → (C : Coast to) × (C .rest ≡ L .rest - W .steps) × (0 < W .steps)
+      pub again : stop ≤ to .entry → Coast to × (to .rest < here .rest)
       again h =
           let some = some-steps h in (
             record {
-              rest = L .rest - W .steps;
-              few = omega (arith, L .few);
-              goal-is = goal-left;
+              few = still-few;
               begins = L .begins + sum (W .steps) time;
               late = omega (arith, L .late, granted-so-far, sum-few time most-entry (λ j. S .few-times (here .entry + j * b .levels)) (W .steps));
               rooms = all-passed some origin origin-stands .1;
               granted = λ x s. rw granted-so-far (all-passed some x s .0);
             },
-            refl,
-            some,
+            omega (arith, rest-is, some, L .some),
           )
 
   -- nothing is left to be looked at
-  pub ended : {here : Reached} → Coast here → here .goal ≤ here .entry → (x : ℕ) → Standing b x place after
+  pub ended : {here : Reached} → Coast here → here .rest ≤ 0 → (x : ℕ) → Standing b x place after
       → end ≡ left-granted longest-coast (lent-plan b T) t x q
-  ended {here} C h x s =
-      let none = no-rest (decLe 1 (C .rest)) in
-      let all : end ≡ end - C .rest = omega (arith, none) in
+  ended {here} C none x s =
+      let all : end ≡ end - here .rest = omega (arith, none) in
       all ∙ whole b T t x q (C .granted x s) (omega (arith, none, S .end-is, rest-left some-action s))
-    where
-      no-rest : Dec (1 ≤ C .rest) → C .rest ≡ 0
-      no-rest (yes l) = absurd (omega (arith, h, C .goal-is, mul-le-mul-right (b .levels) l, S .summarised .counts .some-level))
-      no-rest (no l) = omega (arith, l)

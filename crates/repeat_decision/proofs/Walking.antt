@@ -1,5 +1,5 @@
 -- Along the places of one body: what is looked at, and how the room narrows. Assumes nothing.
-use Prim.Native.Nat.{ℕ, zero, suc, _+_, _*_, _≤_, _<_}
+use Prim.Native.Nat.{ℕ, zero, suc, _+_, _-_, _*_, _≤_, _<_}
 use mathlib.Core.Path.{_≡_, sym, ap, _∙_}
 use mathlib.Core.List.{List}
 use native.Mathlib.Decide.{decLt}
@@ -29,21 +29,29 @@ sum-few f c small zero = omega arith
 sum-few f c small (suc k) = let more : suc k * c ≡ k * c + c = omega arith in omega (arith, more, sum-few f c small k, small k)
 
 module _ (b : Body) (worst : List ℕ) (r : Reached) where
-  abbrev at-room : ℕ → Room → Reached
-  at-room e o = record { entry = e; goal = r .goal; after = r .after; own = o; above = r .above }
+  abbrev at-room : ℕ → ℕ → Room → Reached
+  at-room e k o = record { entry = e; rest = k; after = r .after; own = o; above = r .above }
 
   -- none passed, and one more
   pub walked-none : r ≡ walked b worst r 0
   unfolding sum
-  walked-none = let e : r .entry ≡ r .entry + 0 * b .levels = omega arith in ap (λ (x : ℕ). at-room x (r .own)) e ∙ ap (at-room (r .entry + 0 * b .levels)) (sym (narrowed-none (r .own)))
+  walked-none =
+      let e : r .entry ≡ r .entry + 0 * b .levels = omega arith in
+      let k : r .rest ≡ r .rest - 0 = omega arith in
+      ap (λ (x : ℕ). at-room x (r .rest) (r .own)) e
+      ∙ ap (λ (x : ℕ). at-room (r .entry + 0 * b .levels) x (r .own)) k
+      ∙ ap (at-room (r .entry + 0 * b .levels) (r .rest - 0)) (sym (narrowed-none (r .own)))
 
   pub walked-more : (k : ℕ) → onward-by (b .levels) (getD worst (r .entry + k * b .levels) 0) (walked b worst r k) ≡ walked b worst r (suc k)
   unfolding sum
   walked-more k =
       let time : ℕ → ℕ = λ j. getD worst (r .entry + j * b .levels) 0 in
       let e : r .entry + k * b .levels + b .levels ≡ r .entry + suc k * b .levels = omega arith in
-      ap (λ (x : ℕ). at-room x (narrowed-by (narrowed-by (r .own) (sum k time)) (time k))) e
-      ∙ ap (at-room (r .entry + suc k * b .levels)) (narrowed-both (r .own) (sum k time) (time k))
+      let fewer : r .rest - k - 1 ≡ r .rest - suc k = omega arith in
+      let twice : Room = narrowed-by (narrowed-by (r .own) (sum k time)) (time k) in
+      ap (λ (x : ℕ). at-room x (r .rest - k - 1) twice) e
+      ∙ ap (λ (x : ℕ). at-room (r .entry + suc k * b .levels) x twice) fewer
+      ∙ ap (at-room (r .entry + suc k * b .levels) (r .rest - suc k)) (narrowed-both (r .own) (sum k time) (time k))
 
 -- an entry of the level in a place of the body, and the entry of the level above
 pub record InRow (b : Body) (q e : ℕ) : Type 0 where

@@ -47,18 +47,25 @@ pub record Summarised (b : Body) (summaries : List ℕ) (place after : ℕ) : Ty
   pub inside : place < b .n
   pub fewer : after < b .repeats
 
--- The levels that fit, whichever position stands there, and the room at the greatest of them and at the level above.
+-- The levels that fit, whichever position stands there, and the room at the greatest of them.
 pub record Fits (b : Body) (summaries : List ℕ) (place after t : ℕ) (f : Fit) : Type 0 where
   pub levels : (x : ℕ) → Standing b x place after
       → f .levels ≡ fitting-levels (lent-plan b (record { order = []; summaries = summaries; worst = [] })) t x
   pub own : 0 < f .levels → f .own ≡ room-left (b .cycle) t (later-of (stretch-at summaries (f .levels - 1)) after)
-  pub above : f .levels < b .levels → f .above ≡ room-left (b .cycle) t (later-of (stretch-at summaries (f .levels)) after)
+
+-- fewer bodies than there are repeats after a place, and a time, with the summaries of the level above if there is one
+pub record MayRise (b : Body) (summaries : List ℕ) (q after t : ℕ) : Type 0 where
+  pub counts : CountsIn b
+  pub summed : b .n * b .levels * summary-numbers ≤ length summaries
+  pub level : q < b .levels
+  pub fewer : after < b .repeats
+  pub early : t ≤ last-start
 
 -- one place on in the same body, after a worst time
 abbrev pub onward-by : ℕ → ℕ → Reached → Reached
 onward-by levels worst r = record {
   entry = r .entry + levels;
-  goal = r .goal;
+  rest = r .rest - 1;
   after = r .after;
   own = narrowed-by (r .own) worst;
   above = r .above;
@@ -69,14 +76,13 @@ pub record MayTurn (b : Body) (summaries : List ℕ) (r : Reached) (q : ℕ) : T
   pub few : b .n ≤ most-actions
   pub few-levels : b .levels ≤ most-levels
   pub level : q < b .levels
-  pub far : b .n * b .levels ≤ r .entry → b .n * b .levels ≤ r .goal
   pub own : b .n * b .levels ≤ r .entry → Nears summaries q (r .after) (r .own)
   pub above : b .n * b .levels ≤ r .entry → suc q < b .levels → Nears summaries (suc q) (r .after) (r .above)
 
 -- the first place of the next body, with the room before one body fewer
 pub record Turned (b : Body) (summaries : List ℕ) (r : Reached) (q : ℕ) (to : Reached) : Type 0 where
   pub entry : to .entry ≡ q
-  pub goal : to .goal ≡ r .goal - b .n * b .levels
+  pub rest : to .rest ≡ r .rest
   pub after : to .after ≡ r .after - 1
   pub own : (cycle begins : ℕ) → r .own ≡ room-left cycle begins (later-of (stretch-at summaries q) (r .after))
       → to .own ≡ room-left cycle begins (later-of (stretch-at summaries q) (r .after - 1))
@@ -103,13 +109,14 @@ stops-there b summaries r q =
 abbrev pub walked : Body → List ℕ → Reached → ℕ → Reached
 walked b worst r k = record {
   entry = r .entry + k * b .levels;
-  goal = r .goal;
+  rest = r .rest - k;
   after = r .after;
   own = narrowed-by (r .own) (sum k (λ j. getD worst (r .entry + j * b .levels) 0));
   above = r .above;
 }
 
--- places of one body, up to one at which the walk ends, with the summaries and the worst times, and room that stays within 64 bits
+-- places of one body, up to one at which the walk ends and no more than are still to be looked at, with the summaries and the worst times, and room
+-- that stays within 64 bits
 pub record MayWalk (b : Body) (summaries worst : List ℕ) (r : Reached) (stop q : ℕ) : Type 0 where
   pub counts : CountsIn b
   pub summed : b .n * b .levels * summary-numbers ≤ length summaries
@@ -118,6 +125,7 @@ pub record MayWalk (b : Body) (summaries worst : List ℕ) (r : Reached) (stop q
   pub place : ℕ
   pub last : ℕ
   pub inside : last ≤ b .n
+  pub enough : last ≤ place + r .rest
   pub entry-is : r .entry ≡ place * b .levels + q
   pub stop-is : stop ≡ last * b .levels + q
   pub near : (k : ℕ) → k ≤ b .n * most-entry → Near (narrowed-by (r .own) k)
@@ -129,7 +137,7 @@ pub record Walks (b : Body) (summaries worst : List ℕ) (r : Reached) (stop q :
   pub goes : (k : ℕ) → k < steps → (r .entry + k * b .levels < stop) × (stops-there b summaries (walked b worst r k) q ≡ false)
   pub stops : ((to .entry < stop) × (stops-there b summaries to q ≡ true)) ⊎ (stop ≤ to .entry)
 
--- a level that fits at a time where the level above does not, with the room of both
+-- a level that fits at a time where the level above does not, with its room
 pub record MayGrant (b : Body) (T : LentBody) (place after : ℕ) (f : Fit) (t : ℕ) : Type 0 where
   pub summarised : Summarised b (T .summaries) place after
   pub timed : b .n * b .levels ≤ length (T .worst)

@@ -8,13 +8,13 @@ use repeat_limits::taken;
 use rules::Body;
 ghost use mathlib.Core.Path.{_≡_};
 ghost use mathlib.Core.List.{[]};
-ghost use Prim.Native.Nat.{ℕ, _+_, _-_, _*_, _≤_, _<_, min};
+ghost use Prim.Native.Nat.{ℕ, suc, _+_, _-_, _*_, _≤_, _<_, min};
 ghost use Rattle.rules.specs.Numbers.{most-actions, most-levels, most-repeats, longest-coast};
 ghost use Rattle.rules.specs.Run.{left-granted};
-ghost use Rattle.rules.specs.Repeat.{lent-plan};
+ghost use Rattle.rules.specs.Repeat.{stretch-at, lent-plan};
 ghost use Rattle.repeat_laws.specs.Standing.{Standing};
-ghost use Rattle.repeat_limits.specs.Limits.{Near, narrowed-by};
-ghost use Rattle.repeat_decision.specs.Decision.{last-start, most-cells, Summarised, Fits, onward-by, MayTurn, Turns, MayStop, stops-there, MayWalk, Walks, MayGrant, MayChoose, Chooses};
+ghost use Rattle.repeat_limits.specs.Limits.{later-of, room-left, Near, narrowed-by};
+ghost use Rattle.repeat_decision.specs.Decision.{last-start, most-cells, Summarised, Fits, MayRise, onward-by, MayTurn, Turns, MayStop, stops-there, MayWalk, Walks, MayGrant, MayChoose, Chooses};
 
 // What a decision takes: the level, what it leaves to coast, and whether no level fits.
 pub struct Choice {
@@ -25,12 +25,10 @@ pub struct Choice {
 
 // ---- the level
 
-// How many levels there are up to the greatest that fits at a time, 0 where none does, with the room at that level and, if there is one, at the
-// level above.
+// How many levels there are up to the greatest that fits at a time, with the room at that level; 0 where none does.
 struct Fit {
     levels: usize,
     own: Room,
-    above: Room,
 }
 
 fn fitting(body: Body, summaries: &[u32], place: usize, after: u32, t: u64) -> Fit
@@ -39,36 +37,38 @@ fn fitting(body: Body, summaries: &[u32], place: usize, after: u32, t: u64) -> F
 {
     let levels = body.levels as usize;
     let row = place * levels;
-    let mut above = Room { mix: 0, average: 0 };
     let mut q = levels;
     while 0 < q {
         let own = room_before(summaries, q - 1, after as u64, body.cycle, t);
         if has_room(summaries, row + q - 1, own) {
-            return Fit {
-                levels: q,
-                own,
-                above,
-            };
+            return Fit { levels: q, own };
         }
-        above = own;
         q -= 1;
     }
-    let own = above;
-    Fit {
-        levels: 0,
-        own,
-        above,
+    let own = Room { mix: 0, average: 0 };
+    Fit { levels: 0, own }
+}
+
+// The room at the level above one, if there is such a level. It is worked out for the level given alone: of the levels that do not fit, the averages
+// mostly tell, and the rest of their room is never needed.
+fn room_above(body: Body, summaries: &[u32], level: usize, after: u32, t: u64) -> Room
+    requires { ⌜ MayRise body (now summaries) level after t ⌝ }
+    ensures { λ r. ⌜ (suc level < body .levels → r ≡ room-left (body .cycle) t (later-of (stretch-at (now (summaries .entry)) (suc level)) after)) ⌝ }
+{
+    if level + 1 == body.levels as usize {
+        return Room { mix: 0, average: 0 };
     }
+    room_before(summaries, level + 1, after as u64, body.cycle, t)
 }
 
 // ---- the coast
 
-// Where a coast has got to: the entry of its level that it looks at, that at which the longest coast would end, as if the body went on and on, the
-// bodies after this one, and the room: of the level from the time on at which the position begins at the latest, and of the level above, if there is
-// one, from the decision on.
+// Where a coast has got to: the entry of its level that it looks at, how many of the longest coast are still to be looked at, the bodies after this
+// one, and the room: of the level from the time on at which the position begins at the latest, and of the level above, if there is one, from the
+// decision on.
 struct Reached {
     entry: usize,
-    goal: usize,
+    rest: usize,
     after: u64,
     own: Room,
     above: Room,
@@ -87,14 +87,14 @@ fn narrowed(room: Room, worst: u32) -> Room
 
 // One place on in the same body, after a worst time: the bodies after it stay.
 fn onward(levels: usize, here: Reached, worst: u32) -> Reached
-    requires { ⌜ (levels ≤ most-levels) × (here .entry < most-cells) × Near (narrowed-by (here .own) worst) ⌝ }
+    requires { ⌜ (levels ≤ most-levels) × (here .entry < most-cells) × (0 < here .rest) × Near (narrowed-by (here .own) worst) ⌝ }
     ensures { λ r. ⌜ r ≡ onward-by levels worst here ⌝ }
 {
     let own = here.own;
     let above = here.above;
     Reached {
         entry: here.entry + levels,
-        goal: here.goal,
+        rest: here.rest - 1,
         after: here.after,
         own: narrowed(own, worst),
         above,
@@ -112,15 +112,14 @@ fn in_body(body: Body, summaries: &[u32], here: Reached, level: usize) -> Reache
         return here;
     }
     let after = here.after;
-    let mut own = here.own;
-    own = room_nearer(summaries, level, after, own);
+    let own = room_nearer(summaries, level, after, here.own);
     let mut above = here.above;
     if level + 1 < levels {
         above = room_nearer(summaries, level + 1, after, above);
     }
     Reached {
         entry: level,
-        goal: here.goal - cells,
+        rest: here.rest,
         after: after - 1,
         own,
         above,
@@ -184,7 +183,7 @@ fn most(n: usize, own: usize, after: u32) -> usize
 
 // What a decision leaves to coast for the level given, where that fits: one less than the greatest r that qualifies. It is found from below, body by
 // body, up to the first position at which the level above fits, or at which the level does not if each before it took its worst time: no longer coast
-// qualifies. The room has the time of the decision in it; `t` is there for the promise.
+// qualifies.
 fn left_granted(
     body: Body,
     summaries: &[u32],
@@ -206,24 +205,24 @@ fn left_granted(
     let end = most(n, n - place, after) - 1;
     let first = place * levels + level;
     let own = fit.own;
-    let above = fit.above;
+    let above = room_above(body, summaries, level, after, t);
     let mut here = onward(
         levels,
         Reached {
             entry: first,
-            goal: first + levels + end * levels,
+            rest: end + 1,
             after: after as u64,
             own,
             above,
         },
         worst[first],
     );
-    while here.entry < here.goal {
+    while 0 < here.rest {
         here = in_body(body, summaries, here, level);
-        let stop = lesser(here.goal, cells + level);
+        let stop = lesser(here.entry + here.rest * levels, cells + level);
         here = along(body, summaries, worst, here, stop, level);
         if here.entry < stop {
-            return (end - (here.goal - here.entry) / levels) as u8;
+            return (end - here.rest) as u8;
         }
     }
     end as u8

@@ -218,24 +218,23 @@ impl Room {
 fn decide(body: Body, summaries: &[u32], worst: &[u32], place: usize, bodies: u32, clock: u64) -> Decision {
     let levels = body.levels as usize;
     let left = i64::from(body.cycle) - clock as i64;
-    let mut above = Room { mix: 0, average: 0 };
     for level in (0..levels).rev() {
         let own = Room::before(summaries, level, bodies, left);
         if own.holds(entry(summaries, place * levels + level)) {
             let grant = if level + 1 == levels {
-                coast::<false>(body, summaries, worst, place, bodies, level, own, above)
+                coast::<false>(body, summaries, worst, place, bodies, level, own, own)
             } else {
+                let above = Room::before(summaries, level + 1, bodies, left);
                 coast::<true>(body, summaries, worst, place, bodies, level, own, above)
             };
             return Decision { level, late: false, grant };
         }
-        above = own;
     }
     Decision { level: 0, late: true, grant: 1 }
 }
 
 /// The actions up to the first that could begin too late for the level, or at which the one above fits; no coast past it qualifies. The first is
-/// known to be none. It is walked body by body: `goal` is the cell at which the longest coast ends, as if the body went on.
+/// known to be none. It is walked body by body, with `rest` still to be looked at.
 #[inline(always)]
 #[allow(clippy::too_many_arguments)]
 fn coast<const ABOVE: bool>(
@@ -251,10 +250,10 @@ fn coast<const ABOVE: bool>(
     let (n, levels) = (body.n as usize, body.levels as usize);
     let (cells, most) = (n * levels, (n - place + bodies as usize * n).min(LONGEST_COAST));
     let mut cell = place * levels + level;
-    let mut goal = cell + most * levels;
+    let mut rest = most - 1;
     own = own.later(worst[cell]);
     cell += levels;
-    while cell < goal {
+    while 0 < rest {
         if cell >= cells {
             own = own.nearer(summaries, level, bodies);
             if ABOVE {
@@ -262,15 +261,15 @@ fn coast<const ABOVE: bool>(
             }
             bodies -= 1;
             cell = level;
-            goal -= cells;
         }
-        let stop = goal.min(cells + level);
+        let stop = (cell + rest * levels).min(cells + level);
         while cell < stop {
             if !own.holds(entry(summaries, cell)) || ABOVE && above.holds(entry(summaries, cell + 1)) {
-                return (most - (goal - cell) / levels) as u32;
+                return (most - rest) as u32;
             }
             own = own.later(worst[cell]);
             cell += levels;
+            rest -= 1;
         }
     }
     most as u32

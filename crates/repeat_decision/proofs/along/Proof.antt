@@ -49,6 +49,17 @@ module _ (c : tie.At-loop Inv-loop μ-loop) (l : c .loop .here .entry < start c 
       let h = start c .pre in
       omega (arith, h .inside, rows-below (a .body .levels) (a .level) (h .place + c .loop .inv .0) (h .last) (omega (arith, in-place, h .stop-is, l)))
 
+  enough : 0 < c .loop .here .rest
+  enough =
+      let a = start c .args in
+      let h = start c .pre in
+      omega (
+        arith,
+        h .enough,
+        rows-below (a .body .levels) (a .level) (h .place + c .loop .inv .0) (h .last) (omega (arith, in-place, h .stop-is, l)),
+        ap (λ (r : Reached). r .rest) (c .loop .inv .1),
+      )
+
   row : InRow (start c .args .body) (start c .args .level) (c .loop .here .entry)
   row = let h = start c .pre in in-row (h .counts) (h .level) there in-place
 
@@ -104,7 +115,7 @@ module _ (c : tie.After-shared-slice-known3 Inv-loop μ-loop) where
 onward-requires : tie.Need-onward-requires Inv-loop μ-loop
 onward-requires c κs =
     let here = looked-at (in-loop c) in
-    (start (at c) .pre .counts .few-levels, omega (arith, here .low, here .cells), narrow c)
+    (start (at c) .pre .counts .few-levels, omega (arith, here .low, here .cells), enough (at c) (omega (arith, in-loop c .if1 .taken)), narrow c)
 
 loop-less : tie.Need-loop-less Inv-loop μ-loop
 loop-less c =

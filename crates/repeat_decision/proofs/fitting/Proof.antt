@@ -15,7 +15,7 @@ use Rattle.rules.specs.Repeat.{LentBody, stretch-at, lent-plan}
 use Rattle.rules.specs.declared.Body.{Body}
 use Rattle.rules.proofs.Tests.{last-here, last-past}
 use Rattle.repeat_laws.specs.Standing.{Standing}
-use Rattle.repeat_limits.specs.Limits.{later-of, room-left, fits-in}
+use Rattle.repeat_limits.specs.Limits.{fits-in}
 use Rattle.repeat_decision.specs.Decision.{fitting-levels}
 use Rattle.repeat_decision.proofs.Going.{row, leaves-room, reads-room}
 use Rattle.repeat_decision.proofs.fitting.Statement.{statement}
@@ -37,20 +37,19 @@ unfolding fits
 none-fits P t x q e h = rw (e, h)
 
 abbrev Inv-loop : tie.InvT-loop
-Inv-loop body summaries place after t levels row above₀ q₀ above q =
+Inv-loop body summaries place after t levels row q₀ q =
     (q ≤ body .levels)
     × ((x : ℕ) → Standing body x place after → last-passing (fit body summaries t x) (body .levels) ≡ last-passing (fit body summaries t x) q)
     × ((x : ℕ) → Standing body x place after → q < body .levels → fit body summaries t x q ≡ false)
-    × (q < body .levels → above ≡ room-left (body .cycle) t (later-of (stretch-at summaries q) after))
 
 abbrev μ-loop : tie.MeasureT-loop
-μ-loop body summaries place after t levels row above₀ q₀ above q = q
+μ-loop body summaries place after t levels row q₀ q = q
 
 mul-row : tie.Need-mul-row Inv-loop μ-loop
 mul-row c = omega (arith, row (c .before .before .pre .0))
 
 loop-holds : tie.Need-loop-holds Inv-loop μ-loop
-loop-holds c = (search needs, (λ x s. refl), (λ x s l. absurd (omega arith)), λ l. absurd (omega arith))
+loop-holds c = (search needs, (λ x s. refl), λ x s l. absurd (omega arith))
 
 abbrev start : tie.At-loop Inv-loop μ-loop → tie.Start Inv-loop μ-loop
 start c = c .before .before .before
@@ -101,7 +100,6 @@ returns c =
     record {
       levels = some-levels tested (c .if1 .taken);
       own = λ some. tested .before .room-before .ensures;
-      above = at .loop .inv .3;
     }
 
 loop-again : tie.Need-loop-again Inv-loop μ-loop
@@ -113,8 +111,7 @@ loop-again c =
       (λ x s.
           let h = sym (reads (c .before) x s) ∙ c .if1 .left in
           l .inv .1 x s ∙ last-past (fit (a .body) (a .summaries .now) (a .t) x) (l .q - 1) (l .q) (omega arith) h),
-      (λ x s low. sym (reads (c .before) x s) ∙ c .if1 .left),
-      λ low. c .before .before .room-before .ensures,
+      λ x s low. sym (reads (c .before) x s) ∙ c .if1 .left,
     )
 
 no-levels : (c : tie.At-loop Inv-loop μ-loop) → c .loop .q ≡ 0 → let a = start c .args in
@@ -132,7 +129,6 @@ returns-2 c =
     record {
       levels = no-levels at e;
       own = λ some. absurd (omega (arith, some));
-      above = rw e at (at .loop .inv .3);
     }
 
 pub fitting-spec : {M : Type 1} → statement M

@@ -26,29 +26,26 @@ past : (c : tie.Else1) → let a = start c .args in a .body .n * a .body .levels
 past c = omega (arith, c .if1 .left)
 
 room-nearer-requires : tie.Need-room-nearer-requires
-room-nearer-requires c κs = let e = c .before in start e .pre .own (past e)
+room-nearer-requires c κs = start c .pre .own (past c)
 
 nears-at : {s : List ℕ} {q r after : ℕ} {room : Room} → q ≡ r → Nears s r after room → Nears s q after room
 nears-at e h = rw e h
 
 room-nearer-requires-2 : tie.Need-room-nearer-requires-2
 room-nearer-requires-2 c κs =
-    let e = c .before .before .before .before in
+    let e = c .before .before .before in
     nears-at (omega arith) (start e .pre .above (past e) (omega (arith, c .if2 .taken)))
 
-abbrev else1 : tie.After-struct-known4 → tie.Else1
-else1 c = c .before .before .before .before .before
-
-sub-t10 : tie.Need-sub-t10
-sub-t10 c = let e = else1 c in start e .pre .far (past e)
+abbrev else1 : tie.Joined2 → tie.Else1
+else1 c = c .before .before .before
 
 sub-t13 : tie.Need-sub-t13
 sub-t13 c = let e = else1 c in omega (arith, start e .pre .own (past e) .some)
 
 -- the level above, where there is one
-above-nearer : (c : tie.After-struct-known4) → let a = start (else1 c) .args in let y = stretch-at (a .summaries .now) (suc (a .level)) in
+above-nearer : (c : tie.Joined2) → let a = start (else1 c) .args in let y = stretch-at (a .summaries .now) (suc (a .level)) in
     suc (a .level) < a .body .levels → (cycle begins : ℕ) → a .here .above ≡ room-left cycle begins (later-of y (a .here .after))
-    → c .before .if2 .above ≡ room-left cycle begins (later-of y (a .here .after - 1))
+    → c .if2 .above ≡ room-left cycle begins (later-of y (a .here .after - 1))
 above-nearer c top cycle begins is =
     let a = start (else1 c) .args in
     ⊎-elim
@@ -57,7 +54,7 @@ above-nearer c top cycle begins is =
     let nearer = w .1 .ensures cycle begins (rw one is) in
     w .2 ∙ rw one at nearer)
     (λ w. absurd (omega (arith, top, w .0 .left)))
-    (c .before .if2 .came)
+    (c .if2 .came)
 
 returns-2 : tie.Need-returns-2
 returns-2 c =
@@ -66,9 +63,9 @@ returns-2 c =
       past e,
       record {
         entry = refl;
-        goal = refl;
+        rest = refl;
         after = refl;
-        own = c .before .before .before .room-nearer .ensures;
+        own = c .before .before .room-nearer .ensures;
         above = above-nearer c;
       },
     )
@@ -85,6 +82,5 @@ in-body-spec =
     (λ c. search needs)
     (λ c. search needs)
     room-nearer-requires-2
-    sub-t10
     sub-t13
     returns-2)

@@ -1,17 +1,16 @@
 -- The coast goes on body by body, from whichever position stands at the place. Assumes nothing.
-use Prim.Native.Nat.{ℕ, suc, _+_, _-_, _*_, _/_, _≤_, _<_, min}
-use mathlib.Core.Path.{_≡_, ap, _∙_}
+use Prim.Native.Nat.{_+_, _-_, _*_, _≤_, _<_, min}
+use mathlib.Core.Path.{_≡_}
 use mathlib.Core.List.{[]}
-use native.Mathlib.Nat.{mul-le-mul, mul-le-mul-right}
+use native.Mathlib.Nat.{mul-le-mul}
 use native.Mathlib.Omega.{arith}
 use borrow.Author.Needs.{needs}
+use Rattle.rules.specs.Numbers.{most-levels, longest-coast}
 use Rattle.rules.specs.Repeat.{LentBody, stretch-at}
-use Rattle.rules.specs.declared.Body.{Body}
 use Rattle.repeat_limits.specs.Limits.{later-of, room-left}
-use Rattle.repeat_laws.proofs.Places.{row-of}
-use Rattle.repeat_decision.specs.Decision.{Walks}
+use Rattle.repeat_decision.specs.Decision.{most-cells, Walks}
 use Rattle.repeat_decision.proofs.Going.{row}
-use Rattle.repeat_decision.proofs.Coasts.{Setting, Coast, Looking, coast-moved, rest-some, first-near, first-coast, may-turn, looking, may-walk, steps-few, goal-left, stops-at, again, ended}
+use Rattle.repeat_decision.proofs.Coasts.{Setting, Coast, Looking, coast-moved, short, first-near, first-coast, may-turn, looking, may-walk, still-few, stops-at, again, ended}
 use Rattle.repeat_decision.proofs.left_granted.Statement.{statement}
 use Rattle.repeat_decision.proofs.left_granted.Tie as tie
 
@@ -20,7 +19,7 @@ Inv-loop body summaries worst place after t n levels level cells end first here�
     (S : Setting body (record { order = []; summaries = summaries; worst = worst }) place after t level end) × Coast S here
 
 abbrev μ-loop : tie.MeasureT-loop
-μ-loop body summaries worst place after t n levels level cells end first here₀ here = here .goal - here .entry
+μ-loop body summaries worst place after t n levels level cells end first here₀ here = here .rest
 
 -- ---- before the loop
 
@@ -62,15 +61,12 @@ module _ (c : tie.After-most Inv-loop μ-loop) where
         end-is = omega (arith, c .most .ensures, h .summarised .inside);
       }
 
-  -- the entry of the decision, and the longest coast from it
+  -- the entry of the decision
   first-in : let a = start (c .before) .args in a .place * a .body .levels + (a .fit .levels - 1) < a .body .n * a .body .levels
   first-in = omega (arith, row (start (c .before) .pre .summarised), start (c .before) .pre .level)
 
-  few-cells : let a = start (c .before) .args in (a .body .n * a .body .levels ≤ 512) × (a .body .levels ≤ 8) × ((c .most .result - 1) * a .body .levels ≤ 120)
-  few-cells =
-      let h = start (c .before) .pre .summarised .counts in
-      let short : c .most .result - 1 ≤ 15 = omega (arith, c .most .ensures) in
-      (mul-le-mul (h .few) (h .few-levels), h .few-levels, mul-le-mul short (h .few-levels))
+  few-cells : let a = start (c .before) .args in (a .body .n * a .body .levels ≤ most-cells) × (a .body .levels ≤ most-levels)
+  few-cells = let h = start (c .before) .pre .summarised .counts in (mul-le-mul (h .few) (h .few-levels), h .few-levels)
 
 mul-first : tie.Need-mul-first Inv-loop μ-loop
 mul-first c = omega (arith, first-in c, few-cells c)
@@ -79,13 +75,7 @@ add-first : tie.Need-add-first Inv-loop μ-loop
 add-first c = omega (arith, first-in c, few-cells c)
 
 add-t19 : tie.Need-add-t19 Inv-loop μ-loop
-add-t19 c = let m = c .before .before in omega (arith, first-in m, few-cells m)
-
-mul-t18 : tie.Need-mul-t18 Inv-loop μ-loop
-mul-t18 c = let m = c .before .before in omega (arith, few-cells m)
-
-add-t20 : tie.Need-add-t20 Inv-loop μ-loop
-add-t20 c = let m = c .before .before in omega (arith, first-in m, few-cells m)
+add-t19 c = let m = c .before .before in omega (arith, m .most .ensures)
 
 mul-onward : tie.Need-mul-onward Inv-loop μ-loop
 mul-onward c = let m = c .before .before in omega (arith, first-in m, few-cells m)
@@ -98,23 +88,27 @@ module _ (c : tie.After-most Inv-loop μ-loop) where
   own-is : let a = start (c .before) .args in a .fit .own ≡ room-left (a .body .cycle) (a .t) (later-of (stretch-at (a .summaries .now) (a .fit .levels - 1)) (a .after))
   own-is = let h = start (c .before) .pre in h .rooms .own (h .some)
 
-  above-is : let a = start (c .before) .args in suc (a .fit .levels - 1) < a .body .levels
-      → a .fit .above ≡ room-left (a .body .cycle) (a .t) (later-of (stretch-at (a .summaries .now) (suc (a .fit .levels - 1))) (a .after))
-  above-is top =
-      let h = start (c .before) .pre in
-      let e : suc (start (c .before) .args .fit .levels - 1) ≡ start (c .before) .args .fit .levels = omega (arith, h .some) in
-      rw e (h .rooms .above (omega (arith, top, e)))
+room-above-requires : tie.Need-room-above-requires Inv-loop μ-loop
+room-above-requires c κs =
+    let m = setting (c .before) in
+    record {
+      counts = m .summarised .counts;
+      summed = m .summarised .summed;
+      level = m .level;
+      fewer = m .summarised .fewer;
+      early = m .early;
+    }
 
 onward-requires : tie.Need-onward-requires Inv-loop μ-loop
 onward-requires c κs =
     let m = c .before .before .before in
-    (few-cells m .1, omega (arith, first-in m, few-cells m), first-near (setting m) (own-is m) (above-is m) _ (setting m .few-times _))
+    (few-cells m .1, omega (arith, first-in m, few-cells m), omega arith, first-near (setting m) (own-is m) (c .before .room-above .ensures) _ (setting m .few-times _))
 
 loop-holds : tie.Need-loop-holds Inv-loop μ-loop
 loop-holds c =
     let m = c .before .before .before .before in
     let h = start (m .before) .pre in
-    (setting m, coast-moved (setting m) (c .onward .ensures) (first-coast (setting m) (own-is m) (above-is m) (h .fits) (h .none-above)))
+    (setting m, coast-moved (setting m) (c .onward .ensures) (first-coast (setting m) (own-is m) (c .before .before .room-above .ensures) (h .fits) (h .none-above)))
 
 -- ---- in the loop
 
@@ -130,79 +124,64 @@ module _ (c : tie.At-loop Inv-loop μ-loop) where
   abbrev C : Coast (c .loop .inv .0) (c .loop .here)
   C = c .loop .inv .1
 
-some-left : (c : tie.Then1 Inv-loop μ-loop) → 0 < C (c .before .before) .rest
-some-left c = let at = c .before .before in rest-some (S at) (C at) (omega (arith, c .if1 .taken))
-
 in-body-requires : tie.Need-in-body-requires Inv-loop μ-loop
-in-body-requires c κs = let at = c .before .before in may-turn (S at) (C at) (some-left c)
+in-body-requires c κs = let at = c .before .before in may-turn (S at) (C at) (omega (arith, c .if1 .taken))
 
-looked : (c : tie.After-in-body Inv-loop μ-loop) → let at = c .before .before .before in (L : Looking (S at) (c .in-body .result)) × (L .rest ≡ C at .rest)
-looked c = let at = c .before .before .before in looking (S at) (C at) (some-left (c .before)) (c .in-body .ensures)
+looked : (c : tie.After-in-body Inv-loop μ-loop) → let at = c .before .before .before in Looking (S at) (c .in-body .result) × (c .in-body .result .rest ≡ at .loop .here .rest)
+looked c = let at = c .before .before .before in looking (S at) (C at) (omega (arith, c .before .if1 .taken)) (c .in-body .ensures)
+
+-- the longest coast at the most levels
+few-rows : (c : tie.After-in-body Inv-loop μ-loop) → c .in-body .result .rest * start (counted (c .before .before .before) .before) .args .body .levels ≤ longest-coast * most-levels
+few-rows c =
+    let at = c .before .before .before in
+    let most : c .in-body .result .rest ≤ longest-coast = omega (arith, looked c .0 .few, short (S at)) in
+    mul-le-mul most (S at .summarised .counts .few-levels)
+
+mul-lesser : tie.Need-mul-lesser Inv-loop μ-loop
+mul-lesser c = omega (arith, few-rows (c .before))
 
 add-lesser : tie.Need-add-lesser Inv-loop μ-loop
-add-lesser c = let m = counted (c .before .before .before) in omega (arith, few-cells m, start (m .before) .pre .level)
+add-lesser c =
+    let k = c .before .before in
+    omega (arith, few-rows k, looked k .0 .inside, few-cells (counted (k .before .before .before)))
+
+add-lesser-2 : tie.Need-add-lesser-2 Inv-loop μ-loop
+add-lesser-2 c = let m = counted (c .before .before .before .before .before) in omega (arith, few-cells m, start (m .before) .pre .level)
 
 along-requires : tie.Need-along-requires Inv-loop μ-loop
-along-requires c κs = let k = c .before in rw (c .lesser .ensures) (may-walk (S (k .before .before .before)) (looked k .0))
+along-requires c κs = let k = c .before .before .before in rw (c .lesser .ensures) (may-walk (S (k .before .before .before)) (looked k .0))
 
 -- where the walk ends
 module _ (c : tie.After-along Inv-loop μ-loop) where
+  abbrev walked : tie.After-in-body Inv-loop μ-loop
+  walked = c .before .before .before .before
+
   abbrev at : tie.At-loop Inv-loop μ-loop
-  at = c .before .before .before .before .before
+  at = walked .before .before .before
 
-  abbrev L : Looking (S at) (c .before .before .in-body .result)
-  L = looked (c .before .before) .0
+  abbrev L : Looking (S at) (walked .in-body .result)
+  L = looked walked .0
 
-  abbrev body : Body
-  body = start (counted at .before) .args .body
-
-  abbrev end : ℕ
-  end = counted at .most .result - 1
-
-  W : let a = start (counted at .before) .args in let r = c .before .before .in-body .result in
-      Walks (a .body) (a .summaries .now) (a .worst .now) r (min (r .goal) (a .body .n * a .body .levels + (a .fit .levels - 1))) (a .fit .levels - 1) (c .along .result)
+  W : let a = start (counted at .before) .args in let r = walked .in-body .result in
+      Walks (a .body) (a .summaries .now) (a .worst .now) r (min (r .entry + r .rest * a .body .levels) (a .body .n * a .body .levels + (a .fit .levels - 1))) (a .fit .levels - 1) (c .along .result)
   W = rw (c .before .lesser .ensures) at (c .along .ensures)
 
-  left-over : c .along .result .goal ≡ c .along .result .entry + (L .rest - W .steps) * body .levels
-  left-over = goal-left (S at) L W
-
-  some-levels : 0 < body .levels
-  some-levels = S at .summarised .counts .some-level
-
-  quotient : (c .along .result .goal - c .along .result .entry) / body .levels ≡ L .rest - W .steps
-  quotient =
-      let e : c .along .result .goal - c .along .result .entry ≡ (L .rest - W .steps) * body .levels + 0 = omega (arith, left-over) in
-      ap (λ (k : ℕ). k / body .levels) e ∙ row-of some-levels (L .rest - W .steps) some-levels
-
 sub-result : tie.Need-sub-result Inv-loop μ-loop
-sub-result c = let r = c .before .before .before in omega (arith, left-over r)
-
-div-result : tie.Need-div-result Inv-loop μ-loop
-div-result c = some-levels (c .before .before .before)
-
-sub-result-2 : tie.Need-sub-result-2 Inv-loop μ-loop
-sub-result-2 c = let r = c .before .before .before in omega (arith, quotient r, L r .few)
-
-short : (c : tie.At-loop Inv-loop μ-loop) → counted c .most .result - 1 ≤ 15
-short c = omega (arith, counted c .most .ensures)
+sub-result c = let r = c .before .before .before in still-few (S (at r)) (L r) (W r)
 
 cast-result : tie.Need-cast-result Inv-loop μ-loop
-cast-result c = let r = c .before .before .before in omega (arith, short (at r))
+cast-result c = let r = c .before .before .before in omega (arith, short (S (at r)))
 
 returns : tie.Need-returns Inv-loop μ-loop
 returns c x s =
     let r = c .before .before .before in
-    rw (quotient r) (stops-at (S (at r)) (L r) (W r) (omega (arith, c .before .if2 .taken, r .before .lesser .ensures)) x s)
+    stops-at (S (at r)) (L r) (W r) (omega (arith, c .before .if2 .taken, r .before .lesser .ensures)) x s
 
-passed : (c : tie.Else2 Inv-loop μ-loop) → let r = c .before .before in
-    (N : Coast (S (at r)) (r .along .result)) × (N .rest ≡ L r .rest - W r .steps) × (0 < W r .steps)
+passed : (c : tie.Else2 Inv-loop μ-loop) → let r = c .before .before in Coast (S (at r)) (r .along .result) × (r .along .result .rest < walked r .in-body .result .rest)
 passed c = let r = c .before .before in again (S (at r)) (L r) (W r) (omega (arith, c .if2 .left, r .before .lesser .ensures))
 
 loop-less : tie.Need-loop-less Inv-loop μ-loop
-loop-less c =
-    let r = c .before .before in
-    let less : suc (L r .rest - W r .steps) ≤ C (at r) .rest = omega (arith, passed c .2, steps-few (S (at r)) (L r) (W r), looked (r .before .before) .1, L r .some) in
-    omega (arith, left-over r, C (at r) .goal-is, mul-le-mul-right (body r .levels) less, some-levels r)
+loop-less c = let r = c .before .before in omega (arith, passed c .1, looked (walked r) .1)
 
 loop-again : tie.Need-loop-again Inv-loop μ-loop
 loop-again c = (S (at (c .before .before)), passed c .0)
@@ -210,7 +189,7 @@ loop-again c = (S (at (c .before .before)), passed c .0)
 -- ---- after it
 
 cast-result-2 : tie.Need-cast-result-2 Inv-loop μ-loop
-cast-result-2 c = omega (arith, short (c .before .before))
+cast-result-2 c = omega (arith, short (S (c .before .before)))
 
 returns-2 : tie.Need-returns-2 Inv-loop μ-loop
 returns-2 c x s = let k = c .before .before in ended (S k) (C k) (omega (arith, c .if1 .left)) x s
@@ -230,20 +209,19 @@ left-granted-spec =
     sub-end
     mul-first
     add-first
+    room-above-requires
     add-t19
-    mul-t18
-    add-t20
     mul-onward
     shared-slice-read-onward
     onward-requires
     loop-holds
     in-body-requires
+    mul-lesser
     add-lesser
+    add-lesser-2
     (λ c κs. search needs)
     along-requires
     sub-result
-    div-result
-    sub-result-2
     cast-result
     returns
     loop-less
