@@ -11,7 +11,7 @@ use lib.IntN.{pos, _-ℤ_}
 use lib.ListN.{length, getD}
 use lib.Signed.{leZ}
 use borrow.Author.Tests.{ltb-true, lt-ltb}
-use Rattle.rules.specs.Numbers.{longest-coast, summary-numbers}
+use Rattle.rules.specs.Numbers.{most-repeats, longest-coast, summary-numbers}
 use Rattle.rules.specs.Words.{sum, span}
 use Rattle.rules.specs.Run.{left-granted}
 use Rattle.rules.specs.Dry.{cell}
@@ -26,7 +26,7 @@ use Rattle.repeat_limits.specs.Limits.{most-entry, latest, CountsIn, LeavesRoom
 use Rattle.repeat_limits.proofs.Sizes.{mix-of}
 use Rattle.repeat_limits.proofs.Reading.{limit-read}
 use Rattle.repeat_limits.proofs.Rooms.{later-room, room-is-limit}
-use Rattle.repeat_decision.specs.Decision.{Summarised, stops-there, walked, Walks}
+use Rattle.repeat_decision.specs.Decision.{most-cells, Summarised, stops-there, walked, Walks}
 use Rattle.repeat_decision.specs.declared.Reached.{Reached}
 
 -- ---- where a place stands
@@ -39,8 +39,8 @@ module _ {b : Body} {s : List ℕ} {place after : ℕ} (h : Summarised b s place
   pub record Row : Type 0 where
     pub inside : place * b .levels + b .levels ≤ b .n * b .levels
     pub first-row : b .levels ≤ b .n * b .levels
-    pub cells : b .n * b .levels ≤ 512
-    pub few : after < 1620
+    pub cells : b .n * b .levels ≤ most-cells
+    pub few : after < most-repeats
 
   pub row : Row
   row = record {

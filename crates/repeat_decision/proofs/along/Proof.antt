@@ -43,22 +43,17 @@ module _ (c : tie.At-loop Inv-loop μ-loop) (l : c .loop .here .entry < start c 
   in-place : c .loop .here .entry ≡ (start c .pre .place + c .loop .inv .0) * start c .args .body .levels + start c .args .level
   in-place = omega (arith, entry-is c, start c .pre .entry-is)
 
-  there : start c .pre .place + c .loop .inv .0 < start c .args .body .n
-  there =
+  before-last : start c .pre .place + c .loop .inv .0 < start c .pre .last
+  before-last =
       let a = start c .args in
       let h = start c .pre in
-      omega (arith, h .inside, rows-below (a .body .levels) (a .level) (h .place + c .loop .inv .0) (h .last) (omega (arith, in-place, h .stop-is, l)))
+      rows-below (a .body .levels) (a .level) (h .place + c .loop .inv .0) (h .last) (omega (arith, in-place, h .stop-is, l))
+
+  there : start c .pre .place + c .loop .inv .0 < start c .args .body .n
+  there = omega (arith, start c .pre .inside, before-last)
 
   enough : 0 < c .loop .here .rest
-  enough =
-      let a = start c .args in
-      let h = start c .pre in
-      omega (
-        arith,
-        h .enough,
-        rows-below (a .body .levels) (a .level) (h .place + c .loop .inv .0) (h .last) (omega (arith, in-place, h .stop-is, l)),
-        ap (λ (r : Reached). r .rest) (c .loop .inv .1),
-      )
+  enough = omega (arith, start c .pre .enough, before-last, ap (λ (r : Reached). r .rest) (c .loop .inv .1))
 
   row : InRow (start c .args .body) (start c .args .level) (c .loop .here .entry)
   row = let h = start c .pre in in-row (h .counts) (h .level) there in-place
