@@ -1,8 +1,8 @@
 /* The manager in a whole frame of 1,620 encoder bodies, as a camera in C calls it: planned once, then asked before each action and told the clock
  * after it, in a plain loop of direct calls through the header. The fast form in C, an object of its own, is called the same way beside it, over the
- * same tables. Before either is timed, both must give the same at every action. Then an asking that decides, of a body and of a plain cycle: the same
- * asking of both, over seven bodies, which are 63 actions of a plain cycle too; and one of the 1,620 bodies beside the first of a plain cycle that has time
- * enough. Prints two sections of markdown; it ends with status 1 if a call does not answer as it must. */
+ * same tables. Before either is timed, both must give the same at every action. Then a body beside a plain cycle, over seven bodies, which are 63 actions
+ * of a plain cycle too, so that both are asked the same: whole frames, and the askings of them that decide; and a decision of the 1,620 bodies beside the
+ * first of a plain cycle that has time enough. Prints two sections of markdown; it ends with status 1 if a call does not answer as it must. */
 #define _POSIX_C_SOURCE 200809L
 
 #include "../../include/nyokazerubi.h"
@@ -27,6 +27,7 @@ enum {
     WIDE_BOUNDS = NYOKAZERUBI_BOUNDS_ENTRIES(WIDE, LEVELS),
     SAMPLES = 401,
     TURNS = 64, /* askings of a sample */
+    FRAMES = 16, /* of seven bodies */
     CLOCK_SAMPLES = 1000,
     STEPS = 100000 /* additions of a sample of the processor's clock */
 };
@@ -68,10 +69,10 @@ static uint64_t word(void) {
 static uint32_t up_to(uint32_t most) { return (uint32_t)(word() % ((uint64_t)most + 1)); }
 
 /* A duration mostly near the average, one in eight anywhere up to the worst time. */
-static uint32_t duration(uint32_t average, uint32_t worst) {
-    if (up_to(7) == 0) return up_to(worst);
+static uint32_t duration(uint32_t average, uint32_t longest) {
+    if (up_to(7) == 0) return up_to(longest);
     uint32_t near = average / 2 + up_to(average);
-    return near < worst ? near : worst;
+    return near < longest ? near : longest;
 }
 
 static void draw(void) {
@@ -216,19 +217,21 @@ static void deciding(struct nyokazerubi_body body, struct nyokazerubi_body_run *
     hold(kept == TURNS, "decisions enough");
 }
 
-/* Frames of seven bodies, by both at once, which give the same: the records of either before the same askings that decide. */
-static void deciding_alike(struct nyokazerubi_body body, const struct plain *plan, struct nyokazerubi_body_run *turns, struct nyokazerubi_run *same) {
+/* The clock at the end of each action of some frames of seven bodies. */
+static uint32_t few_clocks[FRAMES][WIDE];
+
+/* Runs these frames by both at once, which must give the same, and keeps their records before the first askings that decide. */
+static void agree_plain(struct nyokazerubi_body body, const struct plain *plan, struct nyokazerubi_body_run *turns, struct nyokazerubi_run *same) {
     struct nyokazerubi_body_run run;
     struct nyokazerubi_run plain;
-    uint32_t clock = 0;
-    size_t i = WIDE;
-    for (size_t kept = 0; kept < TURNS; i++) {
-        if (i == WIDE) {
+    size_t kept = 0;
+    for (size_t at = 0; at < FRAMES * WIDE; at++) {
+        size_t i = at % WIDE;
+        if (i == 0) {
             hold(nyokazerubi_body_start(&run, body).number == NYOKAZERUBI_ACCEPTED, "a start");
             hold(nyokazerubi_start(&plain, WIDE, LEVELS).number == NYOKAZERUBI_ACCEPTED, "a plain start");
-            i = clock = 0;
         }
-        if (run.left == 0) {
+        if (run.left == 0 && kept < TURNS) {
             turns[kept] = run;
             same[kept++] = plain;
         }
@@ -236,10 +239,45 @@ static void deciding_alike(struct nyokazerubi_body body, const struct plain *pla
         hold(one.refusal.number == NYOKAZERUBI_ACCEPTED && other.refusal.number == NYOKAZERUBI_ACCEPTED, "an action of both");
         hold(one.action == other.action && one.level == other.level && run.left == plain.left, "both give the same");
         size_t cell = one.action * LEVELS + one.level;
-        clock += duration(averages[cell], worst[cell]);
+        uint32_t clock = plain.clock + duration(averages[cell], worst[cell]);
+        few_clocks[at / WIDE][i] = clock;
         hold(nyokazerubi_body_report(&run, clock, worst_by_position, TABLE).number == NYOKAZERUBI_ACCEPTED, "its end");
         hold(nyokazerubi_report(&plain, clock, plan->worst, WIDE_TABLE).number == NYOKAZERUBI_ACCEPTED, "its plain end");
     }
+    hold(kept == TURNS, "decisions enough");
+}
+
+/* All of these frames, in ns an action. */
+static double frames_of_body(struct nyokazerubi_body body) {
+    struct nyokazerubi_body_run run;
+    uint32_t refused = 0;
+    uint64_t began = now();
+    for (size_t k = 0; k < FRAMES; k++) {
+        refused |= nyokazerubi_body_start(&run, body).number;
+        for (size_t i = 0; i < WIDE; i++) {
+            refused |= ask_body(&run).refusal.number;
+            refused |= nyokazerubi_body_report(&run, few_clocks[k][i], worst_by_position, TABLE).number;
+        }
+    }
+    uint64_t took = now() - began;
+    hold(refused == 0, "the frames again");
+    return (double)took / (FRAMES * WIDE);
+}
+
+static double frames_of_plain(const struct plain *plan) {
+    struct nyokazerubi_run run;
+    uint32_t refused = 0;
+    uint64_t began = now();
+    for (size_t k = 0; k < FRAMES; k++) {
+        refused |= nyokazerubi_start(&run, WIDE, LEVELS).number;
+        for (size_t i = 0; i < WIDE; i++) {
+            refused |= ask_plain(&run, plan).refusal.number;
+            refused |= nyokazerubi_report(&run, few_clocks[k][i], plan->worst, WIDE_TABLE).number;
+        }
+    }
+    uint64_t took = now() - began;
+    hold(refused == 0, "the plain frames again");
+    return (double)took / (FRAMES * WIDE);
 }
 
 /* An asking from these records, which decides, in ns. */
@@ -309,30 +347,45 @@ static void row(const char *side, double ns, double clock, uint32_t frame) {
     printf("| %s | %.0f | %.0f | %.1f | %.4f %% |\n", side, ns, cycles, cycles / POSITIONS, 100 * cycles / frame);
 }
 
-/* Both from their records, beside each other. */
+static void beside(const char *what, double plain, double of_body) {
+    printf("| %s | %.1f | %.1f | %.2f |\n", what, plain, of_body, of_body / plain);
+}
+
+/* The same frames by both, beside each other. */
+static void frames(struct nyokazerubi_body body, const struct plain *plan) {
+    static double plain[SAMPLES], of_body[SAMPLES];
+    for (size_t at = 0; at < SAMPLES; at++) {
+        plain[at] = frames_of_plain(plan);
+        of_body[at] = frames_of_body(body);
+    }
+    beside("an asking and a report, over whole frames", median(plain), median(of_body));
+}
+
+/* Askings from their records, beside each other. */
 static void asking(const char *what, const struct nyokazerubi_body_run *turns, const struct nyokazerubi_run *plain_turns, const struct plain *plan) {
     static double plain[SAMPLES], of_body[SAMPLES];
     for (size_t at = 0; at < SAMPLES; at++) {
         plain[at] = plain_decides(plain_turns, plan);
         of_body[at] = body_decides(turns);
     }
-    double one = median(plain), other = median(of_body);
-    printf("| %s | %.1f | %.1f | %.2f |\n", what, one, other, other / one);
+    beside(what, median(plain), median(of_body));
 }
 
-static void askings(struct nyokazerubi_body body) {
+static void beside_plain(struct nyokazerubi_body body) {
     static struct plain plan;
     static struct nyokazerubi_body_run turns[TURNS];
     static struct nyokazerubi_run plain_turns[TURNS];
-    printf("\n### An asking that decides, called from C\n\n");
+    printf("\n### A body beside a plain cycle, called from C: %d bodies, and the same %d actions\n\n", FEW, WIDE);
     printf("| | plain, ns | of the body, ns | to plain |\n|---|---|---|---|\n");
     plan_plain(&plan, FEW, FEW);
-    deciding_alike(plan_body(FEW), &plan, turns, plain_turns);
-    asking("the same asking: 7 bodies, and the same 63 actions in a plain cycle", turns, plain_turns, &plan);
+    struct nyokazerubi_body few = plan_body(FEW);
+    agree_plain(few, &plan, turns, plain_turns);
+    frames(few, &plan);
+    asking("an asking that decides, of these frames", turns, plain_turns, &plan);
     plan_plain(&plan, 1, REPEATS);
     for (size_t k = 0; k < TURNS; k++) hold(nyokazerubi_start(&plain_turns[k], ACTIONS, LEVELS).number == NYOKAZERUBI_ACCEPTED, "a plain start");
     deciding(body, turns);
-    asking("1,620 bodies, and the first of a plain cycle with their time: the top level, and all of it in one coast", turns, plain_turns, &plan);
+    asking("one of 1,620 bodies, beside the first of a plain cycle with their time", turns, plain_turns, &plan);
 }
 
 int main(void) {
@@ -352,6 +405,6 @@ int main(void) {
     printf("| side | ns | cycles | cycles an action | part of the frame |\n|---|---|---|---|---|\n");
     row("product", median(product), clock, body.cycle);
     row("C", median(c), clock, body.cycle);
-    askings(body);
+    beside_plain(body);
     return 0;
 }
