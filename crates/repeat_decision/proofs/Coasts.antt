@@ -25,7 +25,11 @@ use Rattle.repeat_decision.specs.declared.Reached.{Reached}
 use Rattle.repeat_decision.proofs.Walking.{rows-below, sum-few}
 use Rattle.repeat_decision.proofs.Going.{from-stands, Roomed, Granted, Ahead, granted-first, stays, turns, whole, Within, stopped, passed-all}
 
--- the row at which the places of a body end, or so many of them from one on
+-- where a walk ends: with the body, or with what is still to be looked at
+abbrev pub stop-from : Body → Reached → ℕ → ℕ
+stop-from b r q = min (r .entry + r .rest * b .levels) (b .n * b .levels + q)
+
+-- that is a row of the body, and no more than are still to be looked at
 ends-at : (L n p rest q : ℕ) → (last : ℕ) × (last ≤ n) × (last ≤ p + rest) × (min (p * L + q + rest * L) (n * L + q) ≡ last * L + q)
 ends-at L n p rest q = go (decLe (p + rest) n)
   where
@@ -196,8 +200,8 @@ module _ {b : Body} {T : LentBody} {place after t q end : ℕ} (S : Setting b T 
   -- ---- along it
 
   module _ {here : Reached} (L : Looking here) where
-    abbrev pub stop : ℕ
-    stop = min (here .entry + here .rest * b .levels) (b .n * b .levels + q)
+    abbrev stop : ℕ
+    stop = stop-from b here q
 
     standing-at : Ahead b T t origin q (end - here .rest) (here .entry) (here .after) (L .begins)
     standing-at = L .ahead origin origin-stands
@@ -205,7 +209,7 @@ module _ {b : Body} {T : LentBody} {place after t q end : ℕ} (S : Setting b T 
     after-few : here .after < b .repeats
     after-few = fewer some-action (standing-at .standing)
 
-    pub may-walk : MayWalk b (T .summaries) (T .worst) here (min (here .entry + here .rest * b .levels) (b .n * b .levels + q)) q
+    pub may-walk : MayWalk b (T .summaries) (T .worst) here stop q
     may-walk =
         let a = standing-at in
         let e = ends-at (b .levels) (b .n) (a .place) (here .rest) q in
@@ -227,7 +231,7 @@ module _ {b : Body} {T : LentBody} {place after t q end : ℕ} (S : Setting b T 
               (omega (arith, l, all, in-time (L .begins) (here .rest) (L .few) (L .late))) (few .0) (few .1) (L .rooms .own);
         }
 
-    module _ {to : Reached} (W : Walks b (T .summaries) (T .worst) here (min (here .entry + here .rest * b .levels) (b .n * b .levels + q)) q to) where
+    module _ {to : Reached} (W : Walks b (T .summaries) (T .worst) here stop q to) where
       abbrev time : ℕ → ℕ
       time j = getD (T .worst) (here .entry + j * b .levels) 0
 
@@ -264,7 +268,7 @@ module _ {b : Body} {T : LentBody} {place after t q end : ℕ} (S : Setting b T 
       entry-is : to .entry ≡ here .entry + W .steps * b .levels
       entry-is = ap (λ (r : Reached). r .entry) (W .is)
 
-      pub rest-is : to .rest ≡ here .rest - W .steps
+      rest-is : to .rest ≡ here .rest - W .steps
       rest-is = ap (λ (r : Reached). r .rest) (W .is)
 
       pub still-few : to .rest ≤ end

@@ -1,5 +1,5 @@
 -- The coast goes on body by body, from whichever position stands at the place. Assumes nothing.
-use Prim.Native.Nat.{_+_, _-_, _*_, _≤_, _<_, min}
+use Prim.Native.Nat.{_+_, _-_, _*_, _≤_, _<_}
 use mathlib.Core.Path.{_≡_}
 use mathlib.Core.List.{[]}
 use native.Mathlib.Nat.{mul-le-mul}
@@ -10,7 +10,7 @@ use Rattle.rules.specs.Repeat.{LentBody, stretch-at}
 use Rattle.repeat_limits.specs.Limits.{later-of, room-left}
 use Rattle.repeat_decision.specs.Decision.{most-cells, Walks}
 use Rattle.repeat_decision.proofs.Going.{row}
-use Rattle.repeat_decision.proofs.Coasts.{Setting, Coast, Looking, coast-moved, short, first-near, first-coast, may-turn, looking, may-walk, still-few, stops-at, again, ended}
+use Rattle.repeat_decision.proofs.Coasts.{stop-from, Setting, Coast, Looking, coast-moved, short, first-near, first-coast, may-turn, looking, may-walk, still-few, stops-at, again, ended}
 use Rattle.repeat_decision.proofs.left_granted.Statement.{statement}
 use Rattle.repeat_decision.proofs.left_granted.Tie as tie
 
@@ -163,7 +163,7 @@ module _ (c : tie.After-along Inv-loop μ-loop) where
   L = looked walked .0
 
   W : let a = start (counted at .before) .args in let r = walked .in-body .result in
-      Walks (a .body) (a .summaries .now) (a .worst .now) r (min (r .entry + r .rest * a .body .levels) (a .body .n * a .body .levels + (a .fit .levels - 1))) (a .fit .levels - 1) (c .along .result)
+      Walks (a .body) (a .summaries .now) (a .worst .now) r (stop-from (a .body) r (a .fit .levels - 1)) (a .fit .levels - 1) (c .along .result)
   W = rw (c .before .lesser .ensures) at (c .along .ensures)
 
 sub-result : tie.Need-sub-result Inv-loop μ-loop

@@ -5,7 +5,10 @@ use mathlib.Core.Bool.{true}
 use native.Mathlib.Nat.{div-add-mod'}
 use native.Mathlib.Omega.{arith}
 use lib.ListN.{getD}
+use mir.Syntax.{w8, w32}
+use mir.Val.{Fits}
 use borrow.Author.Needs.{needs}
+use Rattle.rules.specs.Numbers.{most-positions}
 use Rattle.rules.specs.Run.{Run, gives}
 use Rattle.rules.specs.Repeat.{LentBody, lent-plan, action-at, body-ask-refusal, body-ask}
 use Rattle.repeat_laws.proofs.Places.{place-lt}
@@ -62,18 +65,21 @@ sub-action c =
 shared-slice-read-action : tie.Need-shared-slice-read-action
 shared-slice-read-action c = let spot = c .before .before in omega (arith, low spot, ready (after spot) .ordered)
 
--- the byte read
-byte : (c : tie.After-shared-slice-known4) → let spot = c .before .before in
-    getD (start (spot .before .before .before) .args .order .now) (spot .spot-of .result .place) 0 ≤ 255
-byte c = omega (arith, c .shared-slice-known4 .given (c .before .before .spot-of .result .place))
+-- whichever byte is read
+byte : {x : ℕ} → Fits w8 x → Fits w32 x
+byte few = omega (arith, few)
 
 cast-action-2 : tie.Need-cast-action-2
-cast-action-2 c = omega (arith, byte c)
+cast-action-2 c = byte (c .shared-slice-known4 .given _)
+
+-- and whatever is added to it that is no greater than a position
+with-byte : {m x : ℕ} → m ≤ most-positions → Fits w8 x → Fits w32 (m + x)
+with-byte m few = omega (arith, m, few)
 
 add-action : tie.Need-add-action
 add-action c =
     let h = ready (after (c .before .before)) in
-    omega (arith, byte c, h .ranged .cycle .position, h .ranged .products .total)
+    with-byte (omega (arith, h .ranged .cycle .position, h .ranged .products .total)) (c .shared-slice-known4 .given _)
 
 -- the action's number in the unrolled system
 action-is : (c : tie.After-spot-of) → let r = start (c .before .before .before) .args .self in let o = start (c .before .before .before) .args .order .now in
