@@ -1,8 +1,8 @@
 /* The manager in a whole frame of 1,620 encoder bodies, as a camera in C calls it: planned once, then asked before each action and told the clock
  * after it, in a plain loop of direct calls through the header. The fast form in C, an object of its own, is called the same way beside it, over the
  * same tables. Before either is timed, both must give the same at every action. Then a body beside a plain cycle, over seven bodies, which are 63 actions
- * of a plain cycle too, so that both are asked the same: whole frames, and the askings of them that decide; and a decision of the 1,620 bodies beside the
- * first of a plain cycle that has time enough. Prints two sections of markdown; it ends with status 1 if a call does not answer as it must. */
+ * of a plain cycle too, so that both are asked the same: whole frames, and the askings of them that decide; in their own time, and in so much of it that
+ * each decision gives the top level and the longest coast. Prints two sections of markdown; it ends with status 1 if a call does not answer as it must. */
 #define _POSIX_C_SOURCE 200809L
 
 #include "../../include/nyokazerubi.h"
@@ -38,9 +38,8 @@ static uint32_t averages[WIDE_TABLE], worst[WIDE_TABLE], encoder_cycle;
 static uint8_t order[ACTIONS];
 static uint32_t summaries[SUMMARIES], worst_by_position[TABLE];
 
-/* A plain plan, of up to seven bodies. */
+/* A plain plan of seven bodies. */
 struct plain {
-    size_t n;
     uint8_t order[WIDE];
     int32_t limits[WIDE_TABLE], bounds[WIDE_BOUNDS];
     uint32_t worst[WIDE_TABLE];
@@ -97,30 +96,29 @@ static void read_encoder(void) {
     }
 }
 
-/* Writes so many of these actions, all deadlines the cycle's, in a cycle as long as so many repeats need. */
-static size_t write_image(uint8_t *image, size_t n, uint32_t repeats) {
+/* Writes so many of these actions, all deadlines the cycle's, in a cycle of so many times the encoder's. */
+static size_t write_image(uint8_t *image, size_t n, uint32_t times) {
     static const uint32_t deadlines[WIDE];
     size_t cells = NYOKAZERUBI_TABLE_ENTRIES(n, LEVELS), bytes = NYOKAZERUBI_IMAGE_BYTES(n, LEVELS);
-    struct nyokazerubi_written written = nyokazerubi_write(n, LEVELS, encoder_cycle * repeats, masks, n, deadlines, n, averages, cells, worst, cells,
+    struct nyokazerubi_written written = nyokazerubi_write(n, LEVELS, encoder_cycle * times, masks, n, deadlines, n, averages, cells, worst, cells,
                                                            image, bytes);
     hold(written.refusal.number == NYOKAZERUBI_ACCEPTED && written.bytes == bytes, "an image is written");
     return bytes;
 }
 
-static struct nyokazerubi_body plan_body(uint32_t repeats) {
+static struct nyokazerubi_body plan_body(uint32_t repeats, uint32_t times) {
     uint8_t image[IMAGE];
-    size_t bytes = write_image(image, ACTIONS, repeats);
+    size_t bytes = write_image(image, ACTIONS, times);
     struct nyokazerubi_body_planned planned =
         nyokazerubi_plan_body(image, bytes, repeats, order, ACTIONS, summaries, SUMMARIES, worst_by_position, TABLE);
     hold(planned.refusal.number == NYOKAZERUBI_ACCEPTED && planned.body.repeats == repeats, "a body is planned");
     return planned.body;
 }
 
-/* So many bodies as one plain cycle, with the time of so many repeats. */
-static void plan_plain(struct plain *plan, size_t bodies, uint32_t repeats) {
+/* Seven bodies as one plain cycle. */
+static void plan_plain(struct plain *plan, uint32_t times) {
     uint8_t image[WIDE_IMAGE];
-    plan->n = bodies * ACTIONS;
-    size_t bytes = write_image(image, plan->n, repeats);
+    size_t bytes = write_image(image, WIDE, times);
     hold(nyokazerubi_plan(image, bytes, plan->order, WIDE, plan->limits, WIDE_TABLE, plan->worst, WIDE_TABLE, plan->bounds, WIDE_BOUNDS)
                  .refusal.number == NYOKAZERUBI_ACCEPTED,
          "a plain cycle is planned");
@@ -202,19 +200,6 @@ static struct nyokazerubi_given ask_plain(struct nyokazerubi_run *run, const str
 
 static struct nyokazerubi_given ask_body(struct nyokazerubi_body_run *run) {
     return nyokazerubi_body_ask(run, order, ACTIONS, summaries, SUMMARIES, worst_by_position, TABLE);
-}
-
-/* Some records of the frame before an asking that decides, evenly. */
-static void deciding(struct nyokazerubi_body body, struct nyokazerubi_body_run *turns) {
-    struct nyokazerubi_body_run run;
-    size_t met = 0, kept = 0;
-    hold(nyokazerubi_body_start(&run, body).number == NYOKAZERUBI_ACCEPTED, "a start");
-    for (size_t i = 0; i < POSITIONS; i++) {
-        if (run.left == 0 && kept < TURNS && met++ == kept * decisions / TURNS) turns[kept++] = run;
-        ask_body(&run);
-        nyokazerubi_body_report(&run, clocks[i], worst_by_position, TABLE);
-    }
-    hold(kept == TURNS, "decisions enough");
 }
 
 /* The clock at the end of each action of some frames of seven bodies. */
@@ -347,51 +332,33 @@ static void row(const char *side, double ns, double clock, uint32_t frame) {
     printf("| %s | %.0f | %.0f | %.1f | %.4f %% |\n", side, ns, cycles, cycles / POSITIONS, 100 * cycles / frame);
 }
 
-static void beside(const char *what, double plain, double of_body) {
-    printf("| %s | %.1f | %.1f | %.2f |\n", what, plain, of_body, of_body / plain);
+static void beside(const char *time, const char *what, double plain, double of_body) {
+    printf("| %s | %s | %.1f | %.1f | %.2f |\n", time, what, plain, of_body, of_body / plain);
 }
 
-/* The same frames by both, beside each other. */
-static void frames(struct nyokazerubi_body body, const struct plain *plan) {
-    static double plain[SAMPLES], of_body[SAMPLES];
-    for (size_t at = 0; at < SAMPLES; at++) {
-        plain[at] = frames_of_plain(plan);
-        of_body[at] = frames_of_body(body);
-    }
-    beside("an asking and a report, over whole frames", median(plain), median(of_body));
-}
-
-/* Askings from their records, beside each other. */
-static void asking(const char *what, const struct nyokazerubi_body_run *turns, const struct nyokazerubi_run *plain_turns, const struct plain *plan) {
-    static double plain[SAMPLES], of_body[SAMPLES];
-    for (size_t at = 0; at < SAMPLES; at++) {
-        plain[at] = plain_decides(plain_turns, plan);
-        of_body[at] = body_decides(turns);
-    }
-    beside(what, median(plain), median(of_body));
-}
-
-static void beside_plain(struct nyokazerubi_body body) {
+/* Frames of seven bodies by both, in a time that has a name: whole, and the askings that decide. */
+static void beside_plain(const char *time, uint32_t times) {
     static struct plain plan;
     static struct nyokazerubi_body_run turns[TURNS];
     static struct nyokazerubi_run plain_turns[TURNS];
-    printf("\n### A body beside a plain cycle, called from C: %d bodies, and the same %d actions\n\n", FEW, WIDE);
-    printf("| | plain, ns | of the body, ns | to plain |\n|---|---|---|---|\n");
-    plan_plain(&plan, FEW, FEW);
-    struct nyokazerubi_body few = plan_body(FEW);
-    agree_plain(few, &plan, turns, plain_turns);
-    frames(few, &plan);
-    asking("an asking that decides, of these frames", turns, plain_turns, &plan);
-    plan_plain(&plan, 1, REPEATS);
-    for (size_t k = 0; k < TURNS; k++) hold(nyokazerubi_start(&plain_turns[k], ACTIONS, LEVELS).number == NYOKAZERUBI_ACCEPTED, "a plain start");
-    deciding(body, turns);
-    asking("one of 1,620 bodies, beside the first of a plain cycle with their time", turns, plain_turns, &plan);
+    static double plain[SAMPLES], of_body[SAMPLES], plain_decision[SAMPLES], decision[SAMPLES];
+    struct nyokazerubi_body body = plan_body(FEW, times);
+    plan_plain(&plan, times);
+    agree_plain(body, &plan, turns, plain_turns);
+    for (size_t at = 0; at < SAMPLES; at++) {
+        plain[at] = frames_of_plain(&plan);
+        of_body[at] = frames_of_body(body);
+        plain_decision[at] = plain_decides(plain_turns, &plan);
+        decision[at] = body_decides(turns);
+    }
+    beside(time, "an asking and a report, over whole frames", median(plain), median(of_body));
+    beside(time, "an asking that decides", median(plain_decision), median(decision));
 }
 
 int main(void) {
     hold(nyokazerubi_boundary() == NYOKAZERUBI_BOUNDARY, "the archive is of this header");
     read_encoder();
-    struct nyokazerubi_body body = plan_body(REPEATS);
+    struct nyokazerubi_body body = plan_body(REPEATS, REPEATS);
     draw();
     agree(body);
     double clock = gigahertz();
@@ -405,6 +372,9 @@ int main(void) {
     printf("| side | ns | cycles | cycles an action | part of the frame |\n|---|---|---|---|---|\n");
     row("product", median(product), clock, body.cycle);
     row("C", median(c), clock, body.cycle);
-    beside_plain(body);
+    printf("\n### A body beside a plain cycle, called from C: %d bodies, and the same %d actions\n\n", FEW, WIDE);
+    printf("| cycle | | plain, ns | of the body, ns | to plain |\n|---|---|---|---|---|\n");
+    beside_plain("their own", FEW);
+    beside_plain("that of 1,620", REPEATS);
     return 0;
 }

@@ -30,10 +30,13 @@ abbrev pub stop-from : Body → Reached → ℕ → ℕ
 stop-from b r q = min (r .entry + r .rest * b .levels) (b .n * b .levels + q)
 
 -- that is a row of the body, and no more than are still to be looked at
-ends-at : (L n p rest q : ℕ) → (last : ℕ) × (last ≤ n) × (last ≤ p + rest) × (min (p * L + q + rest * L) (n * L + q) ≡ last * L + q)
+abbrev EndsAt : ℕ → ℕ → ℕ → ℕ → ℕ → Type 0
+EndsAt L n p rest q = (last : ℕ) × (last ≤ n) × (last ≤ p + rest) × (min (p * L + q + rest * L) (n * L + q) ≡ last * L + q)
+
+ends-at : (L n p rest q : ℕ) → EndsAt L n p rest q
 ends-at L n p rest q = go (decLe (p + rest) n)
   where
-    go : Dec (p + rest ≤ n) → (last : ℕ) × (last ≤ n) × (last ≤ p + rest) × (min (p * L + q + rest * L) (n * L + q) ≡ last * L + q)
+    go : Dec (p + rest ≤ n) → EndsAt L n p rest q
     go (yes l) = (p + rest, l, omega arith, omega (arith, mul-le-mul-right L l))
     go (no l) = let m : n ≤ p + rest = omega (arith, l) in (n, omega arith, m, omega (arith, mul-le-mul-right L m))
 

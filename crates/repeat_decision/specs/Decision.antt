@@ -53,12 +53,11 @@ pub record Fits (b : Body) (summaries : List ℕ) (place after t : ℕ) (f : Fit
       → f .levels ≡ fitting-levels (lent-plan b (record { order = []; summaries = summaries; worst = [] })) t x
   pub own : 0 < f .levels → f .own ≡ room-left (b .cycle) t (later-of (stretch-at summaries (f .levels - 1)) after)
 
--- fewer bodies than there are repeats after a place, and a time, with the summaries of the level above if there is one
+-- a level, and a time, before the bodies that come after some place
 pub record MayRise (b : Body) (summaries : List ℕ) (q after t : ℕ) : Type 0 where
-  pub counts : CountsIn b
-  pub summed : b .n * b .levels * summary-numbers ≤ length summaries
+  pub place : ℕ
+  pub summarised : Summarised b summaries place after
   pub level : q < b .levels
-  pub fewer : after < b .repeats
   pub early : t ≤ last-start
 
 -- one place on in the same body, after a worst time

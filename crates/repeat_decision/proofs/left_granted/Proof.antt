@@ -91,13 +91,7 @@ module _ (c : tie.After-most Inv-loop μ-loop) where
 room-above-requires : tie.Need-room-above-requires Inv-loop μ-loop
 room-above-requires c κs =
     let m = setting (c .before) in
-    record {
-      counts = m .summarised .counts;
-      summed = m .summarised .summed;
-      level = m .level;
-      fewer = m .summarised .fewer;
-      early = m .early;
-    }
+    record { place = _; summarised = m .summarised; level = m .level; early = m .early }
 
 onward-requires : tie.Need-onward-requires Inv-loop μ-loop
 onward-requires c κs =

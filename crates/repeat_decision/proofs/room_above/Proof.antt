@@ -15,7 +15,8 @@ returns c top = absurd (omega (arith, top, c .if1 .taken))
 room-before-requires : tie.Need-room-before-requires
 room-before-requires c κs =
     let h = c .before .before .before .pre in
-    leaves-room (h .counts) (h .summed) (h .fewer) (omega (arith, h .level, c .if1 .left)) (omega (arith, h .early))
+    let s = h .summarised in
+    leaves-room (s .counts) (s .summed) (s .fewer) (omega (arith, h .level, c .if1 .left)) (omega (arith, h .early))
 
 returns-2 : tie.Need-returns-2
 returns-2 c top =
