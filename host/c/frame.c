@@ -28,6 +28,7 @@ enum {
     SAMPLES = 401,
     TURNS = 64, /* askings of a sample */
     FRAMES = 16, /* of seven bodies */
+    COASTS = (WIDE + NYOKAZERUBI_LONGEST_COAST - 1) / NYOKAZERUBI_LONGEST_COAST, /* in such a frame, of the longest */
     CLOCK_SAMPLES = 1000,
     STEPS = 100000 /* additions of a sample of the processor's clock */
 };
@@ -202,14 +203,15 @@ static struct nyokazerubi_given ask_body(struct nyokazerubi_body_run *run) {
     return nyokazerubi_body_ask(run, order, ACTIONS, summaries, SUMMARIES, worst_by_position, TABLE);
 }
 
-/* The clock at the end of each action of some frames of seven bodies. */
-static uint32_t few_clocks[FRAMES][WIDE];
+/* Some frames of seven bodies: the clock at the end of each action, the decisions, and the levels given added up. */
+static uint32_t few_clocks[FRAMES][WIDE], few_decisions, few_levels;
 
 /* Runs these frames by both at once, which must give the same, and keeps their records before the first askings that decide. */
 static void agree_plain(struct nyokazerubi_body body, const struct plain *plan, struct nyokazerubi_body_run *turns, struct nyokazerubi_run *same) {
     struct nyokazerubi_body_run run;
     struct nyokazerubi_run plain;
     size_t kept = 0;
+    few_decisions = few_levels = 0;
     for (size_t at = 0; at < FRAMES * WIDE; at++) {
         size_t i = at % WIDE;
         if (i == 0) {
@@ -226,6 +228,8 @@ static void agree_plain(struct nyokazerubi_body body, const struct plain *plan, 
         size_t cell = one.action * LEVELS + one.level;
         uint32_t clock = plain.clock + duration(averages[cell], worst[cell]);
         few_clocks[at / WIDE][i] = clock;
+        few_decisions += one.decided;
+        few_levels += one.level;
         hold(nyokazerubi_body_report(&run, clock, worst_by_position, TABLE).number == NYOKAZERUBI_ACCEPTED, "its end");
         hold(nyokazerubi_report(&plain, clock, plan->worst, WIDE_TABLE).number == NYOKAZERUBI_ACCEPTED, "its plain end");
     }
@@ -376,5 +380,6 @@ int main(void) {
     printf("| cycle | | plain, ns | of the body, ns | to plain |\n|---|---|---|---|---|\n");
     beside_plain("their own", FEW);
     beside_plain("that of 1,620", REPEATS);
+    hold(few_decisions == FRAMES * COASTS && few_levels == FRAMES * WIDE * (LEVELS - 1), "the longest coasts at the top level");
     return 0;
 }
