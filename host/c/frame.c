@@ -193,7 +193,7 @@ static double of_c(fast_body body) {
     return (double)took;
 }
 
-/* ---- an asking that decides */
+/* ---- beside a plain cycle */
 
 static struct nyokazerubi_given ask_plain(struct nyokazerubi_run *run, const struct plain *plan) {
     return nyokazerubi_ask(run, plan->order, WIDE, plan->limits, WIDE_TABLE, plan->bounds, WIDE_BOUNDS);
