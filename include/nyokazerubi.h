@@ -109,9 +109,9 @@
  *   totals             record    16                  16      16
  *   in all, to plan and rehearse a recording       6043   42838
  *
- *   summaries          uint32_t  12nL               864    6144   of a body, by position and level, 3 numbers each
+ *   summaries          uint32_t  16nL              1152    8192   of a body, by position and level, 4 numbers each
  *   body run           record    40                  40      40
- *   in all, to plan and run a body repeated        1747   12142   the image, order, worst_by_position and these, for any number N of repeats
+ *   in all, to plan and run a body repeated        2035   14190   the image, order, worst_by_position and these, for any number N of repeats
  *
  *   durations          uint32_t  4nNL            466560 3317760   of 1620 repeats, for a dry run of a body repeated
  *   given              uint8_t   nN               14580  103680   by position of all repeats
@@ -140,7 +140,7 @@ extern "C" {
 #endif
 
 /* The version of this boundary, and that of the archive that is linked: a host compares them once. */
-#define NYOKAZERUBI_BOUNDARY 2u
+#define NYOKAZERUBI_BOUNDARY 3u
 uint32_t nyokazerubi_boundary(void);
 
 #define NYOKAZERUBI_MOST_ACTIONS 64
@@ -150,7 +150,7 @@ uint32_t nyokazerubi_boundary(void);
 #define NYOKAZERUBI_MOST_FRAMES 4096
 #define NYOKAZERUBI_MOST_REPEATS 1620u
 #define NYOKAZERUBI_MOST_POSITIONS 103680    /* of a body repeated */
-#define NYOKAZERUBI_SUMMARY_NUMBERS 3        /* of the rest of a body at a position and level */
+#define NYOKAZERUBI_SUMMARY_NUMBERS 4        /* of the rest of a body at a position and level */
 #define NYOKAZERUBI_LAST_CLOCK 1073741823u   /* the longest cycle, the latest deadline, the latest clock */
 #define NYOKAZERUBI_LONGEST_TIME 16777215u   /* the longest average, worst time and duration of a dry run */
 #define NYOKAZERUBI_ABSENT_BOUND INT32_MIN   /* the coast bound where a coast would go past the last position */
@@ -408,9 +408,9 @@ struct nyokazerubi_body_planned {
     struct nyokazerubi_body body;
 };
 
-/* Plans an image to be repeated: the order and the worst times of one body, and of the rest of a body from each position and level three numbers, by
- * which any limit of the unrolled profile is worked out when it is asked for. No table grows with the repeats. 1 to 8, 19, 9 (of the unrolled
- * profile), 17. */
+/* Plans an image to be repeated: the order and the worst times of one body, and of the rest of a body from each position and level four numbers, by
+ * which any limit of the unrolled profile, and at its top level the longest coast, is worked out when it is asked for. No table grows with the
+ * repeats. 1 to 8, 19, 9 (of the unrolled profile), 17. */
 struct nyokazerubi_body_planned nyokazerubi_plan_body(
     const uint8_t *image, size_t image_length, uint32_t repeats,
     uint8_t *order, size_t order_length,
@@ -428,7 +428,9 @@ struct nyokazerubi_limited nyokazerubi_body_limit(
     const uint32_t *summaries, size_t summaries_length,
     size_t position, size_t level);
 
-/* The coast bound at a position, level and length of the coast, 1 to 16: INT64_MIN where the coast would go past the last position. 3, 19, 17, 18. */
+/* The coast bound at a position, level and length of the coast, 1 to 16: INT64_MIN where the coast would go past the last position. It is
+ * worked out at each position of the coast; at the top level, where the coast is as long as there may be, also by the summaries at its first and its
+ * last position alone, and the greater counts: on tables that planning wrote they are equal. 3, 19, 17, 18. */
 struct nyokazerubi_limited nyokazerubi_body_bound(
     struct nyokazerubi_body body,
     const uint32_t *summaries, size_t summaries_length,

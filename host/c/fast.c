@@ -31,7 +31,7 @@ enum {
 #define FRAMES 4096u
 #define ABSENT INT32_MIN
 #define MOST_REPEATS 1620u
-#define NUMBERS 3u
+#define NUMBERS 4u
 
 #if __BYTE_ORDER__ != __ORDER_LITTLE_ENDIAN__
 #error "bytes are swapped on every read and write of an image"
@@ -680,11 +680,11 @@ static uint32_t examine_body(const uint8_t *image, size_t length, uint32_t repea
     return repeats * end > s->cycle ? UNFIT : 0;
 }
 
-/* From the last position back: A and W add up; M is the greater of this worst time before the others at level 0, and
+/* From the last position back: A, W and V add up; M is the greater of this worst time before the others at level 0, and
  * this average before their M. */
 static inline void fill_body(const uint8_t *image, const shape *s, const uint8_t *arranged,
                              uint32_t *restrict summaries, uint32_t *restrict worst) {
-    uint32_t levels = s->levels, lowest = 0, averages[8] = {0}, mixes[8] = {0};
+    uint32_t levels = s->levels, lowest = 0, averages[8] = {0}, mixes[8] = {0}, worsts[8] = {0};
     for (uint32_t i = s->n; i-- > 0;) {
         const uint8_t *record = record_of(s, image, arranged[i]), *at = record + 10;
         uint32_t *row = worst + (size_t)i * levels, *entry = summaries + (size_t)i * levels * NUMBERS;
@@ -699,6 +699,7 @@ static inline void fill_body(const uint8_t *image, const shape *s, const uint8_t
             entry[0] = averages[q];
             entry[1] = lowest;
             entry[2] = mixes[q];
+            entry[3] = worsts[q] += worst_in(pair);
         }
     }
 }
@@ -743,6 +744,19 @@ static inline int64_t mix_of(const uint32_t *entry, after a) {
     return safe > mixed ? safe : mixed;
 }
 
+/* What a coast at a level must have room for at its last position: the worst times before that, as V has them, 0 at the
+ * least, and M from it on. */
+static inline int64_t last_reach(fast_body body, const uint32_t *summaries, uint32_t place, uint32_t bodies,
+                                 uint32_t level, uint32_t length) {
+    uint32_t ahead = place + length - 1;
+    /* Of a body that is no shorter than a coast at most one is passed: there is nothing to divide. */
+    uint32_t passed = ahead < body.n ? 0 : body.n >= COAST ? 1 : ahead / body.n, last = ahead - passed * body.n;
+    const uint32_t *here = summaries + (place * body.levels + level) * NUMBERS;
+    const uint32_t *there = summaries + (last * body.levels + level) * NUMBERS;
+    int64_t spent = here[3] + (int64_t)passed * summaries[level * NUMBERS + 3] - there[3];
+    return (spent > 0 ? spent : 0) + mix_of(there, after_of(summaries, level, bodies - passed));
+}
+
 uint32_t fast_body_limit(fast_body body, const uint32_t *summaries, size_t summaries_room, size_t position,
                          size_t level, int64_t *limit) {
     uint32_t refusal = body_refusal(body);
@@ -768,7 +782,14 @@ uint32_t fast_body_bound(fast_body body, const uint32_t *summaries, size_t summa
     }
     uint32_t repeat = (uint32_t)position / body.n, place = (uint32_t)position - repeat * body.n;
     uint32_t bodies = body.repeats - 1 - repeat, left = (uint32_t)length;
-    int64_t most = INT64_MIN, spent = 0;
+    int64_t most = INT64_MIN, spent = 0, ends = INT64_MAX;
+    /* At the top level a coast that is as long as there may be is read by its ends too. */
+    if (level + 1 == body.levels && (length == COAST || length == positions - position)) {
+        const uint32_t *here = summaries + (place * body.levels + (uint32_t)level) * NUMBERS;
+        int64_t first = mix_of(here, after_of(summaries, (uint32_t)level, bodies));
+        ends = last_reach(body, summaries, place, bodies, (uint32_t)level, left);
+        if (first > ends) ends = first;
+    }
     for (;; place = 0, bodies--) {
         after a = after_of(summaries, (uint32_t)level, bodies);
         uint32_t end = left < body.n - place ? place + left : body.n;
@@ -780,7 +801,7 @@ uint32_t fast_body_bound(fast_body body, const uint32_t *summaries, size_t summa
         }
         if (left == 0) break;
     }
-    *bound = body.cycle - most;
+    *bound = body.cycle - (most < ends ? most : ends);
     return 0;
 }
 
@@ -807,12 +828,14 @@ static inline room room_nearer(const uint32_t *summaries, uint32_t level, uint32
 
 static inline bool has_room(const uint32_t *entry, room r) { return entry[0] <= r.average && entry[2] <= r.mix; }
 
-/* The actions up to the first that could begin too late for the level, or at which the one above fits; no coast past it
- * qualifies. The first is known to be none. It is walked body by body, with `rest` still to be looked at. */
+/* The actions up to the first that could begin too late for the level, or at which the one above fits, `most` of them at
+ * the most; read at each position no coast past it qualifies. The first is known to be none. It is walked body by body,
+ * with `rest` still to be looked at. */
 static inline __attribute__((always_inline)) uint32_t body_coast(fast_body body, const uint32_t *summaries,
                                                                  const uint32_t *worst, uint32_t place, uint32_t bodies,
-                                                                 uint32_t level, room own, room above, bool top) {
-    uint32_t all = body.n - place + bodies * body.n, most = all < COAST ? all : COAST, rest = most - 1;
+                                                                 uint32_t level, room own, room above, uint32_t most,
+                                                                 bool top) {
+    uint32_t rest = most - 1;
     size_t levels = body.levels, cells = body.n * levels, entry = place * levels + level;
     own.mix -= worst[entry];
     own.average -= worst[entry];
@@ -843,10 +866,17 @@ static inline decision body_decide(fast_body body, const uint32_t *summaries, co
     for (uint32_t level = body.levels; level-- > 0;) {
         room own = room_before(summaries, level, bodies, left);
         if (has_room(row + level * NUMBERS, own)) {
-            if (level + 1 == body.levels)
-                return (decision){level, body_coast(body, summaries, worst, place, bodies, level, own, own, true), false};
-            room above = room_before(summaries, level + 1, bodies, left);
-            return (decision){level, body_coast(body, summaries, worst, place, bodies, level, own, above, false), false};
+            uint32_t all = body.n - place + bodies * body.n, most = all < COAST ? all : COAST, grant;
+            if (level + 1 < body.levels) {
+                room above = room_before(summaries, level + 1, bodies, left);
+                grant = body_coast(body, summaries, worst, place, bodies, level, own, above, most, false);
+            } else if (last_reach(body, summaries, place, bodies, level, most) <= left) {
+                /* The longest by its ends: the level fits at the first of them already. */
+                grant = most;
+            } else {
+                grant = body_coast(body, summaries, worst, place, bodies, level, own, own, most, true);
+            }
+            return (decision){level, grant, false};
         }
     }
     return (decision){0, 1, true};

@@ -18,7 +18,7 @@ static uint64_t masks[N];
 static size_t bytes;
 /* A body to be repeated, with what its dry run takes. */
 static uint8_t body_image[IMAGE], levels[ALL], body_marks[ALL];
-static uint32_t summaries[3 * TABLE], body_worst[TABLE], body_durations[2 * ALL];
+static uint32_t summaries[NYOKAZERUBI_SUMMARIES_ENTRIES(N, L)], body_worst[TABLE], body_durations[2 * ALL];
 
 static void hold(int is_so, const char *what) {
     if (is_so) return;
@@ -70,7 +70,8 @@ static void open_recording(void) {
 }
 
 static void plan_body(void) {
-    hold(nyokazerubi_plan_body(body_image, bytes, REPEATS, order, N, summaries, 3 * TABLE, body_worst, TABLE).body.n == N, "a body planned");
+    hold(nyokazerubi_plan_body(body_image, bytes, REPEATS, order, N, summaries, sizeof summaries / sizeof *summaries, body_worst, TABLE).body.n == N,
+         "a body planned");
 }
 /* All repeats, with decisions after overruns and whole coasts between them. */
 static void body_dry_frame(void) {

@@ -4,7 +4,7 @@
 #![allow(dead_code, clippy::too_many_arguments)]
 
 /// The version of this boundary; [`nyokazerubi_boundary`] has that of the archive that is linked.
-pub const BOUNDARY: u32 = 2;
+pub const BOUNDARY: u32 = 3;
 
 pub const MOST_ACTIONS: usize = 64;
 pub const MOST_LEVELS: usize = 8;
@@ -13,7 +13,7 @@ pub const MOST_RECORDS: usize = 65_535;
 pub const MOST_FRAMES: usize = 4_096;
 pub const MOST_REPEATS: u32 = 1_620;
 pub const MOST_POSITIONS: usize = 103_680;
-pub const SUMMARY_NUMBERS: usize = 3;
+pub const SUMMARY_NUMBERS: usize = 4;
 pub const LAST_CLOCK: u32 = 1_073_741_823;
 pub const LONGEST_TIME: u32 = 16_777_215;
 pub const ABSENT_BOUND: i32 = i32::MIN;

@@ -124,7 +124,7 @@ pub struct Tables<'a> {
     pub bounds: &'a [i32],
 }
 
-/// The tables that the run of a body repeated reads: the body's order, summaries n by L by 3, worst times n by L.
+/// The tables that the run of a body repeated reads: the body's order, summaries n by L by 4, worst times n by L.
 #[derive(Clone, Copy, Debug)]
 pub struct BodyTables<'a> {
     pub order: &'a [u8],

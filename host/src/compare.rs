@@ -45,7 +45,7 @@ pub const NUMBERS: [(&str, &[u8]); 22] = [
 ];
 
 /// The events that a good set of inputs meets, beside every grant from 1 to 16, of a body repeated too, and every level as the lowest of a frame.
-pub const EVENTS: [&str; 48] = [
+pub const EVENTS: [&str; 59] = [
     "on time",
     "not on time",
     "spent",
@@ -80,6 +80,17 @@ pub const EVENTS: [&str; 48] = [
     "coast into the next repeat",
     "bound",
     "absent bound",
+    "bound by its ends",
+    "bound at each",
+    "bound of both readings",
+    "longest coast by its ends alone",
+    "longest coast at each alone",
+    "longest coast by both readings",
+    "longest coast by no reading",
+    "coast to the end by its ends alone",
+    "coast to the end at each alone",
+    "coast to the end by both readings",
+    "coast to the end by no reading",
     "limit below 0",
     "N = 1",
     "N = 1620",

@@ -19,8 +19,8 @@ pub use profile::{Profile, Set};
 pub use recording::{open_recording, rehearse, totals_out};
 pub use refresh::refresh;
 pub use repeat::{
-    body_ask, body_bound, body_dry_frame, body_fields_out, body_limit, body_report, body_start, plan_body, Summary,
-    Sums, Unrolled,
+    body_ask, body_bound, body_dry_frame, body_fields_out, body_limit, body_report, body_start, plan_body, Longest,
+    Summary, Sums, Unrolled,
 };
 pub use run::{ask, asked, dry_run, fields_out, granted, in_range, report, start, Bounds, Limits};
 pub use speed::{on_time, speed_reading};

@@ -3,7 +3,7 @@
 
 mod common;
 
-use nyokazerubi_host::calls::{Answer, Calls, Dried, Reference, Tables, LONGEST_COAST};
+use nyokazerubi_host::calls::{Answer, Calls, Dried, Reference, Tables, LONGEST_COAST, SUMMARY_NUMBERS};
 use nyokazerubi_host::draw::{Draw, Size, Sketch};
 use nyokazerubi_host::product::Product;
 use nyokazerubi_host::reference::{accept_but_unfit, Planned, Unrolled};
@@ -71,7 +71,8 @@ impl Trial {
             return None;
         }
         let cells = profile.n * profile.levels;
-        let (mut order, mut summaries, mut worst) = (vec![0; profile.n], vec![0; 3 * cells], vec![0; cells]);
+        let (mut order, mut summaries, mut worst) =
+            (vec![0; profile.n], vec![0; SUMMARY_NUMBERS * cells], vec![0; cells]);
         Product.plan_body(image, repeats, &mut order, &mut summaries, &mut worst).ok()?;
         let planned = Unrolled::of(&profile, repeats as usize).planned;
         Some(Trial::of(planned, Ran::Repeated(image.to_vec(), repeats)))

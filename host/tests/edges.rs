@@ -4,7 +4,7 @@ mod common;
 
 use nyokazerubi_host::calls::{
     Body, BodyDried, BodyRun, BodyTables, Calls, Counts, Dried, Line, Opened, Reading, Run, Tables, Totals,
-    ABSENT_LONG, LAST_CLOCK, LONGEST_TIME, MOST_RECORDS, MOST_REPEATS,
+    ABSENT_LONG, LAST_CLOCK, LONGEST_COAST, LONGEST_TIME, MOST_RECORDS, MOST_REPEATS,
 };
 use nyokazerubi_host::draw::{big_endian, Sketch};
 
@@ -405,7 +405,7 @@ fn refusals_of_a_body_in_order() {
             assert_eq!(lent, (vec![7; rooms[0]], vec![7; rooms[1]], vec![7; rooms[2]]));
             answer.expect_err("a refusal")
         };
-        let (whole, none) = ([3, 18, 6], [0; 3]);
+        let (whole, none) = ([3, 24, 6], [0; 3]);
         let same = body_of_three(24, [0, 24, 0]);
         assert_eq!(plan(&same, 2, whole), 0);
         for repeats in [0, MOST_REPEATS + 1, u32::MAX] {
@@ -431,11 +431,13 @@ fn refusals_of_a_body_in_order() {
             assert_eq!([plan(&same, 2, rooms), frame(&same, 2, 12, frames)], [17, 17]);
         }
         assert_eq!([frame(&same, 2, 11, [3, 6, 6]), frame(&same, 2, 12, [3, 6, 6])], [17, 16]);
-        let mut lent = (vec![7; 4], vec![7; 19], vec![7; 7]);
+        let mut lent = (vec![7; 4], vec![7; 25], vec![7; 7]);
         let body = calls.plan_body(&same, 2, &mut lent.0, &mut lent.1, &mut lent.2);
         assert_eq!(body, Ok(Body { n: 3, levels: 2, cycle: 24, repeats: 2 }));
         assert_eq!(lent.0, [0, 1, 2, 7]);
-        assert_eq!(lent.1, [6, 12, 12, 18, 12, 20, 4, 8, 8, 12, 8, 14, 2, 4, 4, 6, 4, 8, 7]);
+        let sums = [[[6, 12, 12, 12], [18, 12, 20, 24]], [[4, 8, 8, 8], [12, 8, 14, 16]], [[2, 4, 4, 4], [6, 4, 8, 8]]];
+        assert_eq!(lent.1[..24], sums.concat().concat());
+        assert_eq!(lent.1[24], 7);
         assert_eq!(lent.2, [4, 8, 4, 8, 4, 8, 7]);
     });
 }
@@ -446,10 +448,10 @@ fn limits_of_a_body() {
     on_all_sides(|calls| {
         let body = Body { n: 2, levels: 3, cycle: 9, repeats: 4 };
         let limit = |body: Body, room: usize, position: usize, level: usize| {
-            calls.body_limit(body, &[1; 18][..room], position, level).err().unwrap_or(0)
+            calls.body_limit(body, &[1; 24][..room], position, level).err().unwrap_or(0)
         };
         let bound = |body: Body, rooms: [usize; 2], position: usize, level: usize, length: usize| {
-            let (summaries, worst) = (&[1; 18][..rooms[0]], &[1; 6][..rooms[1]]);
+            let (summaries, worst) = (&[1; 24][..rooms[0]], &[1; 6][..rooms[1]]);
             calls.body_bound(body, summaries, worst, position, level, length).err().unwrap_or(0)
         };
         let counts = [
@@ -468,37 +470,115 @@ fn limits_of_a_body() {
             let out = Body { repeats, ..body };
             assert_eq!([limit(out, 0, 99, 99), bound(out, [0, 0], 99, 99, 99)], [19, 19], "{out:?}");
         }
-        assert_eq!([limit(body, 17, 99, 99), limit(body, 18, 7, 2)], [17, 0]);
-        assert_eq!([bound(body, [17, 6], 99, 99, 99), bound(body, [18, 5], 99, 99, 99)], [17, 17]);
+        assert_eq!([limit(body, 23, 99, 99), limit(body, 24, 7, 2)], [17, 0]);
+        assert_eq!([bound(body, [23, 6], 99, 99, 99), bound(body, [24, 5], 99, 99, 99)], [17, 17]);
         for (position, level) in [(8, 0), (0, 3), (usize::MAX, 0), (0, usize::MAX), (1 << 32, 0), (0, 1 << 32)] {
-            let numbers = [limit(body, 18, position, level), bound(body, [18, 6], position, level, 1)];
+            let numbers = [limit(body, 24, position, level), bound(body, [24, 6], position, level, 1)];
             assert_eq!(numbers, [18, 18], "{position} {level}");
         }
         for (length, number) in [(0, 18), (1, 0), (16, 0), (17, 18), (usize::MAX, 18), (1 << 32 | 1, 18)] {
-            assert_eq!(bound(body, [18, 6], 0, 0, length), number, "{length}");
+            assert_eq!(bound(body, [24, 6], 0, 0, length), number, "{length}");
         }
         // A coast up to the last position, and one past it.
-        assert_ne!(calls.body_bound(body, &[1; 18], &[1; 6], 5, 0, 3), Ok(ABSENT_LONG));
-        assert_eq!(calls.body_bound(body, &[1; 18], &[1; 6], 5, 0, 4), Ok(ABSENT_LONG));
+        assert_ne!(calls.body_bound(body, &[1; 24], &[1; 6], 5, 0, 3), Ok(ABSENT_LONG));
+        assert_eq!(calls.body_bound(body, &[1; 24], &[1; 6], 5, 0, 4), Ok(ABSENT_LONG));
 
         // Entries of all bits: at the first position 1,619 bodies come after.
         let most = Body { n: 64, levels: 8, cycle: 1, repeats: MOST_REPEATS };
         let all = i64::from(u32::MAX);
-        let (summaries, worst) = (vec![u32::MAX; 1536], vec![u32::MAX; 512]);
+        let (summaries, worst) = (vec![u32::MAX; 2048], vec![u32::MAX; 512]);
         assert_eq!(calls.body_limit(most, &summaries, 0, 7), Ok(1 - 1620 * all));
         assert_eq!(calls.body_limit(most, &summaries, 103_679, 7), Ok(1 - all));
-        assert_eq!(calls.body_bound(most, &summaries, &worst, 0, 7, 16), Ok(1 - 1635 * all));
-        assert_eq!(calls.body_bound(most, &summaries, &worst, 103_664, 7, 16), Ok(1 - 16 * all));
+        assert_eq!(calls.body_bound(most, &summaries, &worst, 0, 6, 16), Ok(1 - 1635 * all));
+        assert_eq!(calls.body_bound(most, &summaries, &worst, 103_664, 6, 16), Ok(1 - 16 * all));
+        assert_eq!(calls.body_bound(most, &summaries, &worst, 103_665, 6, 16), Ok(ABSENT_LONG));
+        // At the top level by its ends: within a body V is the same from both on, into the next it is one body more.
+        assert_eq!(calls.body_bound(most, &summaries, &worst, 0, 7, 15), Ok(1 - 1634 * all));
+        assert_eq!(calls.body_bound(most, &summaries, &worst, 0, 7, 16), Ok(1 - 1620 * all));
+        assert_eq!(calls.body_bound(most, &summaries, &worst, 63, 7, 16), Ok(1 - 1620 * all));
+        assert_eq!(calls.body_bound(most, &summaries, &worst, 103_664, 7, 16), Ok(1 - all));
+        assert_eq!(calls.body_bound(most, &summaries, &worst, 103_665, 7, 15), Ok(1 - all));
         assert_eq!(calls.body_bound(most, &summaries, &worst, 103_665, 7, 16), Ok(ABSENT_LONG));
+        // The most that is spent before the last: 15 bodies of one action.
+        let single = Body { n: 1, levels: 1, cycle: 1, repeats: MOST_REPEATS };
+        let [spent, none] =
+            [[0, 0, 0, u32::MAX], [0; 4]].map(|summaries| calls.body_bound(single, &summaries, &[u32::MAX], 0, 0, 16));
+        assert_eq!([spent, none], [Ok(1 - 15 * all), Ok(1)]);
     });
 }
 
-/// On tables of anyone the least of a coast may be at its start: the bound is then that of every longer coast too.
+/// What a decision at the first position of all leaves to coast at a time.
+fn left_to_coast(calls: &dyn Calls, body: Body, summaries: &[u32], worst: &[u32], clock: u64) -> u8 {
+    let tables = BodyTables { order: &[0; 64], summaries, worst_by_position: worst };
+    let mut run = BodyRun { clock, body, ..BodyRun::default() };
+    calls.body_ask(&mut run, &tables).expect("a turn");
+    run.left
+}
+
+/// On tables of anyone the two readings of a coast may differ: at the top level, where it is as long as there may be, the greater bound counts.
+#[test]
+fn the_longest_coast_of_a_body_is_read_twice() {
+    on_all_sides(|calls| {
+        for (n, repeats) in [(20, 1), (4, 5), (1, 20), (3, 1), (1, 3), (5, 2), (64, MOST_REPEATS)] {
+            let body = Body { n: n as u32, levels: 1, cycle: 1000, repeats };
+            let longest = LONGEST_COAST.min(n * repeats as usize);
+            // V is 1 all over, so that by its ends a coast spends 1 for each body that it passes; or V falls by 7 with each place.
+            let entries = |worst: &dyn Fn(usize) -> usize| -> Vec<u32> {
+                (0..n).flat_map(|place| [0, 0, 0, worst(place) as u32]).collect()
+            };
+            let (flat, falling) = (entries(&|_| 1), entries(&|place| 7 * (n - place)));
+            let (zeros, sevens) = (vec![0; n], vec![7; n]);
+            let bound = |summaries: &[u32], worst: &[u32], length: usize| {
+                calls.body_bound(body, summaries, worst, 0, 0, length).expect("it is there")
+            };
+            let granted = |summaries: &[u32], worst: &[u32], clock: i64| {
+                usize::from(left_to_coast(calls, body, summaries, worst, clock as u64)) + 1
+            };
+            // Shorter ones are read at each position alone.
+            let walked = |length: usize| 1000 - 7 * (length as i64 - 1);
+            for length in 1..longest {
+                let bounds = [bound(&flat, &sevens, length), bound(&falling, &zeros, length)];
+                assert_eq!(bounds, [walked(length), 1000], "{n} {repeats} {length}");
+            }
+            // The ends grant it and the walk does not; later neither does, and the walk grants two.
+            let by_ends = 1000 - (longest as i64 - 1) / n as i64;
+            assert_eq!(bound(&flat, &sevens, longest), by_ends, "{n} {repeats}");
+            assert_eq!(granted(&flat, &sevens, by_ends), longest, "{n} {repeats}");
+            assert_eq!(granted(&flat, &sevens, 993), if by_ends < 993 { 2 } else { longest }, "{n} {repeats}");
+            // The walk grants it and the ends do not.
+            assert_eq!(bound(&falling, &zeros, longest), 1000, "{n} {repeats}");
+            assert_eq!(granted(&falling, &zeros, 1000), longest, "{n} {repeats}");
+            // Both do, at the same times.
+            let last = walked(longest);
+            assert_eq!(bound(&falling, &sevens, longest), last, "{n} {repeats}");
+            let grants = [granted(&falling, &sevens, last), granted(&falling, &sevens, last + 1)];
+            assert_eq!(grants, [longest, longest - 1], "{n} {repeats}");
+        }
+    });
+}
+
+/// At a level below the top, and where a coast could be longer, it is read at each position alone.
+#[test]
+fn other_coasts_of_a_body_are_read_once() {
+    on_all_sides(|calls| {
+        let body = Body { n: 20, levels: 2, cycle: 100, repeats: 1 };
+        // The top level never fits.
+        let summaries = [[0, 0, 0, 0], [0, 0, 200, 0]].concat().repeat(20);
+        let worst = [7; 40];
+        assert_eq!(calls.body_bound(body, &summaries, &worst, 0, 0, 16), Ok(100 - 7 * 15));
+        assert_eq!(calls.body_bound(body, &summaries, &worst, 0, 1, 16), Ok(-100));
+        assert_eq!(calls.body_bound(body, &summaries, &worst, 0, 1, 15), Ok(-100 - 7 * 14));
+        assert_eq!(calls.body_bound(body, &summaries, &worst, 5, 1, 15), Ok(-100));
+        assert_eq!(left_to_coast(calls, body, &summaries, &worst, 79), 3);
+    });
+}
+
+/// On tables of anyone the least of a coast may be at its start: the bound is then that of every longer coast too, by its ends as well.
 #[test]
 fn bounds_of_a_body_never_rise() {
     on_all_sides(|calls| {
-        // M by place: 9, 0, 5.
-        let (summaries, worst) = ([0, 0, 9, 0, 0, 0, 0, 0, 5], [1, 1, 1]);
+        // M by place: 9, 0, 5; V is what the worst times say.
+        let (summaries, worst) = ([0, 0, 9, 3, 0, 0, 0, 2, 0, 0, 5, 1], [1, 1, 1]);
         let body = Body { n: 3, levels: 1, cycle: 20, repeats: 1 };
         let limits = [0, 1, 2].map(|position| calls.body_limit(body, &summaries, position, 0));
         assert_eq!(limits, [Ok(11), Ok(20), Ok(15)]);
@@ -521,7 +601,7 @@ fn bounds_of_a_body_never_rise() {
 #[test]
 fn body_run_records() {
     on_all_sides(|calls| {
-        let tables = BodyTables { order: &[0; 64], summaries: &[0; 1536], worst_by_position: &[0; 512] };
+        let tables = BodyTables { order: &[0; 64], summaries: &[0; 2048], worst_by_position: &[0; 512] };
         let refused = |run: BodyRun| {
             let (mut asked, mut reported) = (run, run);
             let answer = calls.body_ask(&mut asked, &tables);
@@ -577,7 +657,7 @@ fn body_run_records() {
 fn refusals_of_a_body_run_in_order() {
     on_all_sides(|calls| {
         let ask = |mut run: BodyRun, rooms: [usize; 3]| {
-            let (order, summaries, worst) = (&[0; 2][..rooms[0]], &[0; 6][..rooms[1]], &[0; 2][..rooms[2]]);
+            let (order, summaries, worst) = (&[0; 2][..rooms[0]], &[0; 8][..rooms[1]], &[0; 2][..rooms[2]]);
             let tables = BodyTables { order, summaries, worst_by_position: worst };
             calls.body_ask(&mut run, &tables).err().unwrap_or(0)
         };
@@ -586,8 +666,8 @@ fn refusals_of_a_body_run_in_order() {
         let runs = BodyRun { running: true, ..still };
         let over = BodyRun { level: 1, ..runs };
         let done = BodyRun { position: 6, ..still };
-        let whole = [2, 6, 2];
-        for short in [[1, 6, 2], [2, 5, 2], [2, 6, 1]] {
+        let whole = [2, 8, 2];
+        for short in [[1, 8, 2], [2, 7, 2], [2, 8, 1]] {
             assert_eq!([ask(over, short), ask(runs, short), ask(done, short), ask(still, short)], [11, 17, 17, 17]);
         }
         assert_eq!([ask(runs, whole), ask(done, whole), ask(still, whole)], [11, 10, 0]);

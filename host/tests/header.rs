@@ -104,7 +104,7 @@ fn sizes() {
     let of = |n, levels| [image_bytes(n, levels), 4 * table_entries(n, levels), 4 * bounds_entries(n, levels)];
     assert_eq!([of(9, 8), of(64, 8)], [[546, 288, 4608], [3846, 2048, 32768]]);
     assert_eq!([frame_bytes(9, 8), frame_bytes(64, 8), trace_bytes(MOST_RECORDS)], [288, 2048, 327_675]);
-    assert_eq!([4 * summaries_entries(9, 8), 4 * summaries_entries(64, 8)], [864, 6144]);
+    assert_eq!([4 * summaries_entries(9, 8), 4 * summaries_entries(64, 8)], [1152, 8192]);
     assert_eq!(MOST_POSITIONS, MOST_ACTIONS * MOST_REPEATS as usize);
     // Of a body repeated, to plan and run it; and the durations of a dry run.
     let body = |n, levels| {
@@ -114,7 +114,7 @@ fn sizes() {
             4 * table_entries(n * MOST_REPEATS as usize, levels),
         ]
     };
-    assert_eq!([body(9, 8), body(64, 8)], [[1747, 466_560], [12_142, 3_317_760]]);
+    assert_eq!([body(9, 8), body(64, 8)], [[2035, 466_560], [14_190, 3_317_760]]);
 }
 
 /// The records of a body repeated lie as other hosts have them.

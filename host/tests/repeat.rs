@@ -8,7 +8,9 @@ use nyokazerubi_host::calls::{
     refused, BodyDried, BodyRun, BodyTables, Calls, Counts, Dried, ABSENT_BOUND, ABSENT_LONG, LONGEST_COAST,
 };
 use nyokazerubi_host::draw::{Draw, Pace, Size, PACES};
-use nyokazerubi_host::reference::{accept_but_unfit, asked, Limits, Planned, Profile, Summary, Sums, Unrolled};
+use nyokazerubi_host::reference::{
+    accept_but_unfit, asked, Limits, Longest, Planned, Profile, Summary, Sums, Unrolled,
+};
 use nyokazerubi_host::text::BodyPlan;
 
 /// Accepted bodies of few positions, with what they are unrolled.
@@ -40,6 +42,12 @@ fn plan_is_unrolled(calls: &dyn Calls, plan: &BodyPlan, unrolled: &Unrolled) {
             let bound = plan.bound(calls, position, level, length);
             assert_eq!(bound, unrolled.coast_bound(position, level, length), "bound {position} {level} {length}");
         }
+    }
+    // The longest coast has one bound, read at each position or by its ends.
+    for position in 0..positions {
+        let Longest { length, each, ends } = Longest::of(plan.body, &plan.summaries, &plan.worst, position);
+        let bound = unrolled.coast_bound(position, levels - 1, length);
+        assert_eq!([each, ends], [bound; 2], "the longest at {position}");
     }
 }
 
@@ -202,7 +210,7 @@ fn summaries_join() {
     }
     let sums = |draw: &mut Draw| {
         let mut word = || i64::from(draw.word() as u32 >> draw.between(0, 31));
-        Sums { average: word(), lowest: word(), mix: word() }
+        Sums { average: word(), lowest: word(), mix: word(), worst: word() }
     };
     for _ in 0..2000 {
         let drawn = sums(&mut draw);

@@ -16,7 +16,7 @@ use Rattle.nyokazerubi.specs.declared.readings.Read.{Read}
 
 -- The version of the boundary.
 abbrev pub boundary : ℕ
-boundary = 2
+boundary = 3
 
 -- ---- starting and reporting
 

@@ -12,7 +12,7 @@ use lib.Signed.{leZ}
 use Rattle.rules.specs.Numbers.{most-actions, longest-coast, summary-numbers}
 use Rattle.rules.specs.Words.{sum}
 use Rattle.rules.specs.Run.{left-granted}
-use Rattle.rules.specs.Repeat.{LentBody, positions, stretch-at, lent-plan}
+use Rattle.rules.specs.Repeat.{LentBody, positions, stretch-at, lent-each, lent-plan}
 use Rattle.rules.specs.declared.Body.{Body}
 use Rattle.repeat_laws.specs.Standing.{Standing}
 use Rattle.repeat_laws.proofs.Standing.{fewer, rest-left}
@@ -281,7 +281,7 @@ module _ {b : Body} {T : LentBody} {place after t q end : ℕ} (S : Setting b T 
       granted-so-far = omega (arith, rest-is, steps-few, L .few)
 
       pub stops-at : to .entry < stop → (x : ℕ) → Standing b x place after
-          → end - to .rest ≡ left-granted longest-coast (lent-plan b T) t x q
+          → end - to .rest ≡ left-granted longest-coast (lent-each b T) t x q
       stops-at l x s =
           granted-so-far
           ∙ stopped b T t x q (λ r. S .few-numbers (r * summary-numbers)) (omega (arith, S .early)) some-action (L .ahead x s) (L .rooms) W (within x) l
@@ -319,7 +319,7 @@ module _ {b : Body} {T : LentBody} {place after t q end : ℕ} (S : Setting b T 
 
   -- nothing is left to be looked at
   pub ended : {here : Reached} → Coast here → here .rest ≤ 0 → (x : ℕ) → Standing b x place after
-      → end ≡ left-granted longest-coast (lent-plan b T) t x q
+      → end ≡ left-granted longest-coast (lent-each b T) t x q
   ended {here} C none x s =
       let all : end ≡ end - here .rest = omega (arith, none) in
       all ∙ whole b T t x q (C .granted x s) (omega (arith, none, S .end-is, rest-left some-action s))

@@ -15,7 +15,7 @@ use Rattle.rules.specs.Numbers.{most-repeats, longest-coast, summary-numbers}
 use Rattle.rules.specs.Words.{sum, span}
 use Rattle.rules.specs.Run.{left-granted}
 use Rattle.rules.specs.Dry.{cell}
-use Rattle.rules.specs.Repeat.{LentBody, positions, stretch-at, lent-plan}
+use Rattle.rules.specs.Repeat.{LentBody, positions, stretch-at, lent-each, lent-plan}
 use Rattle.rules.specs.declared.Body.{Body}
 use Rattle.rules.proofs.Sums.{sum-longer}
 use Rattle.rules.proofs.Tests.{not-both}
@@ -197,14 +197,14 @@ module _ (b : Body) (T : LentBody) (t i q : ℕ) where
     }
 
     pub rises : suc q < b .levels → leZ (pos t) (lent-plan b T .limit (i + suc left) (suc q)) ≡ true
-        → left ≡ left-granted longest-coast (lent-plan b T) t i q
+        → left ≡ left-granted longest-coast (lent-each b T) t i q
     rises top h = granted b T t i q left (a .coasting) (stops-rising b T t i q left top h)
 
-    pub falls : leZ (pos begins) (lent-plan b T .limit (i + suc left) q) ≡ false → left ≡ left-granted longest-coast (lent-plan b T) t i q
+    pub falls : leZ (pos begins) (lent-plan b T .limit (i + suc left) q) ≡ false → left ≡ left-granted longest-coast (lent-each b T) t i q
     falls h = granted b T t i q left (a .coasting) (stops-falling b T t i q left (rw (sym (a .begins-is)) h))
 
   pub whole : {left entry after begins : ℕ} → Granted left entry after begins → suc left ≡ min longest-coast (positions b - i)
-      → left ≡ left-granted longest-coast (lent-plan b T) t i q
+      → left ≡ left-granted longest-coast (lent-each b T) t i q
   whole {left} g e = granted b T t i q left (g .coasting) (stops-ending b T t i q left e)
 
   module _ (small : (k : ℕ) → stretch-at (T .summaries) k .average ≤ most-entry) (early : t ≤ latest) where
@@ -225,7 +225,7 @@ module _ (b : Body) (T : LentBody) (t i q : ℕ) where
           let why = go-why _ _ _ h in
           passes a (sym own-reads ∙ why .0) (λ top. sym (above-reads top) ∙ why .1 (lt-ltb (suc q) (b .levels) top)) most
 
-      pub stops-here : stops-there b (T .summaries) r q ≡ true → left ≡ left-granted longest-coast (lent-plan b T) t i q
+      pub stops-here : stops-there b (T .summaries) r q ≡ true → left ≡ left-granted longest-coast (lent-each b T) t i q
       stops-here h =
           ⊎-elim (λ down. falls a (sym own-reads ∙ down))
           (λ up. let top = ltb-true (suc q) (b .levels) (up .0) in rises a top (sym (above-reads top) ∙ up .1))
@@ -271,7 +271,7 @@ module _ (b : Body) (T : LentBody) (t i q : ℕ) where
       ahead (suc k) l h = stays some (onto k (omega (arith, l)) (ahead k (omega (arith, l)) (W .goes k (omega (arith, l)) .0))) (within (suc k) h .inside)
 
       -- it stops at a place, or has passed the last one
-      pub stopped : to .entry < stop → stops-there b (T .summaries) to q ≡ true → left + W .steps ≡ left-granted longest-coast (lent-plan b T) t i q
+      pub stopped : to .entry < stop → stops-there b (T .summaries) to q ≡ true → left + W .steps ≡ left-granted longest-coast (lent-each b T) t i q
       stopped l h =
           let here : r .entry + W .steps * b .levels < stop = omega (arith, l, ap (λ (x : Reached). x .entry) (W .is)) in
           stops-here (walked b (T .worst) r (W .steps)) (ahead (W .steps) (le-refl _) here) (roomed (W .steps)) (within (W .steps) here .late)

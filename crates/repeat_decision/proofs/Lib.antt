@@ -1,4 +1,5 @@
 pub mod Walking
 pub mod Going
 pub mod Coasts
+pub mod Ends
 pub mod Choosing

@@ -2,6 +2,7 @@
 // position is told by its place in its body and by the whole bodies after that one.
 use repeat_limits::Room;
 use repeat_limits::has_room;
+use repeat_limits::last_reach;
 use repeat_limits::room_before;
 use repeat_limits::room_nearer;
 use repeat_limits::taken;
@@ -11,7 +12,7 @@ ghost use mathlib.Core.List.{[]};
 ghost use Prim.Native.Nat.{ℕ, suc, _+_, _-_, _*_, _≤_, _<_, min};
 ghost use Rattle.rules.specs.Numbers.{most-actions, most-levels, most-repeats, longest-coast};
 ghost use Rattle.rules.specs.Run.{left-granted};
-ghost use Rattle.rules.specs.Repeat.{stretch-at, lent-plan};
+ghost use Rattle.rules.specs.Repeat.{stretch-at, lent-each, lent-plan};
 ghost use Rattle.repeat_laws.specs.Standing.{Standing};
 ghost use Rattle.repeat_limits.specs.Limits.{later-of, room-left, Near, narrowed-by};
 ghost use Rattle.repeat_decision.specs.Decision.{last-start, most-cells, Summarised, Fits, MayRise, onward-by, MayTurn, Turns, MayStop, stops-there, MayWalk, Walks, MayGrant, MayChoose, Chooses};
@@ -181,28 +182,29 @@ fn most(n: usize, own: usize, after: u32) -> usize
     lesser(rules::LONGEST_COAST, after as usize * n + own)
 }
 
-// What a decision leaves to coast for the level given, where that fits: one less than the greatest r that qualifies. It is found from below, body by
-// body, up to the first position at which the level above fits, or at which the level does not if each before it took its worst time: no longer coast
-// qualifies.
-fn left_granted(
+// What a decision leaves to coast for the level given, read at each position: one less than the greatest r that qualifies. It is found from below, body
+// by body, up to the first position at which the level above fits, or at which the level does not if each before it took its worst time: no longer
+// coast qualifies. `longest` is the longest that there may be.
+fn left_walked(
     body: Body,
     summaries: &[u32],
     worst: &[u32],
     place: usize,
     after: u32,
     fit: Fit,
+    longest: usize,
     t: u64,
 ) -> u8
-    requires { ⌜ MayGrant body (record { order = []; summaries = now summaries; worst = now worst }) place after fit t ⌝ }
+    requires { ⌜ MayGrant body (record { order = []; summaries = now summaries; worst = now worst }) place after fit t
+        × (longest ≡ min longest-coast (after * body .n + (body .n - place))) ⌝ }
     ensures { λ r. ⌜ ((x : ℕ) → Standing body x place after
         → r ≡ left-granted longest-coast
-        (lent-plan body (record { order = []; summaries = now (summaries .entry); worst = now (worst .entry) })) t x (fit .levels - 1)) ⌝ }
+        (lent-each body (record { order = []; summaries = now (summaries .entry); worst = now (worst .entry) })) t x (fit .levels - 1)) ⌝ }
 {
-    let n = body.n as usize;
     let levels = body.levels as usize;
     let level = fit.levels - 1;
-    let cells = n * levels;
-    let end = most(n, n - place, after) - 1;
+    let cells = body.n as usize * levels;
+    let end = longest - 1;
     let first = place * levels + level;
     let own = fit.own;
     let above = room_above(body, summaries, level, after, t);
@@ -226,6 +228,33 @@ fn left_granted(
         }
     }
     end as u8
+}
+
+// What a decision leaves to coast for the level given, where that fits. At the top level the longest coast that there may be is tried first, by its
+// ends: where time is ample, that is all.
+fn left_granted(
+    body: Body,
+    summaries: &[u32],
+    worst: &[u32],
+    place: usize,
+    after: u32,
+    fit: Fit,
+    t: u64,
+) -> u8
+    requires { ⌜ MayGrant body (record { order = []; summaries = now summaries; worst = now worst }) place after fit t ⌝ }
+    ensures { λ r. ⌜ ((x : ℕ) → Standing body x place after
+        → r ≡ left-granted longest-coast
+        (lent-plan body (record { order = []; summaries = now (summaries .entry); worst = now (worst .entry) })) t x (fit .levels - 1)) ⌝ }
+{
+    let n = body.n as usize;
+    let longest = most(n, n - place, after);
+    if fit.levels == body.levels as usize {
+        let last = last_reach(body, summaries, place, after, fit.levels - 1, longest);
+        if t + last <= body.cycle as u64 {
+            return (longest - 1) as u8;
+        }
+    }
+    left_walked(body, summaries, worst, place, after, fit, longest, t)
 }
 
 // ---- both

@@ -14,7 +14,7 @@ use Rattle.rules.specs.Order.{Order, TheOrder}
 use Rattle.rules.specs.Refusals.{Ground, _when_, First, Unfit, Tight, loop-checks}
 use Rattle.rules.specs.Run.{Run, decides}
 use Rattle.rules.specs.Dry.{before, cell, LongEntry}
-use Rattle.rules.specs.Repeat.{unrolled, Repeats, LentBody, body-of, lent-plan, PlannedBody, action-at, body-checks, body-frame-call}
+use Rattle.rules.specs.Repeat.{unrolled, Repeats, LentBody, body-of, lent-each, lent-plan, PlannedBody, action-at, body-checks, body-frame-call}
 use Rattle.rules.specs.declared.Body.{Body}
 use Rattle.rules.specs.declared.Refusal.{Refusal}
 use Rattle.rules.proofs.Differences.{not-above}
@@ -202,7 +202,7 @@ module _ {s : List ℕ} {N : ℕ} {lent : LentBody} {p : BodyPlanned} (P : Plann
 
         same-run : (i : ℕ) → i ≤ N * F .n
             → walk-at (body-of F N) (record { order = []; summaries = lent .summaries; worst = lent .worst }) durations i ≡ unrolled-run s N durations order i
-        unfolding lent-plan
+        unfolding lent-plan lent-each
         same-run i l = sym (lent-run planned-is the-unrolled longest-coast (cell durations (F .levels)) 0 i l)
 
         module _ {after : FrameLists} {last : Run}

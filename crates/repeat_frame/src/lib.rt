@@ -136,9 +136,9 @@ pub fn dry_frame(
         (record { order = now (order .entry); levels = now (given .entry); decided = now (marks .entry) })
         (record { order = now (order .exit); levels = now (given .exit); decided = now (marks .exit) }) r ⌝ }
 {
-    // room for the greatest body: 64 actions at 8 levels, three numbers each
+    // room for the greatest body: 64 actions at 8 levels, four numbers each
     let mut actions = [0u8; 64];
-    let mut summaries = [0u32; 1536];
+    let mut summaries = [0u32; 2048];
     let mut worst = [0u32; 512];
     let planned = repeat_planner::plan(image, repeats, &mut actions, &mut summaries, &mut worst);
     let refusal = planned.refusal;

@@ -4,12 +4,13 @@ use mathlib.Core.Path.{_≡_, ap, ap₂, sym, _∙_}
 use native.Mathlib.Nat.{le-refl, suc-mul, div-add-mod'}
 use native.Mathlib.Omega.{arith}
 use lib.IntN.{pos, _-ℤ_}
+use Rattle.rules.specs.Words.{span}
 use Rattle.rules.specs.Image.{Profile}
 use Rattle.rules.specs.Order.{Order}
 use Rattle.rules.specs.Limits.{Tables, tables, limit}
 use Rattle.rules.proofs.Limits.Mixed.{Sound}
 use Rattle.repeat_laws.proofs.Repeatable.{Repeatable}
-use Rattle.rules.specs.Repeat.{Sums, stretch, Summary, empty, of, summary, joined, followed, join, bodies, rest-of, body-of, mix-from}
+use Rattle.rules.specs.Repeat.{Sums, stretch, Summary, empty, of, summary, joined, followed, join, bodies, rest-of, body-of, mix-from, worst-from}
 use Rattle.repeat_laws.proofs.Places.{place-of, place-lt, row-lt, inside}
 use Rattle.repeat_laws.proofs.Order.{due-unrolled, repeated, repeated-at}
 use Rattle.repeat_laws.proofs.Mixed.{mixed-greatest, limit-one}
@@ -20,13 +21,14 @@ pub summary-some : (S : Tables) (q i m : ℕ) → 0 < m → summary S q i m ≡ 
 summary-some S q i zero l = let no-such : ⊥ = omega arith in absurd no-such
 summary-some S q i (suc m) l = let e : suc m - 1 ≡ m = omega arith in rw e
 
-mix-of : Summary → ℕ
-mix-of empty = 0
-mix-of (of x) = x .mix
+-- what a summary of some positions is of; of none, anything
+sums-of : Sums → Summary → Sums
+sums-of x empty = x
+sums-of x (of y) = y
 
-same-mix : {x y : Sums} → of x ≡ of y → x .mix ≡ y .mix
-unfolding mix-of
-same-mix e = ap mix-of e
+same-sums : {x y : Sums} → of x ≡ of y → x ≡ y
+unfolding sums-of
+same-sums {x} e = ap (sums-of x) e
 
 module _ {F : Profile} (body : Repeatable F) (N : ℕ) (o : Order (F .n)) where
   -- ---- position j n + b of the unrolled system has the times of position b of the body
@@ -69,15 +71,15 @@ module _ {F : Profile} (body : Repeatable F) (N : ℕ) (o : Order (F .n)) where
 
     -- all positions from j n + b on
     pub rest-closed : (j b : ℕ) → j < N → b < F .n
-        → stretch (unrolled-tables body N o) q (j * F .n + b) (N * F .n - 1) .mix
-        ≡ followed (stretch (tables F o) q b (F .n - 1)) (bodies (stretch (tables F o) q 0 (F .n - 1)) (N - 1 - j)) .mix
+        → stretch (unrolled-tables body N o) q (j * F .n + b) (N * F .n - 1)
+        ≡ followed (stretch (tables F o) q b (F .n - 1)) (bodies (stretch (tables F o) q 0 (F .n - 1)) (N - 1 - j))
     rest-closed j b h l =
         let r : ℕ = N - 1 - j in
         let rows : N * F .n ≡ (j + 1 + r) * F .n = (let e : N ≡ j + 1 + r = omega arith in ap (λ (y : ℕ). y * F .n) e) in
         let count : N * F .n - (j * F .n + b) ≡ F .n - b + r * F .n = omega arith in
         let last : j * F .n + b + (N * F .n - (j * F .n + b) - 1) ≡ N * F .n - 1 = omega (arith, inside (body .some) h l) in
         let next : j * F .n + b + (F .n - b) ≡ suc j * F .n = omega arith in
-        same-mix (
+        same-sums (
         ap (λ (y : ℕ). of (stretch (unrolled-tables body N o) q (j * F .n + b) y)) (sym last)
         ∙ sym (summary-some (unrolled-tables body N o) q (j * F .n + b) (N * F .n - (j * F .n + b)) (omega (arith, inside (body .some) h l)))
         ∙ ap (summary (unrolled-tables body N o) q (j * F .n + b)) count
@@ -95,7 +97,7 @@ module _ {F : Profile} (body : Repeatable F) (N : ℕ) (o : Order (F .n)) where
         limit-one (unrolled-tables body N o) (F .cycle) (j * F .n + b) q low (λ k a. due-unrolled body N _)
         ∙ ap (λ (y : ℕ). pos (F .cycle) -ℤ pos y) (
         mixed-greatest (unrolled-tables body N o) q (j * F .n + b) (N * F .n - 1) (omega arith) (sound .ordered (N * F .n - 1) q (omega arith) m)
-        ∙ rest-closed j b h l
+        ∙ ap (λ (x : Sums). x .mix) (rest-closed j b h l)
         )
 
     -- The same at any position.
@@ -106,6 +108,15 @@ module _ {F : Profile} (body : Repeatable F) (N : ℕ) (o : Order (F .n)) where
         ap (λ (y : ℕ). limit (unrolled-tables body N o) y q) (sym (div-add-mod' x (F .n)))
         ∙ limit-closed sound m (x / F .n) (x % F .n) (row-lt (body .some) h) (place-lt (body .some) x)
 
+    -- The worst times from a position on, in the same way.
+    pub worst-closed : (x : ℕ) → x < N * F .n
+        → worst-from (body-of F N) (rest-of (tables F o)) x q ≡ span (λ p. unrolled-tables body N o .worst p q) x (N * F .n)
+    unfolding worst-from stretch
+    worst-closed x h =
+        let last : suc (N * F .n - 1) ≡ N * F .n = omega arith in
+        sym (ap (λ (y : Sums). y .worst) (rest-closed (x / F .n) (x % F .n) (row-lt (body .some) h) (place-lt (body .some) x)))
+        ∙ ap₂ (span (λ p. unrolled-tables body N o .worst p q)) (div-add-mod' x (F .n)) last
+
   pub worst-there : (x q : ℕ) → unrolled-tables body N o .worst x q ≡ F .worst (o .at (x % F .n)) q
   worst-there x q =
       ap (λ (y : ℕ). unrolled-tables body N o .worst y q) (sym (div-add-mod' x (F .n)))
@@ -114,5 +125,5 @@ module _ {F : Profile} (body : Repeatable F) (N : ℕ) (o : Order (F .n)) where
 -- ---- the summaries of the rest of a body, from its last position back
 
 pub stretch-front : (S : Tables) (q b k : ℕ) → b < k
-    → stretch S q b k ≡ joined (record { average = S .average b q; lowest = S .worst b 0; mix = S .worst b q }) (stretch S q (suc b) k)
+    → stretch S q b k ≡ joined (record { average = S .average b q; lowest = S .worst b 0; mix = S .worst b q; worst = S .worst b q }) (stretch S q (suc b) k)
 stretch-front S q b k l = stretch-joined S q b b k (le-refl b) l ∙ ap (λ (x : Sums). joined x (stretch S q (suc b) k)) (stretch-one S q b)

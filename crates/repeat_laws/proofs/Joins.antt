@@ -11,13 +11,13 @@ use Rattle.rules.proofs.Sums.{sum-longer}
 use Rattle.rules.specs.Repeat.{Sums, stretch, Summary, empty, of, summary, joined, join, bodies}
 use Rattle.repeat_laws.proofs.Mixed.{each-greatest, greatest-under, turned}
 
-pub same : {x y : Sums} → x .average ≡ y .average → x .lowest ≡ y .lowest → x .mix ≡ y .mix → x ≡ y
-same p q r = λ i. record { average = p i; lowest = q i; mix = r i }
+pub same : {x y : Sums} → x .average ≡ y .average → x .lowest ≡ y .lowest → x .mix ≡ y .mix → x .worst ≡ y .worst → x ≡ y
+same p q r s = λ i. record { average = p i; lowest = q i; mix = r i; worst = s i }
 
 -- ---- the join
 
 pub joined-assoc : (x y z : Sums) → joined (joined x y) z ≡ joined x (joined y z)
-joined-assoc x y z = same (omega arith) (omega arith) (omega arith)
+joined-assoc x y z = same (omega arith) (omega arith) (omega arith) (omega arith)
 
 pub join-assoc : (x y z : Summary) → join (join x y) z ≡ join x (join y z)
 join-assoc empty y z = refl
@@ -44,12 +44,16 @@ module _ (S : Tables) (q : ℕ) where
       (le-antisymm
       (greatest-under (turned S q i l) i (l - i) _ (λ j u v. go j u (omega arith) (decLe j k)))
       (omega (arith, first, second)))
+      (omega (arith, sum-longer v i (suc k) (omega arith), sum-longer v (suc k) (suc l) (omega arith)))
     where
       f : ℕ → ℕ
       f p = S .average p q
 
       w : ℕ → ℕ
       w p = S .worst p 0
+
+      v : ℕ → ℕ
+      v p = S .worst p q
 
       M : ℕ → ℕ → ℕ
       M x y = greatest-of (turned S q x y) x (y - x)
@@ -109,9 +113,9 @@ module _ (S : Tables) (q : ℕ) where
       rw (e, f, g) (ap of (stretch-joined i (i + m) (suc (i + m) + l) (omega arith) (omega arith)))
 
   -- one position
-  pub stretch-one : (k : ℕ) → stretch S q k k ≡ record { average = S .average k q; lowest = S .worst k 0; mix = S .worst k q }
+  pub stretch-one : (k : ℕ) → stretch S q k k ≡ record { average = S .average k q; lowest = S .worst k 0; mix = S .worst k q; worst = S .worst k q }
   unfolding stretch sum greatest-of
-  stretch-one k = same (omega arith) (omega arith) (let e : k - k ≡ 0 = omega arith in rw e (omega arith))
+  stretch-one k = same (omega arith) (omega arith) (let e : k - k ≡ 0 = omega arith in rw e (omega arith)) (omega arith)
 
 -- ---- equal stretches
 
@@ -133,14 +137,14 @@ stretch-moved S T q s i k l = le-ind (λ (m : ℕ). ((p : ℕ) → p ≤ m → T
     ∙ sym (stretch-joined S q i m (suc m) h (le-refl _))) k l
   where
     one : (p : ℕ) → T .average (s + p) q ≡ S .average p q → ((r : ℕ) → T .worst (s + p) r ≡ S .worst p r) → stretch T q (s + p) (s + p) ≡ stretch S q p p
-    one p a w = stretch-one T q (s + p) ∙ same a (w 0) (w q) ∙ sym (stretch-one S q p)
+    one p a w = stretch-one T q (s + p) ∙ same a (w 0) (w q) (w q) ∙ sym (stretch-one S q p)
 
 -- ---- equal bodies
 
 -- m bodies and one more
 pub bodies-more : (x : Sums) (m : ℕ) → join (bodies x m) (of x) ≡ bodies x (suc m)
-bodies-more x zero = ap of (same (omega arith) (omega arith) (omega arith))
-bodies-more x (suc m) = ap of (same (omega arith) (omega arith) (go (decLe (x .average) (x .lowest))))
+bodies-more x zero = ap of (same (omega arith) (omega arith) (omega arith) (omega arith))
+bodies-more x (suc m) = ap of (same (omega arith) (omega arith) (go (decLe (x .average) (x .lowest))) (omega arith))
   where
     A : ℕ
     A = x .average

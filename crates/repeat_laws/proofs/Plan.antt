@@ -1,25 +1,29 @@
 -- What the manager reads of a body repeated, worked out position by position, is the plan of the unrolled system.
-use Prim.Native.Nat.{ℕ, zero, suc, _+_, _-_, _*_, _%_, _≤_, _<_}
+use Prim.Native.Nat.{ℕ, zero, suc, _+_, _-_, _*_, _%_, _≤_, _<_, max}
 use mathlib.Core.Path.{_≡_, refl, ap, ap₂, sym, subst, _∙_}
 use mathlib.Core.Logic.{_↔_, ⊎-map}
 use native.Mathlib.Omega.{arith}
 use lib.IntN.{ℤ, pos, _-ℤ_}
 use lib.Signed.{_≤ℤ_}
 use borrow.Author.Tests.{le-ltb}
-use Rattle.rules.specs.Words.{minZ, least-of}
+use Rattle.rules.specs.Words.{span, minZ, least-of}
 use Rattle.rules.specs.Image.{Profile}
 use Rattle.rules.specs.Order.{Order, TheOrder}
 use Rattle.rules.specs.Limits.{tables, limit, coast-bound, Plan, planned, Gives}
 use Rattle.rules.specs.Refusals.{Table}
-use Rattle.rules.proofs.Sums.{span-same}
+use Rattle.rules.proofs.Sums.{sum-longer, span-same}
+use Rattle.rules.proofs.Differences.{take-both}
+use Rattle.rules.proofs.Limits.Signed.{AtMost, at-most-less, least-all}
+use Rattle.rules.proofs.Limits.Mixed.{Sound}
 use Rattle.rules.specs.Dry.{before}
 use Rattle.rules.proofs.Order.OfProfile.{order-settled}
 use Rattle.rules.proofs.Demand.Alike.{Alike, before-alike}
 use Rattle.repeat_laws.proofs.Repeatable.{Repeatable}
-use Rattle.rules.specs.Repeat.{unrolled, rest-of, body-of, body-plan}
+use Rattle.rules.specs.Repeat.{unrolled, rest-of, body-of, mix-from, worst-from, limit-from, body-plan, ends-mix}
 use Rattle.repeat_laws.proofs.Order.{due-unrolled, repeated-order}
-use Rattle.repeat_laws.proofs.Rule.{unrolled-sound}
-use Rattle.repeat_laws.proofs.Closed.{limit-there, worst-there}
+use Rattle.repeat_laws.proofs.Rule.{unrolled-tables, unrolled-sound}
+use Rattle.repeat_laws.proofs.Closed.{limit-there, worst-closed, worst-there}
+use Rattle.repeat_laws.proofs.Coasts.{coast-one}
 use Rattle.repeat_laws.proofs.Settled.{limit-settled}
 
 pub least-same : (f g : ℕ → ℤ) (i m : ℕ) → ((j : ℕ) → i ≤ j → j ≤ i + m → f j ≡ g j) → least-of f i m ≡ least-of g i m
@@ -88,3 +92,57 @@ module _ {F : Profile} (body : Repeatable F) (N : ℕ) {o : Order (F .n)} (x : T
 
       from : (k : ℕ) → k < F .levels → pos t ≤ℤ repeat-plan F N o .limit i k → pos t ≤ℤ limit (tables (unrolled F N) p) i k
       from k m = subst (λ (z : ℤ). pos t ≤ℤ z) (sym (limit-exact i k l m))
+
+-- By the ends of a coast alone it is the same: its last position needs no less than any other.
+module _ {F : Profile} (body : Repeatable F) (N : ℕ) {o : Order (F .n)} (x : TheOrder F o) (levels : 0 < F .levels) (table : Table F → ⊥)
+    (i q r : ℕ) (m : q < F .levels) (some : 0 < r) (room : i + r ≤ N * F .n) where
+  abbrev last : ℕ
+  last = i + (r - 1)
+
+  abbrev w : ℕ → ℕ
+  w p = unrolled-tables body N o .worst p q
+
+  abbrev mix : ℕ → ℕ
+  mix k = mix-from (body-of F N) (rest-of (tables F o)) k q
+
+  spent : worst-from (body-of F N) (rest-of (tables F o)) i q - worst-from (body-of F N) (rest-of (tables F o)) last q ≡ span w i last
+  spent = omega (
+    arith,
+    worst-closed body N o q i (omega arith),
+    worst-closed body N o q last (omega arith),
+    sum-longer w i last (omega arith),
+    sum-longer w last (N * F .n) (omega arith),
+  )
+
+  sound : Sound (unrolled-tables body N o)
+  sound = unrolled-sound body N o levels table
+
+  -- the coast bound is the limit of the last position less the worst times before it
+  by-last : repeat-plan F N o .bound i q r ≡ pos (F .cycle) -ℤ pos (mix last + span w i last)
+  by-last =
+      let e : i + r - 1 ≡ last = omega arith in
+      sym (bound-exact body N x levels table (repeated-order body N x) i q r m some room)
+      ∙ coast-one (unrolled-tables body N o) sound q m (F .cycle) (λ k h. due-unrolled body N _) i r some room
+      ∙ ap (λ (k : ℕ). limit (unrolled-tables body N o) k q -ℤ pos (span w i k)) e
+      ∙ ap (λ (z : ℤ). z -ℤ pos (span w i last)) (limit-there body N o q sound m last (omega arith))
+      ∙ take-both (F .cycle) (mix last) (span w i last)
+
+  -- and the first position has as much
+  first-less : mix i ≤ mix last + span w i last
+  first-less =
+      let c : ℕ = F .cycle in
+      let all : ℕ = mix last + span w i last in
+      let most : AtMost c all (repeat-plan F N o .bound i q r) = subst (AtMost c all) (sym by-last) (at-most-less c all (pos c) all .1 (omega arith)) in
+      let first = least-all (λ j. limit-from (body-of F N) (rest-of (tables F o)) j q -ℤ pos (before j)) c all i (r - 1) most i (omega arith) (omega arith) in
+      let none : c + before i ≡ c = omega arith in
+      let here : AtMost (c + before i) all (pos c -ℤ pos (mix i)) = at-most-less c all (pos c -ℤ pos (mix i)) (before i) .0 first in
+      omega (arith, at-most-less c all (pos c) (mix i) .0 (rw none at here))
+    where
+      before : ℕ → ℕ
+      before j = span (λ p. F .worst (o .at (p % F .n)) q) i j
+
+  pub ends-exact : pos (F .cycle) -ℤ pos (ends-mix (body-of F N) (rest-of (tables F o)) i q r) ≡ repeat-plan F N o .bound i q r
+  ends-exact =
+      let e : max (mix i) (worst-from (body-of F N) (rest-of (tables F o)) i q - worst-from (body-of F N) (rest-of (tables F o)) last q + mix last)
+      ≡ mix last + span w i last = omega (arith, spent, first-less) in
+      ap (λ (k : ℕ). pos (F .cycle) -ℤ pos k) e ∙ sym by-last

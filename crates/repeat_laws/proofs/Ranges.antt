@@ -22,11 +22,12 @@ use Rattle.rules.specs.declared.Body.{Body}
 use Rattle.repeat_laws.proofs.Places.{place-lt}
 use Rattle.repeat_laws.proofs.Mixed.{greatest-under, turned}
 
--- the three numbers of a stretch are at most b
+-- the numbers of a stretch are at most b
 pub record Within (b : ℕ) (x : Sums) : Type 0 where
   pub average : x .average ≤ b
   pub lowest : x .lowest ≤ b
   pub mix : x .mix ≤ b
+  pub worst : x .worst ≤ b
 
 -- times up to c at m positions come to at most m c
 pub stretch-within : (S : Tables) (c q i k : ℕ) → i ≤ k → ((p : ℕ) → p ≤ k → S .average p q ≤ c) → ((p : ℕ) → p ≤ k → S .worst p q ≤ c)
@@ -45,6 +46,7 @@ stretch-within S c q i k l a w w0 = record {
         w j (omega arith),
         span-cap (λ p. S .worst p 0) c (suc j) (suc k) (omega arith) (λ p x y. w0 p (omega arith)),
       ));
+  worst = span-cap (λ p. S .worst p q) c i (suc k) (omega arith) (λ p u v. w p (omega arith));
 }
 
 pub joined-within : {a b : ℕ} {x y : Sums} → Within a x → Within b y → Within (a + b) (joined x y)
@@ -52,15 +54,22 @@ joined-within h k = record {
   average = omega (arith, h .average, k .average);
   lowest = omega (arith, h .lowest, k .lowest);
   mix = omega (arith, h .mix, k .mix, h .average, k .lowest);
+  worst = omega (arith, h .worst, k .worst);
 }
 
 -- some positions and then m bodies
 pub followed-within : {a b : ℕ} {x y : Sums} → Within a x → Within b y → (m : ℕ) → Within (a + m * b) (followed x (bodies y m))
-followed-within {a} {b} {x} {y} h k zero = record { average = omega (arith, h .average); lowest = omega (arith, h .lowest); mix = omega (arith, h .mix) }
+followed-within {a} {b} {x} {y} h k zero = record {
+  average = omega (arith, h .average);
+  lowest = omega (arith, h .lowest);
+  mix = omega (arith, h .mix);
+  worst = omega (arith, h .worst);
+}
 followed-within {a} {b} {x} {y} h k (suc m) = joined-within h (record {
   average = mul-le-mul-left (suc m) (k .average);
   lowest = mul-le-mul-left (suc m) (k .lowest);
   mix = omega (arith, k .mix, mul-le-mul-left m greater);
+  worst = mul-le-mul-left (suc m) (k .worst);
 })
   where
     greater : max (y .average) (y .lowest) ≤ b
@@ -134,7 +143,12 @@ module _ (F : Profile) (o : Order (F .n)) (counts : Count F → ⊥) (times : Ti
       (λ p h. worst-within F o times p q (omega arith) m) (λ p h. worst-within F o times p 0 (omega arith) (omega arith)) in
       let fewer : suc (F .n - 1) - i ≤ 64 = omega (arith, few) in
       let most : (suc (F .n - 1) - i) * longest-time ≤ 64 * longest-time = mul-le-mul-right longest-time fewer in
-      record { average = omega (arith, w .average, most); lowest = omega (arith, w .lowest, most); mix = omega (arith, w .mix, most) }
+      record {
+        average = omega (arith, w .average, most);
+        lowest = omega (arith, w .lowest, most);
+        mix = omega (arith, w .mix, most);
+        worst = omega (arith, w .worst, most);
+      }
 
 -- ---- and nor is 19
 

@@ -1,5 +1,5 @@
 -- Where an unrolled position stands: its place in its body, and the whole bodies after that one. Assumes nothing.
-use Prim.Native.Nat.{ℕ, suc, _+_, _-_, _*_, _/_, _%_, _<_}
+use Prim.Native.Nat.{ℕ, suc, _+_, _-_, _*_, _/_, _%_, _≤_, _<_}
 use mathlib.Core.Path.{_≡_, ap, sym, _∙_}
 use mathlib.Core.Logic.{_≢_}
 use native.Mathlib.Nat.{div-add-mod'}
@@ -46,6 +46,22 @@ module _ {b : Body} (some : 0 < b .n) where
             present = l;
             place-is = sym (place-of some (suc (y / b .n)) some) ∙ ap (λ (x : ℕ). x % b .n) at;
             after-is = omega (arith, s .after-is, row);
+          },
+        )
+
+    -- So many positions on it is as many places on, past the bodies between.
+    pub further : (k : ℕ) → y + k < b .repeats * b .n → ((a + k) / b .n ≤ m) × Standing b (y + k) ((a + k) % b .n) (m - (a + k) / b .n)
+    further k l =
+        let p : ℕ = (a + k) / b .n in
+        let low : (a + k) % b .n < b .n = place-lt some (a + k) in
+        let at : (y / b .n + p) * b .n + (a + k) % b .n ≡ y + k = omega (arith, div-add-mod' y (b .n), div-add-mod' (a + k) (b .n), s .place-is) in
+        let row : (y + k) / b .n ≡ y / b .n + p = ap (λ (x : ℕ). x / b .n) (sym at) ∙ row-of some (y / b .n + p) low in
+        let lower = row-lt some l in (
+          omega (arith, s .after-is, row, lower),
+          record {
+            present = l;
+            place-is = sym (place-of some (y / b .n + p) low) ∙ ap (λ (x : ℕ). x % b .n) at;
+            after-is = omega (arith, s .after-is, row, lower);
           },
         )
 

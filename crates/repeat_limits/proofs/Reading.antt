@@ -1,10 +1,10 @@
 -- What the limits and the coast bounds of lent tables read of them. Assumes nothing.
-use Prim.Native.Nat.{ℕ, _+_, _-_, _*_, _/_, _%_}
+use Prim.Native.Nat.{ℕ, zero, suc, _+_, _-_, _*_, _/_, _%_}
 use mathlib.Core.Path.{_≡_, refl, ap, ap₂, sym, _∙_}
 use mathlib.Core.List.{List, []}
 use native.Mathlib.Omega.{arith}
 use lib.IntN.{pos, _-ℤ_}
-use Rattle.rules.specs.Repeat.{LentBody, positions, mix-from, stretch-at, lent-plan}
+use Rattle.rules.specs.Repeat.{Sums, followed, bodies, LentBody, positions, mix-from, worst-from, stretch-at, lent-each, lent-plan}
 use Rattle.rules.specs.declared.Body.{Body}
 use Rattle.repeat_laws.specs.Standing.{Standing}
 use Rattle.repeat_limits.proofs.Sizes.{mix-of}
@@ -20,6 +20,20 @@ standing-mix {b} s {x} q h =
     let first : q ≡ 0 * b .levels + q = omega arith in
     ap₂ (λ (p m : ℕ). mix-of s (p * b .levels + q) q m) (h .place-is) (h .after-is)
     ∙ ap (λ (y : ℕ). mix-of s (x % b .n * b .levels + q) y (b .repeats - 1 - x / b .n)) first
+
+-- and V: of the rest of a body and the bodies after it
+followed-worst : (x y : Sums) (m : ℕ) → followed x (bodies y m) .worst ≡ x .worst + m * y .worst
+followed-worst x y zero = omega arith
+followed-worst x y (suc m) = refl
+
+pub standing-worst : {b : Body} (s : List ℕ) {x place after : ℕ} (q : ℕ) → Standing b x place after
+    → stretch-at s (place * b .levels + q) .worst + after * stretch-at s q .worst ≡ worst-from b (λ i r. stretch-at s (i * b .levels + r)) x q
+unfolding worst-from
+standing-worst {b} s {x} q h =
+    let first : q ≡ 0 * b .levels + q = omega arith in
+    ap₂ (λ (p m : ℕ). stretch-at s (p * b .levels + q) .worst + m * stretch-at s q .worst) (h .place-is) (h .after-is)
+    ∙ ap (λ (y : ℕ). stretch-at s (x % b .n * b .levels + q) .worst + (b .repeats - 1 - x / b .n) * stretch-at s y .worst) first
+    ∙ sym (followed-worst (stretch-at s (x % b .n * b .levels + q)) (stretch-at s (0 * b .levels + q)) (b .repeats - 1 - x / b .n))
 
 pub limit-read : {b : Body} (T : LentBody) {x place after : ℕ} (q : ℕ) → Standing b x place after
     → lent-plan b T .limit x q ≡ pos (b .cycle) -ℤ pos (mix-of (T .summaries) (place * b .levels + q) q after)
@@ -37,5 +51,5 @@ limit-same b T s i q e = rw e
 
 pub bound-same : (b : Body) (T U : LentBody) (i q r : ℕ) → T .summaries ≡ U .summaries → T .worst ≡ U .worst
     → lent-plan b U .bound i q r ≡ lent-plan b T .bound i q r
-unfolding lent-plan
+unfolding lent-plan lent-each
 bound-same b T U i q r e f = rw (e, f)

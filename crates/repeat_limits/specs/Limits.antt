@@ -12,7 +12,7 @@ use Rattle.rules.specs.Image.{Profile}
 use Rattle.rules.specs.Order.{Order, TheOrder}
 use Rattle.rules.specs.Limits.{tables, limit, planned}
 use Rattle.rules.specs.Refusals.{kept}
-use Rattle.rules.specs.Repeat.{unrolled, Sums, bodies, stretch-at, LentBody, positions, lent-plan, PlannedBody, body-limit-refusal, body-bound-refusal, bound-or-absent}
+use Rattle.rules.specs.Repeat.{unrolled, Sums, bodies, mix-from, worst-from, stretch-at, rest-lent, LentBody, positions, lent-plan, PlannedBody, body-limit-refusal, body-bound-refusal, bound-or-absent}
 use Rattle.rules.specs.declared.Body.{Body}
 use Rattle.repeat_limits.specs.declared.Limited.{Limited}
 use Rattle.repeat_limits.specs.declared.Later.{Later}
@@ -50,7 +50,8 @@ latest = 4398046511104
 abbrev pub ample : ℕ
 ample = 4611686018427387904
 
--- entries of 32 bits, whoever wrote them: one, the most that 1,619 and 1,620 bodies come to, and that with the worst times of 15 positions
+-- entries of 32 bits, whoever wrote them: one, the most that 1,619 and 1,620 bodies come to, and that with as many worst times as a coast has
+-- actions
 abbrev pub most-entry : ℕ
 most-entry = 4294967295
 
@@ -61,7 +62,7 @@ abbrev pub greatest-mix : ℕ
 greatest-mix = 6957847017900
 
 abbrev pub greatest-reach : ℕ
-greatest-reach = 7022271527325
+greatest-reach = 7026566494620
 
 -- the counts of a body in their ranges
 pub record CountsIn (b : Body) : Type 0 where
@@ -149,14 +150,32 @@ pub record MoreAfter (b : Body) (place after : ℕ) : Type 0 where
   pub few : b .n ≤ most-actions
   pub more : suc place ≡ b .n → 0 < after
 
--- a coast of so many positions from a place on, with as many summaries and worst times lent as the body says
-pub record Coasts (b : Body) (T : LentBody) (place after q r : ℕ) : Type 0 where
+-- so many positions from a place on, with as many summaries lent as the body says
+pub record Spans (b : Body) (summaries : List ℕ) (place after q r : ℕ) : Type 0 where
   pub counts : CountsIn b
-  pub summed : b .n * b .levels * summary-numbers ≤ length (T .summaries)
-  pub timed : b .n * b .levels ≤ length (T .worst)
+  pub summed : b .n * b .levels * summary-numbers ≤ length summaries
   pub inside : place < b .n
   pub fewer : after < b .repeats
   pub level : q < b .levels
   pub some : 0 < r
   pub most : r ≤ longest-coast
   pub room : r ≤ after * b .n + (b .n - place)
+
+-- a coast over them, with as many worst times
+pub record Coasts (b : Body) (T : LentBody) (place after q r : ℕ) : Type 0 where
+  pub spans : Spans b (T .summaries) place after q r
+  pub timed : b .n * b .levels ≤ length (T .worst)
+
+-- the summaries of entries x, y and q, and fewer bodies than a coast has actions
+pub record Passes (summaries : List ℕ) (x y q passed : ℕ) : Type 0 where
+  pub first : x * summary-numbers + summary-numbers ≤ length summaries
+  pub last : y * summary-numbers + summary-numbers ≤ length summaries
+  pub whole : q * summary-numbers + summary-numbers ≤ length summaries
+  pub few : passed < longest-coast
+
+-- the worst times of a coast before its last position, by V, and M from that on
+abbrev pub last-mix : Body → List ℕ → ℕ → ℕ → ℕ → ℕ
+last-mix b summaries i q r =
+    let rest : ℕ → ℕ → Sums = rest-lent b (record { order = []; summaries = summaries; worst = [] }) in
+    let last : ℕ = i + (r - 1) in
+    worst-from b rest i q - worst-from b rest last q + mix-from b rest last q

@@ -4,15 +4,15 @@ use rules::Body;
 use rules::Refusal;
 ghost use mathlib.Core.Path.{_≡_};
 ghost use mathlib.Core.List.{[]};
-ghost use Prim.Native.Nat.{ℕ, suc, _+_, _-_, _*_, _≤_, _<_, max};
+ghost use Prim.Native.Nat.{ℕ, suc, _+_, _-_, _*_, _≤_, _<_, max, min};
 ghost use lib.IntN.{pos, _+ℤ_, _-ℤ_};
 ghost use lib.ListN.{length, getD};
 ghost use lib.Signed.{mag};
-ghost use Rattle.rules.specs.Numbers.{most-repeats, summary-numbers};
+ghost use Rattle.rules.specs.Numbers.{most-repeats, longest-coast, summary-numbers};
 ghost use Rattle.rules.specs.Refusals.{first};
-ghost use Rattle.rules.specs.Repeat.{followed, bodies, stretch-at, positions, lent-plan, body-tests, body-limit-refusal, body-bound-refusal};
+ghost use Rattle.rules.specs.Repeat.{followed, bodies, stretch-at, positions, lent-each, lent-plan, body-tests, body-limit-refusal, body-bound-refusal};
 ghost use Rattle.repeat_laws.specs.Standing.{Standing};
-ghost use Rattle.repeat_limits.specs.Limits.{signed-above, most-entry, greatest-mix, greatest-reach, CountsIn, Stands, Summed, later-of, BodiesAfter, Before, mix-before, LeavesRoom, Nears, room-left, fits-in, MoreAfter, Coasts, LimitAnswers, BoundAnswers};
+ghost use Rattle.repeat_limits.specs.Limits.{signed-above, most-entry, greatest-mix, greatest-reach, CountsIn, Stands, Summed, later-of, BodiesAfter, Before, mix-before, LeavesRoom, Nears, room-left, fits-in, MoreAfter, Spans, Coasts, Passes, last-mix, LimitAnswers, BoundAnswers};
 
 // What the limit or the coast bound asked for is; with a refusal it is 0.
 #[repr(C)]
@@ -37,7 +37,13 @@ fn less(a: u64, b: u64) -> i64
     a as i64 - b as i64
 }
 
-// Number k of entry x: 0 is A, 1 is W, 2 is M.
+fn lesser(a: u64, b: u64) -> u64
+    ensures { λ r. ⌜ r ≡ min a b ⌝ }
+{
+    if a < b { a } else { b }
+}
+
+// Number k of entry x: 0 is A, 1 is W, 2 is M, 3 is V.
 fn number_at(summaries: &[u32], x: usize, k: usize) -> u64
     requires { ⌜ (x * summary-numbers + summary-numbers ≤ length (now summaries)) × (k < summary-numbers) ⌝ }
     ensures is { λ r. ⌜ r ≡ getD (now (summaries .entry)) (x * summary-numbers + k) 0 ⌝ }
@@ -218,7 +224,7 @@ fn reach(
     requires { ⌜ Coasts body (record { order = []; summaries = now summaries; worst = now worst }) place after level length ⌝ }
     ensures small { λ r. ⌜ r ≤ greatest-reach ⌝ }
     ensures is { λ r. ⌜ ((i : ℕ) → Standing body i place after → pos (body .cycle) -ℤ pos r
-        ≡ lent-plan body (record { order = []; summaries = now (summaries .entry); worst = now (worst .entry) }) .bound i level length) ⌝ }
+        ≡ lent-each body (record { order = []; summaries = now (summaries .entry); worst = now (worst .entry) }) .bound i level length) ⌝ }
 {
     let levels = body.levels as usize;
     let mut most = mix_from(summaries, place * levels + level, level, after);
@@ -233,6 +239,68 @@ fn reach(
         k += 1;
     }
     most
+}
+
+// ---- a coast by its ends
+
+// The worst times from entry x up to entry y, which is so many bodies on, each summed up in entry q; 0 where those from y on are more.
+fn spent_before(summaries: &[u32], x: usize, y: usize, q: usize, passed: u32) -> u64
+    requires { ⌜ Passes (now summaries) x y q passed ⌝ }
+    ensures is { λ r. ⌜ r ≡ stretch-at (now (summaries .entry)) x .worst + passed * stretch-at (now (summaries .entry)) q .worst
+        - stretch-at (now (summaries .entry)) y .worst ⌝ }
+    ensures small { λ r. ⌜ r ≤ longest-coast * most-entry ⌝ }
+{
+    let all = number_at(summaries, x, 3) + passed as u64 * number_at(summaries, q, 3);
+    let rest = number_at(summaries, y, 3);
+    if all < rest { 0 } else { all - rest }
+}
+
+// The worst times of a coast before its last position, and M from that on: what the cycle must have room for there.
+pub fn last_reach(
+    body: Body,
+    summaries: &[u32],
+    place: usize,
+    after: u32,
+    level: usize,
+    length: usize,
+) -> u64
+    requires { ⌜ Spans body (now summaries) place after level length ⌝ }
+    ensures small { λ r. ⌜ r ≤ greatest-reach ⌝ }
+    ensures is { λ r. ⌜ ((i : ℕ) → Standing body i place after → r ≡ last-mix body (now (summaries .entry)) i level length) ⌝ }
+{
+    let levels = body.levels as usize;
+    let ahead = (place + length - 1) as u32;
+    let passed = ahead / body.n;
+    let y = (ahead % body.n) as usize * levels + level;
+    let spent = spent_before(summaries, place * levels + level, y, level, passed);
+    spent + mix_from(summaries, y, level, after - passed)
+}
+
+// What the cycle must have room for over a coast: at each of its positions, or by its ends where these may tell, whichever is less.
+fn least_reach(
+    body: Body,
+    summaries: &[u32],
+    worst: &[u32],
+    place: usize,
+    after: u32,
+    level: usize,
+    length: usize,
+) -> u64
+    requires { ⌜ Coasts body (record { order = []; summaries = now summaries; worst = now worst }) place after level length ⌝ }
+    ensures small { λ r. ⌜ r ≤ greatest-reach ⌝ }
+    ensures is { λ r. ⌜ ((i : ℕ) → Standing body i place after → pos (body .cycle) -ℤ pos r
+        ≡ lent-plan body (record { order = []; summaries = now (summaries .entry); worst = now (worst .entry) }) .bound i level length) ⌝ }
+{
+    let each = reach(body, summaries, worst, place, after, level, length);
+    let n = body.n as usize;
+    let levels = body.levels as usize;
+    let left = after as usize * n + (n - place);
+    if (level + 1 < levels) | ((length < rules::LONGEST_COAST) & (length < left)) {
+        return each;
+    }
+    let first = mix_from(summaries, place * levels + level, level, after);
+    let last = last_reach(body, summaries, place, after, level, length);
+    lesser(each, greater(first, last))
 }
 
 // ---- refusals
@@ -367,7 +435,7 @@ pub fn bound(
         };
     }
     let spot = spot_of(body, position);
-    let most = reach(
+    let most = least_reach(
         body,
         summaries,
         worst,

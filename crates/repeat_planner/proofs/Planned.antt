@@ -20,10 +20,10 @@ use Rattle.repeat_planner.specs.declared.BodyPlanned.{BodyPlanned}
 use Rattle.repeat_planner.specs.PlanningBody.{body-rooms, with-body-fronts, PlansBody}
 use Rattle.repeat_planner.proofs.Answers.{Clear, clear}
 
--- a summary by its three numbers
-three : (x : Sums) → numbers-of x ≡ tab (λ r. getD (numbers-of x) r 0) summary-numbers
+-- a summary by its four numbers
+four : (x : Sums) → numbers-of x ≡ tab (λ r. getD (numbers-of x) r 0) summary-numbers
 unfolding cat
-three x = refl
+four x = refl
 
 -- ---- the tables
 
@@ -41,12 +41,12 @@ module _ (F : Profile) (o : Order (F .n)) (before : LentBody) {after : LentBody}
   stored : after .summaries ≡ splice (before .summaries) 0 (cat (λ i. rows (number i) (F .levels) summary-numbers) (F .n))
   stored =
       ap (λ (x : LentBody). x .summaries) e
-      ∙ ap (splice (before .summaries) 0) (cat-ext _ _ (F .n) (λ i _. cat-ext _ _ (F .levels) (λ q _. three (rest-of (tables F o) i q))))
+      ∙ ap (splice (before .summaries) 0) (cat-ext _ _ (F .n) (λ i _. cat-ext _ _ (F .levels) (λ q _. four (rest-of (tables F o) i q))))
 
   pub reads-summaries : (i q : ℕ) → i < F .n → q < F .levels → stretch-at (after .summaries) (i * F .levels + q) ≡ rest-of (tables F o) i q
   reads-summaries i q l m =
       let first : (i * F .levels + q) * summary-numbers ≡ (i * F .levels + q) * summary-numbers + 0 = omega arith in
-      same (ap (λ (k : ℕ). getD (after .summaries) k 0) first ∙ part 0 (omega arith)) (part 1 (omega arith)) (part 2 (omega arith))
+      same (ap (λ (k : ℕ). getD (after .summaries) k 0) first ∙ part 0 (omega arith)) (part 1 (omega arith)) (part 2 (omega arith)) (part 3 (omega arith))
     where
       part : (r : ℕ) → r < summary-numbers → getD (after .summaries) ((i * F .levels + q) * summary-numbers + r) 0 ≡ number i q r
       part r h = blocks-written number (before .summaries) (F .n) (F .levels) summary-numbers 0 stored i q r l m h

@@ -6,6 +6,7 @@ use mathlib.Core.Logic.{⊎-elim}
 use native.Mathlib.Nat.{mul-le-mul-right, eq-or-lt-of-le}
 use native.Mathlib.Omega.{arith}
 use lib.ListN.{getD, replicate, getD-replicate}
+use Rattle.rules.specs.Numbers.{summary-numbers}
 use Rattle.rules.specs.Words.{cat, tab, rows}
 use Rattle.rules.specs.Image.{worst-of, profile}
 use Rattle.rules.specs.Order.{Order}
@@ -29,7 +30,7 @@ use Rattle.repeat_tables.specs.Summing.{BodyInput, EntriesFit, carried, 
 
 -- after the last position
 abbrev nothing : Sums
-nothing = record { average = 0; lowest = 0; mix = 0 }
+nothing = record { average = 0; lowest = 0; mix = 0; worst = 0 }
 
 -- x is what is carried where position i is the next to be passed: the rest of the body, if there is any
 pub record Rest (S : Tables) (n q i : ℕ) (x : Sums) : Type 0 where
@@ -38,7 +39,7 @@ pub record Rest (S : Tables) (n q i : ℕ) (x : Sums) : Type 0 where
 
 -- position i alone
 abbrev place : Tables → ℕ → ℕ → Sums
-place S q i = record { average = S .average i q; lowest = S .worst i 0; mix = S .worst i q }
+place S q i = record { average = S .average i q; lowest = S .worst i 0; mix = S .worst i q; worst = S .worst i q }
 
 -- its summary from the one after it
 rest-more : (S : Tables) (n q i : ℕ) {x : Sums} → n ≡ S .n → i < n → S .average i q ≤ S .worst i q → Rest S n q (suc i) x
@@ -47,7 +48,7 @@ rest-more S n q i {x} e l ordered r =
     ⊎-elim
     (λ h. let last : S .n - 1 ≡ i = omega arith in
     ap (joined (place S q i)) (r .none h)
-    ∙ same (omega arith) (omega arith) (omega (arith, ordered))
+    ∙ same (omega arith) (omega arith) (omega (arith, ordered)) (omega arith)
     ∙ sym (stretch-one S q i)
     ∙ sym (ap (stretch S q i) last))
     (λ h. ap (joined (place S q i)) (r .some h) ∙ sym (stretch-front S q i (S .n - 1) (omega arith)))
@@ -56,7 +57,7 @@ rest-more S n q i {x} e l ordered r =
 -- The loop before it works the position in front of i: what is carried, and the rows from i on in both tables.
 pub record Back (S : Tables) (n L : ℕ) (lent : LentBody) (i : ℕ) (rest : ℕ → Sums) (now : LentBody) : Type 0 where
   pub carries : (q : ℕ) → q < L → Rest S n q i (rest q)
-  pub summed : now .summaries ≡ splice (lent .summaries) (i * L * 3) (cat-from (summaries-from S L) i n)
+  pub summed : now .summaries ≡ splice (lent .summaries) (i * L * summary-numbers) (cat-from (summaries-from S L) i n)
   pub stored : now .worst ≡ splice (lent .worst) (i * L) (cat-from (λ k. tab (S .worst k) L) i n)
 
 module _ {s : List ℕ} {n L : ℕ} {actions : List ℕ} {o : Order (profile s .n)} (g : BodyInput s n L actions o) where
@@ -97,32 +98,33 @@ module _ {s : List ℕ} {n L : ℕ} {actions : List ℕ} {o : Order (profile s .
           average = omega (arith, average-within F o times i q place-lt level-lt);
           lowest = omega (arith, worst-within F o times i 0 place-lt (omega arith));
           mix = omega (arith, worst-within F o times i q place-lt level-lt);
+          worst = omega (arith, worst-within F o times i q place-lt level-lt);
         })
 
   -- what is carried is small
   pub rest-half : Bytes s → (j q : ℕ) {x : Sums} → j ≤ n → q < L → Rest (tables (profile s) o) n q j x → Half x
   rest-half bytes j q h m r =
       ⊎-elim
-      (λ e. subst Half (sym (r .none e)) (record { average = omega arith; lowest = omega arith; mix = omega arith }))
+      (λ e. subst Half (sym (r .none e)) (record { average = omega arith; lowest = omega arith; mix = omega arith; worst = omega arith }))
       (λ l. let w = body-within (profile s) o (g .counts) (times-small s bytes) q (omega (arith, g .levels-are)) j (omega (arith, g .n-is)) in
       subst Half (sym (r .some l))
-      (record { average = omega (arith, w .average); lowest = omega (arith, w .lowest); mix = omega (arith, w .mix) }))
+      (record { average = omega (arith, w .average); lowest = omega (arith, w .lowest); mix = omega (arith, w .mix); worst = omega (arith, w .worst) }))
       (eq-or-lt-of-le h)
 
   -- ---- the loop: before it, a turn from position j down to i, and after it
 
   module _ (lent : LentBody) where
-    pub back-none : Back (tables (profile s) o) n L lent n (carried (replicate 8 0) 0 (replicate 8 0)) lent
+    pub back-none : Back (tables (profile s) o) n L lent n (carried (replicate 8 0) 0 (replicate 8 0) (replicate 8 0)) lent
     back-none = record {
       carries = λ q m. record { none = λ _. zeros q m; some = λ h. absurd (omega arith) };
-      summed = from-none (summaries-from (tables (profile s) o) L) (lent .summaries) (n * L * 3) n;
+      summed = from-none (summaries-from (tables (profile s) o) L) (lent .summaries) (n * L * summary-numbers) n;
       stored = from-none (λ k. tab (tables (profile s) o .worst k) L) (lent .worst) (n * L) n;
     }
       where
-        zeros : (q : ℕ) → q < L → carried (replicate 8 0) 0 (replicate 8 0) q ≡ nothing
+        zeros : (q : ℕ) → q < L → carried (replicate 8 0) 0 (replicate 8 0) (replicate 8 0) q ≡ nothing
         zeros q m =
             let zero = getD-replicate {A = ℕ} 8 q 0 0 (omega (arith, records .few-levels)) in
-            same zero refl zero
+            same zero refl zero zero
 
     pub back-more : {rest now : ℕ → Sums} {before after : LentBody} (i j : ℕ) → j ≡ i + 1 → j ≤ n
         → EntriesFit (n * L) lent → Back (tables (profile s) o) n L lent j rest before
@@ -138,9 +140,10 @@ module _ {s : List ℕ} {n L : ℕ} {actions : List ℕ} {o : Order (profile s .
             none = λ f. absurd (omega arith);
             some = λ _. is .carried-is q m ∙ row-more i (omega arith) rest q m (at q m);
           };
-          summed = from-more (summaries-from S L) (L * 3) (λ k. length-cat _ 3 (λ q. refl) L) (lent .summaries) i j n (j * L * 3) (i * L * 3) e h
-              (omega arith) (omega (arith, room .summaries-room)) (was .summed)
-              (is .summaries-are ∙ ap (splice (before .summaries) (i * L * 3)) (cat-ext _ _ L (λ q m. ap numbers-of (row-more i (omega arith) rest q m (at q m)))));
+          summed = from-more (summaries-from S L) (L * summary-numbers) (λ k. length-cat _ summary-numbers (λ q. refl) L) (lent .summaries)
+              i j n (j * L * summary-numbers) (i * L * summary-numbers) e h (omega arith) (omega (arith, room .summaries-room)) (was .summed)
+              (is .summaries-are
+              ∙ ap (splice (before .summaries) (i * L * summary-numbers)) (cat-ext _ _ L (λ q m. ap numbers-of (row-more i (omega arith) rest q m (at q m)))));
           stored = from-more (λ k. tab (S .worst k) L) L (λ k. length-tab (S .worst k) L) (lent .worst) i j n (j * L) (i * L) e h starts
               (omega (arith, room .worst-room)) (was .stored)
               (is .worst-is ∙ ap (splice (before .worst) (i * L)) (tab-ext _ _ L (λ q m. worsts i (omega arith) q)));
@@ -152,7 +155,7 @@ module _ {s : List ℕ} {n L : ℕ} {actions : List ℕ} {o : Order (profile s .
         let S = tables (profile s) o in
         let start : i * L ≡ 0 = ap (λ (k : ℕ). k * L) e ∙ omega arith in
         record {
-          summaries-are = from-done (summaries-from S L) (lent .summaries) 0 i n (i * L * 3) e (omega arith) (b .summed);
+          summaries-are = from-done (summaries-from S L) (lent .summaries) 0 i n (i * L * summary-numbers) e (omega arith) (b .summed);
           worst-is = from-done (λ k. tab (S .worst k) L) (lent .worst) 0 i n (i * L) e start (b .stored);
         }
 

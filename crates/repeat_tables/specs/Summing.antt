@@ -33,32 +33,34 @@ pub record EntriesFit (entries : ℕ) (lent : LentBody) : Type 0 where
 
 -- ---- a position
 
--- A summary is carried from position to position: A and M by level, W for all levels.
-abbrev pub carried : List ℕ → ℕ → List ℕ → ℕ → Sums
-carried averages lowest mixes q = record { average = getD averages q 0; lowest = lowest; mix = getD mixes q 0 }
+-- A summary is carried from position to position: A, M and V by level, W for all levels.
+abbrev pub carried : List ℕ → ℕ → List ℕ → List ℕ → ℕ → Sums
+carried averages lowest mixes worsts q = record { average = getD averages q 0; lowest = lowest; mix = getD mixes q 0; worst = getD worsts q 0 }
 
 -- action a alone
 abbrev pub alone : List ℕ → ℕ → ℕ → Sums
-alone s a q = record { average = average-of s a q; lowest = worst-of s a 0; mix = worst-of s a q }
+alone s a q = record { average = average-of s a q; lowest = worst-of s a 0; mix = worst-of s a q; worst = worst-of s a q }
 
 -- and what is carried after it
 abbrev pub with-rest : List ℕ → ℕ → (ℕ → Sums) → ℕ → Sums
 with-rest s a rest q = joined (alone s a q) (rest q)
 
--- the three numbers have 31 bits, so that two such add up in 32
+-- the four numbers have 31 bits, so that two such add up in 32
 pub record Half (x : Sums) : Type 0 where
   pub average : x .average < 2147483648
   pub lowest : x .lowest < 2147483648
   pub mix : x .mix < 2147483648
+  pub worst : x .worst < 2147483648
 
 -- what the summaries of action a are worked from: its record, what is carried after it, and room for what is worked
-pub record CanSum (s : List ℕ) (L a : ℕ) (averages : List ℕ) (lowest : ℕ) (mixes : List ℕ) (from : ℕ) (lent : LentBody) : Type 0 where
+pub record CanSum (s : List ℕ) (L a : ℕ) (averages : List ℕ) (lowest : ℕ) (mixes worsts : List ℕ) (from : ℕ) (lent : LentBody) : Type 0 where
   pub present : HasRecord s L a
   pub some-level : 0 < L
   pub own : (q : ℕ) → q < L → Half (alone s a q)
-  pub rest : (q : ℕ) → q < L → Half (carried averages lowest mixes q)
+  pub rest : (q : ℕ) → q < L → Half (carried averages lowest mixes worsts q)
   pub averages-room : L ≤ length averages
   pub mixes-room : L ≤ length mixes
+  pub worsts-room : L ≤ length worsts
   pub room : EntriesFit (from + L) lent
 
 -- the summaries worked: what is carried from now on, and what is stored

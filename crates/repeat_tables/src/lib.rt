@@ -55,18 +55,19 @@ fn greater(x: u32, y: u32) -> u32
     if x < y { y } else { x }
 }
 
-// The three numbers of a summary, stored from index `at` on.
-fn put_sums(average: u32, lowest: u32, mix: u32, at: usize, summaries: &mut [u32])
+// The four numbers of a summary, stored from index `at` on.
+fn put_sums(average: u32, lowest: u32, mix: u32, worst: u32, at: usize, summaries: &mut [u32])
     requires { ⌜ at + summary-numbers ≤ length (now summaries) ⌝ }
-    ensures { λ r. ⌜ now (summaries .exit) ≡ splice (now (summaries .entry)) at (average ∷ lowest ∷ mix ∷ []) ⌝ }
+    ensures { λ r. ⌜ now (summaries .exit) ≡ splice (now (summaries .entry)) at (average ∷ lowest ∷ mix ∷ worst ∷ []) ⌝ }
 {
     summaries[at] = average;
     summaries[at + 1] = lowest;
     summaries[at + 2] = mix;
+    summaries[at + 3] = worst;
 }
 
-// The summaries of the rest of the body from the position of action a, whose entries are those from `from` on. `averages`, `after` and `mixes`
-// have those of the rest after it, and then its own.
+// The summaries of the rest of the body from the position of action a, whose entries are those from `from` on. `averages`, `after`, `mixes` and
+// `worsts` have those of the rest after it, and then its own.
 fn sum_row(
     image: &[u8],
     levels: usize,
@@ -74,14 +75,15 @@ fn sum_row(
     averages: &mut [u32],
     after: u32,
     mixes: &mut [u32],
+    worsts: &mut [u32],
     from: usize,
     summaries: &mut [u32],
     worst: &mut [u32],
 ) -> u32
-    requires { ⌜ CanSum (now image) levels a (now averages) after (now mixes) from
+    requires { ⌜ CanSum (now image) levels a (now averages) after (now mixes) (now worsts) from
         (record { order = []; summaries = now summaries; worst = now worst }) ⌝ }
-    ensures { λ r. ⌜ SumsRow (now (image .entry)) levels a (carried (now (averages .entry)) after (now (mixes .entry)))
-        (carried (now (averages .exit)) r (now (mixes .exit))) from
+    ensures { λ r. ⌜ SumsRow (now (image .entry)) levels a (carried (now (averages .entry)) after (now (mixes .entry)) (now (worsts .entry)))
+        (carried (now (averages .exit)) r (now (mixes .exit)) (now (worsts .exit))) from
         (record { order = []; summaries = now (summaries .entry); worst = now (worst .entry) })
         (record { order = []; summaries = now (summaries .exit); worst = now (worst .exit) }) ⌝ }
 {
@@ -92,12 +94,15 @@ fn sum_row(
         let longest = read::worst_at(image, levels, a, q);
         let sum = average + averages[q];
         let mix = greater(longest + after, average + mixes[q]);
+        let all = longest + worsts[q];
         averages[q] = sum;
         mixes[q] = mix;
+        worsts[q] = all;
         put_sums(
             sum,
             lowest,
             mix,
+            all,
             (from + q) * rules::SUMMARY_NUMBERS,
             summaries,
         );
@@ -124,6 +129,7 @@ fn sum_rows(
 {
     let mut averages = [0u32; rules::MOST_LEVELS];
     let mut mixes = [0u32; rules::MOST_LEVELS];
+    let mut worsts = [0u32; rules::MOST_LEVELS];
     let mut lowest = 0;
     let mut i = n;
     while 0 < i {
@@ -135,6 +141,7 @@ fn sum_rows(
             &mut averages,
             lowest,
             &mut mixes,
+            &mut worsts,
             i * levels,
             summaries,
             worst,

@@ -178,7 +178,7 @@ pub fn plan_text(image: &[u8], repeats: u32, out: &mut [u8], to: i32) -> usize
     ensures { λ r. ⌜ Counts r (now (out .exit)) ⌝ }
 {
     let mut order = [0u8; 64];
-    let mut summaries = [0u32; 1536];
+    let mut summaries = [0u32; 2048];
     let mut worst = [0u32; 512];
     let begun = begin(
         image,

@@ -117,7 +117,7 @@ duration-bytes = 4
 
 -- what a stretch is summed up by
 abbrev pub summary-numbers : ℕ
-summary-numbers = 3
+summary-numbers = 4
 
 -- ---- numbers of refusal
 

@@ -1,6 +1,6 @@
 -- A body repeated: the actions of a profile done N times over, where all deadlines are the cycle's. All is said of the unrolled system, which
 -- is a profile as any other: its order, limits, coast bounds and demand 3 are those of the other files.
-use Prim.Native.Nat.{ℕ, zero, suc, _+_, _-_, _*_, _/_, _%_, _^_, _<_, max}
+use Prim.Native.Nat.{ℕ, zero, suc, _+_, _-_, _*_, _/_, _%_, _^_, _<_, max, min}
 use mathlib.Core.Path.{_≡_}
 use mathlib.Core.Bool.{Bool, cond, _&&_, _||_}
 use mathlib.Core.List.{List, [], _∷_, _++_}
@@ -9,7 +9,7 @@ use lib.Dec.{leb, ltb, eqb}
 use lib.IntN.{ℤ, pos, negsuc, _-ℤ_}
 use lib.ListN.{length, getD}
 use Rattle.rules.specs.Numbers.{most-actions, most-levels, last-clock, most-repeats, longest-coast, summary-numbers, refused-count, refused-unfit, refused-duration, refused-room, refused-reading, refused-repeats}
-use Rattle.rules.specs.Words.{span, greatest-of, least-of, every, Some, cat, tab, rows}
+use Rattle.rules.specs.Words.{span, greatest-of, maxZ, least-of, every, Some, cat, tab, rows}
 use Rattle.rules.specs.Image.{Profile, profile}
 use Rattle.rules.specs.Order.{Order, TheOrder}
 use Rattle.rules.specs.Limits.{Tables, tables, safe, average, Plan}
@@ -52,12 +52,13 @@ body-call s N rooms = body-checks s N ++ (refused-room when Tight rooms ∷ [])
 
 -- ---- summaries
 
--- A stretch of positions at a level q is summed up by three numbers: A, the averages at q; W, the worst times at level 0; M, the greatest over
--- its positions j of the averages at q before j, the worst time of j at q and the level 0 worst times after j.
+-- A stretch of positions at a level q is summed up by four numbers: A, the averages at q; W, the worst times at level 0; M, the greatest over
+-- its positions j of the averages at q before j, the worst time of j at q and the level 0 worst times after j; V, the worst times at q.
 pub record Sums : Type 0 where
   pub average : ℕ
   pub lowest : ℕ
   pub mix : ℕ
+  pub worst : ℕ
 
 -- the positions i to k at level q
 unfoldable pub stretch : Tables → ℕ → ℕ → ℕ → Sums
@@ -65,6 +66,7 @@ stretch S q i k = record {
   average = average S i k q;
   lowest = span (λ p. S .worst p 0) i (suc k);
   mix = greatest-of (λ j. span (λ p. S .average p q) i j + safe S j k q) i (k - i);
+  worst = span (λ p. S .worst p q) i (suc k);
 }
 
 -- Of any number of positions: of none, or of some.
@@ -83,6 +85,7 @@ joined x y = record {
   average = x .average + y .average;
   lowest = x .lowest + y .lowest;
   mix = max (x .mix + y .lowest) (x .average + y .mix);
+  worst = x .worst + y .worst;
 }
 
 -- some positions, then any number
@@ -94,14 +97,19 @@ abbrev pub join : Summary → Summary → Summary
 join empty y = y
 join (of x) y = of (followed x y)
 
--- m equal bodies: m A, m W, M + (m - 1) max (A, W); none is the empty one
+-- m equal bodies: m A, m W, M + (m - 1) max (A, W), m V; none is the empty one
 abbrev pub bodies : Sums → ℕ → Summary
 bodies x zero = empty
-bodies x (suc m) = of (record { average = suc m * x .average; lowest = suc m * x .lowest; mix = x .mix + m * max (x .average) (x .lowest) })
+bodies x (suc m) = of (record {
+  average = suc m * x .average;
+  lowest = suc m * x .lowest;
+  mix = x .mix + m * max (x .average) (x .lowest);
+  worst = suc m * x .worst;
+})
 
 -- ---- what planning a body writes
 
--- As it is lent to a call, whoever wrote it: the order, n; by position and level the summaries of the rest of the body, n by L by 3; the worst
+-- As it is lent to a call, whoever wrote it: the order, n; by position and level the summaries of the rest of the body, n by L by 4; the worst
 -- times by position, n by L. A list that a call does not take is empty.
 pub record LentBody : Type 0 where
   pub order : List ℕ
@@ -109,7 +117,7 @@ pub record LentBody : Type 0 where
   pub worst : List ℕ
 
 abbrev pub numbers-of : Sums → List ℕ
-numbers-of x = x .average ∷ x .lowest ∷ x .mix ∷ []
+numbers-of x = x .average ∷ x .lowest ∷ x .mix ∷ x .worst ∷ []
 
 -- the rest of the body from a position at a level
 abbrev pub rest-of : Tables → ℕ → ℕ → Sums
@@ -135,9 +143,16 @@ positions b = b .repeats * b .n
 abbrev pub body-of : Profile → ℕ → Body
 body-of F N = record { n = F .n; levels = F .levels; cycle = F .cycle; repeats = N }
 
--- M of all positions from x on, where `rest` has the summaries of the rest of a body: those of its own body, then the whole bodies after it
+-- All positions from x on, where `rest` has the summaries of the rest of a body: those of its own body, then the whole bodies after it. M and V of
+-- them.
+abbrev pub sums-from : Body → (ℕ → ℕ → Sums) → ℕ → ℕ → Sums
+sums-from b rest x q = followed (rest (x % b .n) q) (bodies (rest 0 q) (b .repeats - 1 - x / b .n))
+
 unfoldable pub mix-from : Body → (ℕ → ℕ → Sums) → ℕ → ℕ → ℕ
-mix-from b rest x q = followed (rest (x % b .n) q) (bodies (rest 0 q) (b .repeats - 1 - x / b .n)) .mix
+mix-from b rest x q = sums-from b rest x q .mix
+
+unfoldable pub worst-from : Body → (ℕ → ℕ → Sums) → ℕ → ℕ → ℕ
+worst-from b rest x q = sums-from b rest x q .worst
 
 -- The limit at a position, and the coast bound by these limits: as in any plan the least, over the positions j of the coast, of limit (j, q)
 -- minus the worst times before j.
@@ -152,16 +167,42 @@ body-plan b rest worst = record {
   bound = λ i q r. least-of (λ j. limit-from b rest j q -ℤ pos (span (λ p. worst (p % b .n) q) i j)) i (r - 1);
 }
 
+-- At the top level a coast that is as long as there may be is read by its ends as well, its first and its last position alone: the worst times
+-- before the last are V from the first on less V from the last on, and 0 where that is the greater.
+abbrev pub ends-mix : Body → (ℕ → ℕ → Sums) → ℕ → ℕ → ℕ → ℕ
+ends-mix b rest i q r =
+    let last : ℕ = i + (r - 1) in
+    max (mix-from b rest i q) (worst-from b rest i q - worst-from b rest last q + mix-from b rest last q)
+
+abbrev pub by-ends : Body → ℕ → ℕ → ℕ → Bool
+by-ends b i q r = leb (b .levels) (suc q) && eqb r (min longest-coast (positions b - i))
+
 -- the summaries and the worst times as they are lent
 abbrev pub stretch-at : List ℕ → ℕ → Sums
 stretch-at l x = record {
   average = getD l (x * summary-numbers) 0;
   lowest = getD l (x * summary-numbers + 1) 0;
   mix = getD l (x * summary-numbers + 2) 0;
+  worst = getD l (x * summary-numbers + 3) 0;
 }
 
+abbrev pub rest-lent : Body → LentBody → ℕ → ℕ → Sums
+rest-lent b T i q = stretch-at (T .summaries) (i * b .levels + q)
+
+-- a coast read at each of its positions
+unfoldable pub lent-each : Body → LentBody → Plan
+lent-each b T = body-plan b (rest-lent b T) (cell (T .worst) (b .levels))
+
+-- and by its ends, whichever bound is the greater: where planning wrote the tables they are the same
 unfoldable pub lent-plan : Body → LentBody → Plan
-lent-plan b T = body-plan b (λ i q. stretch-at (T .summaries) (i * b .levels + q)) (cell (T .worst) (b .levels))
+lent-plan b T = record {
+  n = positions b;
+  levels = b .levels;
+  limit = limit-from b (rest-lent b T);
+  bound = λ i q r.
+      let each : ℤ = lent-each b T .bound i q r in
+      cond (by-ends b i q r) (maxZ (pos (b .cycle) -ℤ pos (ends-mix b (rest-lent b T) i q r)) each) each;
+}
 
 -- the worst times by unrolled position
 abbrev pub worst-lent : Body → LentBody → ℕ → ℕ → ℕ

@@ -27,6 +27,10 @@ greatest-of f i (suc m) = max (greatest-of f i m) (f (i + suc m))
 abbrev pub minZ : ℤ → ℤ → ℤ
 minZ x y = cond (leZ x y) x y
 
+-- and the greater
+abbrev pub maxZ : ℤ → ℤ → ℤ
+maxZ x y = cond (leZ x y) y x
+
 -- the least of f i .. f (i + m)
 unfoldable pub least-of : (ℕ → ℤ) → ℕ → ℕ → ℤ
 least-of f i zero = f i

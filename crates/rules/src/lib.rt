@@ -70,9 +70,9 @@ pub const DURATION_SAID: u32 = 1_073_741_824;
 
 pub const DURATION_BYTES: usize = 4;
 
-// ---- the summaries of a body: by position, then level, three numbers each
+// ---- the summaries of a body: by position, then level, four numbers each
 
-pub const SUMMARY_NUMBERS: usize = 3;
+pub const SUMMARY_NUMBERS: usize = 4;
 
 // What every call over a body repeated takes of it: n, L and the cycle of the body, and how often it is repeated.
 #[repr(C)]

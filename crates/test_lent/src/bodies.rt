@@ -13,7 +13,7 @@ use text::words;
 pub fn tell_all(text: &[u8]) {
     let image = test_kit::samples::three();
     let mut order = [0u8; 3];
-    let mut summaries = [0u32; 18];
+    let mut summaries = [0u32; 24];
     let mut worst = [0u32; 6];
     repeat_planner::plan(&image, 1, &mut order, &mut summaries, &mut worst);
     tell_each(text, order, &summaries, worst);

@@ -40,10 +40,10 @@ fn tell_due(row: [u32; 24]) {
 // Each table is one longer than Three needs, and full of nines.
 fn plan(image: &[u8], row: [u32; 24]) {
     let mut order = [9u8; 4];
-    let mut summaries = [9u32; 19];
+    let mut summaries = [9u32; 25];
     let mut worst = [9u32; 7];
     let a = part(row[1], 4);
-    let b = part(row[2], 19);
+    let b = part(row[2], 25);
     let c = part(row[3], 7);
     let planned = repeat_planner::plan(
         image,
@@ -60,7 +60,7 @@ fn wide(b: u8) -> u32 {
     b as u32
 }
 
-fn say_tables(order: &[u8; 4], summaries: &[u32; 19], worst: &[u32; 7]) {
+fn say_tables(order: &[u8; 4], summaries: &[u32; 25], worst: &[u32; 7]) {
     say(
         b", order _ _ _ _",
         &[
@@ -71,7 +71,7 @@ fn say_tables(order: &[u8; 4], summaries: &[u32; 19], worst: &[u32; 7]) {
         ],
     );
     say(
-        b", summaries _ _ _ _ _ _ _ _ _ _ _ _ _ _ _ _ _ _ _",
+        b", summaries _ _ _ _ _ _ _ _ _ _ _ _ _ _ _ _ _ _ _ _ _ _ _ _ _",
         summaries,
     );
     say(b", worst _ _ _ _ _ _ _", worst);
@@ -107,19 +107,19 @@ fn body_of(row: [u32; 24]) -> Body {
 
 // n, levels, cycle and N, how much there is of the summaries, position and level.
 fn tell_limit(row: [u32; 24]) {
-    let mut summaries = [0u32; 18];
+    let mut summaries = [0u32; 24];
     let mut worst = [0u32; 6];
     plan_three(&mut summaries, &mut worst);
-    let a = part(row[4], 18);
+    let a = part(row[4], 24);
     say_limited(repeat_limits::limit(body_of(row), &summaries[0..a], count(row[5]), count(row[6])));
 }
 
 // n, levels, cycle and N, how much there is of the summaries and the worst times, position, level and length.
 fn tell_bound(row: [u32; 24]) {
-    let mut summaries = [0u32; 18];
+    let mut summaries = [0u32; 24];
     let mut worst = [0u32; 6];
     plan_three(&mut summaries, &mut worst);
-    let a = part(row[4], 18);
+    let a = part(row[4], 24);
     let b = part(row[5], 6);
     say_limited(repeat_limits::bound(
         body_of(row),

@@ -233,7 +233,7 @@ fn listed_agrees(
 
 fn plan_agrees(case: usize, image: &[u8], repeats: u32, first: &[u8], others: &[u8]) -> bool {
     let mut order = [0u8; 64];
-    let mut summaries = [0u32; 1536];
+    let mut summaries = [0u32; 2048];
     let mut worst = [0u32; 512];
     let mut out = io::buffer();
     let begun = repeat_text::begin(

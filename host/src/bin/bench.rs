@@ -227,7 +227,7 @@ struct Room {
     numbers: [[u32; 512]; 3],
     limits: [i32; 512],
     bounds: [i32; 8192],
-    summaries: [u32; 1536],
+    summaries: [u32; 2048],
 }
 
 static mut ROOM: Room = Room {
@@ -237,7 +237,7 @@ static mut ROOM: Room = Room {
     numbers: [[0; 512]; 3],
     limits: [0; 512],
     bounds: [0; 8192],
-    summaries: [0; 1536],
+    summaries: [0; 2048],
 };
 
 /// The one room. There is one thread, and each call is over before the next.

@@ -6,7 +6,8 @@ use crate::calls::{
     MOST_LEVELS, MOST_REPEATS, SUMMARY_NUMBERS,
 };
 use crate::draw::{Size, PACES};
-use crate::reference::body_fields_out;
+use crate::reference::{body_fields_out, Longest};
+use std::cmp::Ordering;
 
 /// The most positions of which a frame is run, but for a few.
 const SOME: usize = 160;
@@ -33,6 +34,7 @@ impl Pair<'_> {
         self.body_dry_frame(&image, repeats)?;
         self.body_start()?;
         self.body_single_calls()?;
+        self.body_two_readings()?;
         let Some(planned) = self.planned_body(&image, repeats) else { return Ok(()) };
         if repeats == 1 || repeats == MOST_REPEATS {
             self.tally.event(format!("N = {repeats}"));
@@ -131,9 +133,12 @@ impl Pair<'_> {
             0 => last - self.draw.index(last.min(17) + 1),
             _ => self.draw.name(last),
         };
-        let level = self.draw.name((body.levels as usize).saturating_sub(1));
+        let top = (body.levels as usize).saturating_sub(1);
+        let level = if self.draw.once_in(3) { top } else { self.draw.name(top) };
         let length = match self.draw.between(0, 9) {
             0 => self.draw.pick(&[0, 17, 1 << 32 | 1, usize::MAX]),
+            // As long as there may be.
+            1..=3 => positions.saturating_sub(position).clamp(1, LONGEST_COAST),
             _ => 1 + self.draw.index(LONGEST_COAST),
         };
         let input = || format!("{body:?} {summaries:?} {worst:?} {position} {level} {length}");
@@ -147,6 +152,14 @@ impl Pair<'_> {
         self.tally.number("body bound", number_of(&bound));
         if let Ok(bound) = bound {
             self.tally.event(if bound == ABSENT_LONG { "absent bound" } else { "bound" });
+            let longest = Longest::of(body, summaries, worst, position);
+            if level == top && length == longest.length {
+                self.tally.event(match longest.each.cmp(&longest.ends) {
+                    Ordering::Less => "bound by its ends",
+                    Ordering::Equal => "bound of both readings",
+                    Ordering::Greater => "bound at each",
+                });
+            }
         }
         Ok(())
     }
@@ -159,7 +172,27 @@ impl Pair<'_> {
             (run, answer)
         })?;
         self.note_body_asked(next, &answer);
+        if let Ok(Given { decided: true, late: false, level, .. }) = answer {
+            if level + 1 == run.body.levels {
+                self.note_longest(run, tables);
+            }
+        }
         Ok(next)
+    }
+
+    /// At the top level: which reading grants the coast that is as long as there may be, and whether it is so for want of positions.
+    fn note_longest(&mut self, run: BodyRun, tables: BodyTables) {
+        let BodyTables { summaries, worst_by_position: worst, .. } = tables;
+        let Longest { length, each, ends } = Longest::of(run.body, summaries, worst, run.position as usize);
+        let coast = if length == LONGEST_COAST { "longest coast" } else { "coast to the end" };
+        let clock = run.clock as i64;
+        let reading = match (clock <= each, clock <= ends) {
+            (true, true) => "by both readings",
+            (true, false) => "at each alone",
+            (false, true) => "by its ends alone",
+            (false, false) => "by no reading",
+        };
+        self.tally.event(format!("{coast} {reading}"));
     }
 
     fn note_body_asked(&mut self, run: BodyRun, answer: &Answer<Given>) {
@@ -218,6 +251,24 @@ impl Pair<'_> {
             let clock = self.draw.clock_after(run.clock.min(u32::MAX.into()) as u32, longest);
             self.body_report(run, clock, &worst)?;
         }
+        Ok(())
+    }
+
+    /// A decision and a coast bound over tables that no planner wrote, by which the longest coast may be granted in one reading alone.
+    fn body_two_readings(&mut self) -> Result<(), String> {
+        let body = self.draw.body();
+        let positions = body.n * body.repeats;
+        let left = self.draw.between(0, body.cycle.min(60));
+        let run = BodyRun {
+            body,
+            clock: (body.cycle - left).into(),
+            position: self.draw.body_run(body).position.min(positions - 1),
+            ..BodyRun::default()
+        };
+        let (summaries, worst) = self.draw.apart(body, left);
+        self.body_reading(body, &summaries, &worst)?;
+        let order = self.draw.bytes(body.n as usize);
+        self.body_ask(run, BodyTables { order: &order, summaries: &summaries, worst_by_position: &worst })?;
         Ok(())
     }
 

@@ -121,9 +121,11 @@ impl Draw {
         if self.once_in(4) {
             return (0..cells * SUMMARY_NUMBERS).map(|_| self.word() as u32).collect();
         }
-        // M that gives a limit at the clock, and sums that hardly grow from body to body.
+        // M that gives a limit at the clock, and sums that hardly grow from body to body. V falls from place to place, or not at all, and so says
+        // more or less of a coast than the worst times do.
         let room = u64::from(body.cycle).saturating_sub(clock) as u32;
         let (spread, growth) = (self.between(0, 3), self.pick(&[0, 0, 1, 3]));
+        let (fall, uneven) = (self.pick(&[0, 0, 1, 5, 1000, 1 << 24]), self.pick(&[0, 0, 1, 3]));
         let fitting = self.once_in(2).then(|| self.index(body.levels as usize));
         let mut summaries = Vec::new();
         for cell in 0..cells {
@@ -136,8 +138,26 @@ impl Draw {
             };
             // Bodies after one add their M to A: it is left small there too.
             let mix = if cell < body.levels as usize && self.once_in(2) { mix / 2 } else { mix };
-            summaries.extend([self.between(0, growth), self.between(0, growth), mix]);
+            let rest = body.n - cell as u32 / body.levels;
+            let worst = fall * rest + self.between(0, uneven);
+            summaries.extend([self.between(0, growth), self.between(0, growth), mix, worst]);
         }
         summaries
+    }
+
+    /// Summaries and worst times that no planner wrote, for a body of which so much of the cycle is left: every level mostly fits at first, and what
+    /// is left runs out within a coast or not, by the worst times as by V, which have little to do with each other.
+    pub fn apart(&mut self, body: Body, left: u32) -> (Vec<u32>, Vec<u32>) {
+        let [longest, fall, uneven] = [0; 3].map(|_| self.pick(&[0, 0, 1, 2, 5]));
+        let (growth, needed) = (self.pick(&[0, 0, 0, 1]), self.between(0, left));
+        let (mut summaries, mut worst) = (Vec::new(), Vec::new());
+        for cell in 0..body.n * body.levels {
+            let rest = body.n - cell / body.levels;
+            let mix = self.between(0, needed) + u32::from(self.once_in(60));
+            let all = fall * rest + self.between(0, uneven);
+            summaries.extend([self.between(0, growth), self.between(0, growth), mix, all]);
+            worst.push(self.between(0, longest));
+        }
+        (summaries, worst)
     }
 }

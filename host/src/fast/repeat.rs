@@ -27,10 +27,10 @@ fn examine(image: &[u8], repeats: u32) -> Answer<(Shape, Arranged)> {
     Ok((shape, arranged))
 }
 
-/// From the last position back: A and W add up; M is the greater of this worst time before the others at level 0, and this average before their M.
+/// From the last position back: A, W and V add up; M is the greater of this worst time before the others at level 0, and this average before their M.
 fn fill(image: &[u8], shape: Shape, order: &[u8], summaries: &mut [u32], worst: &mut [u32]) {
     let levels = shape.levels.min(8);
-    let (mut averages, mut mixes, mut lowest) = ([0u32; 8], [0u32; 8], 0);
+    let (mut averages, mut mixes, mut worsts, mut lowest) = ([0u32; 8], [0u32; 8], [0u32; 8], 0);
     let rows = summaries.chunks_exact_mut(levels * SUMMARY_NUMBERS).zip(worst.chunks_exact_mut(levels));
     for (&action, (summaries, worst)) in order.iter().zip(rows).rev() {
         let record = shape.record(image, action as usize);
@@ -40,7 +40,8 @@ fn fill(image: &[u8], shape: Shape, order: &[u8], summaries: &mut [u32], worst: 
             let pair = Pair::of(record, level);
             averages[level] += pair.average();
             mixes[level] = (pair.worst() + after).max(pair.average() + mixes[level]);
-            entry.copy_from_slice(&[averages[level], lowest, mixes[level]]);
+            worsts[level] += pair.worst();
+            entry.copy_from_slice(&[averages[level], lowest, mixes[level], worsts[level]]);
             worst[level] = pair.worst();
         }
     }
@@ -79,13 +80,13 @@ type Entry = [u32; SUMMARY_NUMBERS];
 #[inline(always)]
 fn entry(summaries: &[u32], cell: usize) -> &Entry {
     let at = cell * SUMMARY_NUMBERS;
-    summaries[at..at + SUMMARY_NUMBERS].try_into().expect("three numbers")
+    summaries[at..at + SUMMARY_NUMBERS].try_into().expect("four numbers")
 }
 
 impl After {
     #[inline(always)]
     fn of(summaries: &[u32], level: usize, bodies: u32) -> After {
-        let &[average, lowest, mix] = entry(summaries, level);
+        let &[average, lowest, mix, _] = entry(summaries, level);
         let bodies = i64::from(bodies);
         let greater = i64::from(average.max(lowest));
         // Without a body after it no sum of the second kind counts.
@@ -95,7 +96,7 @@ impl After {
 
     /// M from an entry's position on.
     #[inline(always)]
-    fn mix(self, &[average, _, mix]: &Entry) -> i64 {
+    fn mix(self, &[average, _, mix, _]: &Entry) -> i64 {
         (i64::from(mix) + self.to_mix).max(i64::from(average) + self.to_average)
     }
 }
@@ -130,7 +131,28 @@ pub fn body_limit(body: Body, summaries: &[u32], position: usize, level: usize) 
     Ok(i64::from(body.cycle) - after.mix(entry(summaries, place as usize * levels + level)))
 }
 
-/// The coast bound there for a length: the least of the limits on the way, each less the worst times before it.
+/// What a coast at a level must have room for at its last position: the worst times before that, as V has them, 0 at the least, and M from it on.
+#[inline(always)]
+fn last_reach(body: Body, summaries: &[u32], place: usize, bodies: u32, level: usize, length: usize) -> i64 {
+    let levels = body.levels as usize;
+    let ahead = (place + length - 1) as u32;
+    // Of a body that is no shorter than a coast at most one is passed: there is nothing to divide.
+    let passed = if ahead < body.n {
+        0
+    } else if LONGEST_COAST as u32 <= body.n {
+        1
+    } else {
+        ahead / body.n
+    };
+    let last = (ahead - passed * body.n) as usize;
+    let worst_in = |&[.., worst]: &Entry| i64::from(worst);
+    let (here, there) = (entry(summaries, place * levels + level), entry(summaries, last * levels + level));
+    let spent = worst_in(here) + i64::from(passed) * worst_in(entry(summaries, level)) - worst_in(there);
+    spent.max(0) + After::of(summaries, level, bodies - passed).mix(there)
+}
+
+/// The coast bound there for a length: the least of the limits on the way, each less the worst times before it; at the top level, where the coast is
+/// as long as there may be, that by its ends if it is greater.
 pub fn body_bound(
     body: Body,
     summaries: &[u32],
@@ -157,6 +179,13 @@ pub fn body_bound(
     let (summaries, worst) = (&summaries[..cells * SUMMARY_NUMBERS], &worst[..cells]);
     let (repeat, place) = (position as u32 / body.n, position as u32 % body.n);
     let (mut bodies, mut place) = (body.repeats - 1 - repeat, place as usize);
+    let by_ends = level + 1 == levels && length == LONGEST_COAST.min(positions - position);
+    let ends = if by_ends {
+        let first = After::of(summaries, level, bodies).mix(entry(summaries, place * levels + level));
+        first.max(last_reach(body, summaries, place, bodies, level, length))
+    } else {
+        i64::MAX
+    };
     let (mut most, mut spent, mut left) = (i64::MIN, 0, length);
     loop {
         let after = After::of(summaries, level, bodies);
@@ -167,7 +196,7 @@ pub fn body_bound(
             spent += i64::from(worst[cell]);
         }
         if left == 0 {
-            return Ok(i64::from(body.cycle) - most);
+            return Ok(i64::from(body.cycle) - most.min(ends));
         }
         (place, bodies) = (0, bodies - 1);
     }
@@ -196,7 +225,7 @@ impl Room {
     /// Before one body fewer: it gives back what it took.
     #[inline(always)]
     fn nearer(self, summaries: &[u32], level: usize, bodies: u32) -> Room {
-        let &[average, lowest, _] = entry(summaries, level);
+        let &[average, lowest, ..] = entry(summaries, level);
         let given = if bodies == 1 { AMPLE } else { self.average + i64::from(average.max(lowest)) };
         Room { mix: self.mix + i64::from(lowest), average: given }
     }
@@ -208,7 +237,7 @@ impl Room {
     }
 
     #[inline(always)]
-    fn holds(self, &[average, _, mix]: &Entry) -> bool {
+    fn holds(self, &[average, _, mix, _]: &Entry) -> bool {
         i64::from(average) <= self.average && i64::from(mix) <= self.mix
     }
 }
@@ -221,11 +250,16 @@ fn decide(body: Body, summaries: &[u32], worst: &[u32], place: usize, bodies: u3
     for level in (0..levels).rev() {
         let own = Room::before(summaries, level, bodies, left);
         if own.holds(entry(summaries, place * levels + level)) {
-            let grant = if level + 1 == levels {
-                coast::<false>(body, summaries, worst, place, bodies, level, own, own)
-            } else {
+            let n = body.n as usize;
+            let most = (n - place + bodies as usize * n).min(LONGEST_COAST);
+            let grant = if level + 1 < levels {
                 let above = Room::before(summaries, level + 1, bodies, left);
-                coast::<true>(body, summaries, worst, place, bodies, level, own, above)
+                coast::<true>(body, summaries, worst, place, bodies, level, own, above, most)
+            } else if last_reach(body, summaries, place, bodies, level, most) <= left {
+                // The longest by its ends: the level fits at the first of them already.
+                most as u32
+            } else {
+                coast::<false>(body, summaries, worst, place, bodies, level, own, own, most)
             };
             return Decision { level, late: false, grant };
         }
@@ -233,8 +267,8 @@ fn decide(body: Body, summaries: &[u32], worst: &[u32], place: usize, bodies: u3
     Decision { level: 0, late: true, grant: 1 }
 }
 
-/// The actions up to the first that could begin too late for the level, or at which the one above fits; no coast past it qualifies. The first is
-/// known to be none. It is walked body by body, with `rest` still to be looked at.
+/// The actions up to the first that could begin too late for the level, or at which the one above fits, `most` of them at the most; read at each
+/// position no coast past it qualifies. The first is known to be none. It is walked body by body, with `rest` still to be looked at.
 #[inline(always)]
 #[allow(clippy::too_many_arguments)]
 fn coast<const ABOVE: bool>(
@@ -246,9 +280,10 @@ fn coast<const ABOVE: bool>(
     level: usize,
     mut own: Room,
     mut above: Room,
+    most: usize,
 ) -> u32 {
-    let (n, levels) = (body.n as usize, body.levels as usize);
-    let (cells, most) = (n * levels, (n - place + bodies as usize * n).min(LONGEST_COAST));
+    let levels = body.levels as usize;
+    let cells = body.n as usize * levels;
     let mut cell = place * levels + level;
     let mut rest = most - 1;
     own = own.later(worst[cell]);

@@ -106,13 +106,14 @@ fn accept_body(image: &[u8], repeats: u32) -> Answer<Profile> {
 
 // ---- summaries
 
-/// What a stretch of positions is summed up by at a level: its averages, its worst times at level 0, and the greatest over its positions j of the
-/// averages before j, the worst time of j and the level 0 worst times after j.
+/// What a stretch of positions is summed up by at a level: its averages, its worst times at level 0, the greatest over its positions j of the
+/// averages before j, the worst time of j and the level 0 worst times after j, and its worst times at the level.
 #[derive(Clone, Copy, Debug, PartialEq, Eq)]
 pub struct Sums {
     pub average: i64,
     pub lowest: i64,
     pub mix: i64,
+    pub worst: i64,
 }
 
 /// Of any number of positions.
@@ -130,6 +131,7 @@ impl Sums {
             average: planned.average(i, k, q),
             lowest: (i..=k).map(|p| planned.worst[p][0]).sum(),
             mix: (i..=k).map(|j| before(j) + planned.safe(j, k, q)).max().expect("i is among them"),
+            worst: (i..=k).map(|p| planned.worst[p][q]).sum(),
         }
     }
 
@@ -139,6 +141,7 @@ impl Sums {
             average: self.average + next.average,
             lowest: self.lowest + next.lowest,
             mix: (self.mix + next.lowest).max(self.average + next.mix),
+            worst: self.worst + next.worst,
         }
     }
 
@@ -151,6 +154,7 @@ impl Sums {
             average: many * self.average,
             lowest: many * self.lowest,
             mix: self.mix + (many - 1) * self.average.max(self.lowest),
+            worst: many * self.worst,
         })
     }
 }
@@ -179,12 +183,40 @@ impl Lent<'_> {
     /// The rest of the body from a place in it.
     fn rest(&self, place: usize, q: usize) -> Sums {
         let at = (place * self.levels() + q) * SUMMARY_NUMBERS;
-        let [average, lowest, mix] = [0, 1, 2].map(|number| i64::from(self.summaries[at + number]));
-        Sums { average, lowest, mix }
+        let [average, lowest, mix, worst] = [0, 1, 2, 3].map(|number| i64::from(self.summaries[at + number]));
+        Sums { average, lowest, mix, worst }
+    }
+
+    /// All positions from one on: the rest of its body, then the whole bodies after that.
+    fn from(&self, i: usize, q: usize) -> Sums {
+        let after = i64::from(self.body.repeats) - 1 - (i / self.n()) as i64;
+        match Summary::Of(self.rest(i % self.n(), q)).join(self.rest(0, q).bodies(after)) {
+            Summary::Of(sums) => sums,
+            Summary::Empty => panic!("the position itself is in it"),
+        }
     }
 
     fn worst(&self, position: usize, q: usize) -> i64 {
         i64::from(self.worst[position % self.n() * self.levels() + q])
+    }
+
+    /// The most actions that a coast may have.
+    fn longest(&self, i: usize) -> usize {
+        LONGEST_COAST.min(self.positions() - i)
+    }
+
+    /// The bound of a coast read at each of its positions: the least, over these, of the limit less the worst times before it.
+    fn each(&self, i: usize, q: usize, r: usize) -> i64 {
+        let bound = |j: usize| self.limit(j, q) - (i..j).map(|p| self.worst(p, q)).sum::<i64>();
+        (i..i + r).map(bound).min().expect("r is at least 1")
+    }
+
+    /// The bound of a coast read by its ends, the first position and the last: the worst times before the last are those from the first on less
+    /// those from the last on, as these are summed up, and 0 where the latter are more.
+    fn ends(&self, i: usize, q: usize, r: usize) -> i64 {
+        let (first, last) = (self.from(i, q), self.from(i + r - 1, q));
+        let spent = (first.worst - last.worst).max(0);
+        i64::from(self.body.cycle) - first.mix.max(spent + last.mix)
     }
 }
 
@@ -197,20 +229,21 @@ impl Limits for Lent<'_> {
         self.body.levels as usize
     }
 
-    /// The cycle less what is summed up of the rest of its body and of the whole bodies after it.
+    /// The cycle less what is summed up of all positions from there on.
     fn limit(&self, i: usize, q: usize) -> i64 {
-        let after = i64::from(self.body.repeats) - 1 - (i / self.n()) as i64;
-        let rest = Summary::Of(self.rest(i % self.n(), q)).join(self.rest(0, q).bodies(after));
-        let Summary::Of(Sums { mix, .. }) = rest else { panic!("the position itself is in it") };
-        i64::from(self.body.cycle) - mix
+        i64::from(self.body.cycle) - self.from(i, q).mix
     }
 
+    /// Read at each position, and at the top level, where the coast is as long as there may be, by its ends too: the greater counts.
     fn coast_bound(&self, i: usize, q: usize, r: usize) -> i64 {
         if r > self.positions() - i {
             return ABSENT_LONG;
         }
-        let bound = |j: usize| self.limit(j, q) - (i..j).map(|p| self.worst(p, q)).sum::<i64>();
-        (i..i + r).map(bound).min().expect("r is at least 1")
+        let each = self.each(i, q, r);
+        if q + 1 == self.levels() && r == self.longest(i) {
+            return each.max(self.ends(i, q, r));
+        }
+        each
     }
 }
 
@@ -236,8 +269,8 @@ pub fn plan_body(
     }
     for (i, q) in (0..n).flat_map(|i| (0..levels).map(move |q| (i, q))) {
         let cell = i * levels + q;
-        let Sums { average, lowest, mix } = Sums::stretch(&planned, i, n - 1, q);
-        for (number, sum) in [average, lowest, mix].into_iter().enumerate() {
+        let Sums { average, lowest, mix, worst: all } = Sums::stretch(&planned, i, n - 1, q);
+        for (number, sum) in [average, lowest, mix, all].into_iter().enumerate() {
             summaries[cell * SUMMARY_NUMBERS + number] = sum as u32;
         }
         worst[cell] = planned.worst[i][q] as u32;
@@ -296,6 +329,25 @@ pub fn body_bound(
         return Err(refused::READING);
     }
     Ok(lent.coast_bound(position, level, length))
+}
+
+/// The coast at a position that is there which is read in two ways, as long as there may be and at the top level.
+#[derive(Clone, Copy, Debug, PartialEq, Eq)]
+pub struct Longest {
+    pub length: usize,
+    /// Its bound at each position.
+    pub each: i64,
+    /// Its bound by its ends.
+    pub ends: i64,
+}
+
+impl Longest {
+    /// Of tables that have room for the body.
+    pub fn of(body: Body, summaries: &[u32], worst: &[u32], position: usize) -> Longest {
+        let lent = Lent { body, summaries, worst };
+        let (length, top) = (lent.longest(position), lent.levels() - 1);
+        Longest { length, each: lent.each(position, top, length), ends: lent.ends(position, top, length) }
+    }
 }
 
 // ---- the run

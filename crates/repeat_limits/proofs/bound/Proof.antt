@@ -48,25 +48,27 @@ returns-2 c =
 spot-of-requires : tie.Need-spot-of-requires
 spot-of-requires c κs = let h = bounded (c .before .before .before) .stands in (h .counts, h .present)
 
-reach-requires : tie.Need-reach-requires
-reach-requires c κs =
+least-reach-requires : tie.Need-least-reach-requires
+least-reach-requires c κs =
     let h = bounded (c .before .before .before .before) in
     let n = h .stands .counts .some-action in
     let at = c .spot-of .ensures in
     record {
-      counts = h .stands .counts;
-      summed = h .stands .summed;
+      spans = record {
+        counts = h .stands .counts;
+        summed = h .stands .summed;
+        inside = place-in n at;
+        fewer = fewer n at;
+        level = h .stands .level;
+        some = h .some;
+        most = h .most;
+        room = omega (arith, rest-left n at, c .before .if2 .left);
+      };
       timed = h .timed;
-      inside = place-in n at;
-      fewer = fewer n at;
-      level = h .stands .level;
-      some = h .some;
-      most = h .most;
-      room = omega (arith, rest-left n at, c .before .if2 .left);
     }
 
 less-requires : tie.Need-less-requires
-less-requires c κs = (omega arith, omega (arith, c .before .reach .ensures .0))
+less-requires c κs = (omega arith, omega (arith, c .before .least-reach .ensures .0))
 
 returns-3 : tie.Need-returns-3
 returns-3 c =
@@ -75,9 +77,9 @@ returns-3 c =
     let s = e .before .before .before .before in
     let a = s .args in
     let h = bounded e in
-    rw (kept (a .body .cycle) (r .reach .result) (c .less .ensures) (omega arith) (omega (arith, r .reach .ensures .0)))
+    rw (kept (a .body .cycle) (r .least-reach .result) (c .less .ensures) (omega arith) (omega (arith, r .least-reach .ensures .0)))
     (bound-answered (a .body) (lent s) (a .position) (a .level) (a .length) _ (h .stands .level) (h .some) (clear e)
-    (r .reach .ensures .1 (a .position) (r .before .spot-of .ensures)
+    (r .least-reach .ensures .1 (a .position) (r .before .spot-of .ensures)
     ∙ present-is (a .body) (lent s) (a .position) (a .level) (a .length) (r .before .before .if2 .left)))
 
 pub bound-spec : {M : Type 1} → statement M
@@ -92,7 +94,7 @@ bound-spec =
     sub-if2
     returns-2
     spot-of-requires
-    reach-requires
+    least-reach-requires
     (λ c. search needs)
     less-requires
     returns-3)

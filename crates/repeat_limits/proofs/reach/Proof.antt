@@ -35,43 +35,43 @@ lent s = record { order = []; summaries = s .args .summaries .now; worst = s .ar
 -- from the position that stands there: where the last one walked to stands, and that one more follows
 walked : (c : tie.In-loop Inv-loop μ-loop) → let a = start c .args in let l = c .before .loop in
     Reaching (a .body) (lent (start c)) ((a .body .repeats - 1 - a .after) * a .body .n + a .place) (a .level) (l .k) (l .spot .place) (l .spot .after) (l .spent) (l .most)
-walked c = c .before .loop .inv .3 _ (from-stands (start c .pre))
+walked c = c .before .loop .inv .3 _ (from-stands (start c .pre .spans))
 
 follows : (c : tie.In-loop Inv-loop μ-loop) → let a = start c .args in
     suc ((a .body .repeats - 1 - a .after) * a .body .n + a .place + (c .before .loop .k - 1)) < positions (a .body)
-follows c = omega (arith, room-left (start c .pre) (from-stands (start c .pre)), walked c .some)
+follows c = omega (arith, room-left (start c .pre .spans) (from-stands (start c .pre .spans)), walked c .some)
 
 -- the entry read, and the worst time read there
 entry : (c : tie.In-loop Inv-loop μ-loop) → Entry (start c .args .body) (c .before .loop .spot .place) (start c .args .level)
-entry c = entry-there (start c .pre) (walked c .stands)
+entry c = entry-there (start c .pre .spans) (walked c .stands)
 
 -- ---- what is asked on the way
 
 mul-mix-from : tie.Need-mul-mix-from Inv-loop μ-loop
-mul-mix-from c = let s = c .before .before .before in omega (arith, entry-there (s .pre) (from-stands (s .pre)))
+mul-mix-from c = let s = c .before .before .before in omega (arith, entry-there (s .pre .spans) (from-stands (s .pre .spans)))
 
 add-mix-from : tie.Need-add-mix-from Inv-loop μ-loop
-add-mix-from c = let s = c .before .before .before in omega (arith, entry-there (s .pre) (from-stands (s .pre)), s .pre .level)
+add-mix-from c = let s = c .before .before .before in omega (arith, entry-there (s .pre .spans) (from-stands (s .pre .spans)), s .pre .spans .level)
 
 mix-from-requires : tie.Need-mix-from-requires Inv-loop μ-loop
-mix-from-requires c κs = let s = c .before .before .before in summed-there (s .pre) (from-stands (s .pre))
+mix-from-requires c κs = let s = c .before .before .before in summed-there (s .pre .spans) (from-stands (s .pre .spans))
 
 loop-holds : tie.Need-loop-holds Inv-loop μ-loop
 loop-holds c =
     let s = c .before .before .before .before in
-    (s .pre .some, omega arith, omega (arith, c .mix-from .ensures .1), λ i h. reaching-one _ _ i _ h (c .mix-from .ensures .0))
+    (s .pre .spans .some, omega arith, omega (arith, c .mix-from .ensures .1), λ i h. reaching-one _ _ i _ h (c .mix-from .ensures .0))
 
 mul-spent : tie.Need-mul-spent Inv-loop μ-loop
 mul-spent c = omega (arith, entry (c .before))
 
 add-spent : tie.Need-add-spent Inv-loop μ-loop
-add-spent c = omega (arith, entry (c .before), start (c .before) .pre .level)
+add-spent c = omega (arith, entry (c .before), start (c .before) .pre .spans .level)
 
 mul-spent-2 : tie.Need-mul-spent-2 Inv-loop μ-loop
 mul-spent-2 c = omega (arith, entry (c .before))
 
 shared-slice-read-spent : tie.Need-shared-slice-read-spent Inv-loop μ-loop
-shared-slice-read-spent c = let s = start (c .before .before) in omega (arith, entry (c .before .before), s .pre .level, s .pre .timed)
+shared-slice-read-spent c = let s = start (c .before .before) in omega (arith, entry (c .before .before), s .pre .spans .level, s .pre .timed)
 
 cast-spent : tie.Need-cast-spent Inv-loop μ-loop
 cast-spent c = let a = start (c .before .before) .args in
@@ -79,7 +79,7 @@ cast-spent c = let a = start (c .before .before) .args in
 
 -- at most sixteen positions
 few : (c : tie.In-loop Inv-loop μ-loop) → c .before .loop .k * 4294967295 ≤ 15 * 4294967295
-few c = let l : c .before .loop .k ≤ 15 = omega (arith, start c .pre .most) in mul-le-mul-right 4294967295 l
+few c = let l : c .before .loop .k ≤ 15 = omega (arith, start c .pre .spans .most) in mul-le-mul-right 4294967295 l
 
 add-spent-2 : tie.Need-add-spent-2 Inv-loop μ-loop
 add-spent-2 c =
@@ -90,12 +90,12 @@ add-spent-2 c =
       c .shared-slice-known3 .given (l .spot .place * a .body .levels + a .level),
       l .inv .0,
       l .inv .1,
-      start (c .before .before) .pre .most,
+      start (c .before .before) .pre .spans .most,
       few (c .before .before),
     )
 
 next-spot-requires : tie.Need-next-spot-requires Inv-loop μ-loop
-next-spot-requires c κs = let w = c .before .before in more-there (start w .pre) (walked w .stands) (follows w)
+next-spot-requires c κs = let w = c .before .before in more-there (start w .pre .spans) (walked w .stands) (follows w)
 
 -- where the next one stands
 next-stands : (c : tie.After-next-spot Inv-loop μ-loop) → let w = c .before .before .before in let a = start w .args in
@@ -104,16 +104,16 @@ next-stands : (c : tie.After-next-spot Inv-loop μ-loop) → let w = c .before .
 next-stands c = let w = c .before .before .before in c .next-spot .ensures _ (walked w .stands) (follows w)
 
 next-entry : (c : tie.After-next-spot Inv-loop μ-loop) → let a = start (c .before .before .before) .args in Entry (a .body) (c .next-spot .result .place) (a .level)
-next-entry c = entry-there (start (c .before .before .before) .pre) (next-stands c)
+next-entry c = entry-there (start (c .before .before .before) .pre .spans) (next-stands c)
 
 mul-mix-from-2 : tie.Need-mul-mix-from-2 Inv-loop μ-loop
 mul-mix-from-2 c = omega (arith, next-entry (c .before))
 
 add-mix-from-2 : tie.Need-add-mix-from-2 Inv-loop μ-loop
-add-mix-from-2 c = omega (arith, next-entry (c .before), start (c .before .before .before .before) .pre .level)
+add-mix-from-2 c = omega (arith, next-entry (c .before), start (c .before .before .before .before) .pre .spans .level)
 
 mix-from-requires-2 : tie.Need-mix-from-requires-2 Inv-loop μ-loop
-mix-from-requires-2 c κs = summed-there (start (c .before .before .before .before) .pre) (next-stands (c .before))
+mix-from-requires-2 c κs = summed-there (start (c .before .before .before .before) .pre .spans) (next-stands (c .before))
 
 -- the worst times added
 passed : (c : tie.After-shared-slice-known3 Inv-loop μ-loop) → let w = c .before .before in let a = start w .args in
@@ -145,7 +145,7 @@ loop-again c =
       λ i h.
           let R = l .inv .3 i h in
           rw (c .greater .ensures, c .before .mix-from2 .ensures .0)
-          (reaching-more _ _ i _ R (next .next-spot .ensures _ (R .stands) (omega (arith, room-left (start w .pre) h, R .some)))),
+          (reaching-more _ _ i _ R (next .next-spot .ensures _ (R .stands) (omega (arith, room-left (start w .pre .spans) h, R .some)))),
     )
 
 returns : tie.Need-returns Inv-loop μ-loop
@@ -156,7 +156,7 @@ returns c =
     (omega (arith, l .inv .2, mul-le-mul-right 4294967295 (fewer c)), λ i h. reaching-all _ _ i _ (s .args .length) (l .inv .3 i h) all)
   where
     fewer : (c : tie.After-loop Inv-loop μ-loop) → c .before .loop .k - 1 ≤ 15
-    fewer c = omega (arith, c .before .before .before .before .before .before .pre .most, c .before .loop .inv .0)
+    fewer c = omega (arith, c .before .before .before .before .before .before .pre .spans .most, c .before .loop .inv .0)
 
 pub reach-spec : {M : Type 1} → statement M
 reach-spec =

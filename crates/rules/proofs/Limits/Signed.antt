@@ -1,7 +1,7 @@
 -- Whole numbers with a sign, read by ℕ alone: `AtMost t b z` says t - b ≤ z, and settles z. Assumes nothing.
 use Prim.Native.Nat.{ℕ, zero, suc, _+_, _-_, _≤_, _<_}
 use mathlib.Core.Path.{_≡_, ap, subst}
-use mathlib.Core.Logic.{_↔_}
+use mathlib.Core.Logic.{_↔_, _⊎_, inl, inr, ⊎-elim}
 use mathlib.Core.Bool.{Bool, true, false, not, cond}
 use native.Mathlib.Nat.{le-refl, le-antisymm}
 use native.Mathlib.Decide.{decLe}
@@ -9,7 +9,7 @@ use native.Mathlib.Omega.{arith}
 use lib.Dec.{T, leb, ltb, leb→le, le→leb, nleb→lt, ltb→lt, nltb→le}
 use lib.IntN.{ℤ, pos, negsuc, subℕ, _-ℤ_}
 use lib.Signed.{_≤ℤ_}
-use Rattle.rules.specs.Words.{minZ, least-of}
+use Rattle.rules.specs.Words.{minZ, maxZ, least-of}
 
 abbrev pub AtMost : ℕ → ℕ → ℤ → Type 0
 AtMost t b (pos n) = t ≤ n + b
@@ -33,6 +33,16 @@ at-most-min t b (negsuc m) (pos n) = ((λ h. omega arith), (λ h. h .0))
 at-most-min t b (negsuc m) (negsuc n) = by-test (leb n m) (negsuc m) (negsuc n) (λ z. AtMost t b z ↔ ((t + suc m ≤ b) × (t + suc n ≤ b)))
     (λ l. let k : n ≤ m = leb→le n m l in ((λ h. omega arith), (λ h. h .0)))
     (λ l. let k : m < n = nleb→lt n m l in ((λ h. omega arith), (λ h. h .1)))
+
+pub at-most-max : (t b : ℕ) (x y : ℤ) → AtMost t b (maxZ x y) ↔ (AtMost t b x ⊎ AtMost t b y)
+at-most-max t b (pos m) (pos n) = by-test (leb m n) (pos n) (pos m) (λ z. AtMost t b z ↔ ((t ≤ m + b) ⊎ (t ≤ n + b)))
+    (λ l. let k : m ≤ n = leb→le m n l in ((λ h. inr h), ⊎-elim (λ u. omega arith) (λ u. u)))
+    (λ l. let k : n < m = nleb→lt m n l in ((λ h. inl h), ⊎-elim (λ u. u) (λ u. omega arith)))
+at-most-max t b (pos m) (negsuc n) = ((λ h. inl h), ⊎-elim (λ u. u) (λ u. omega arith))
+at-most-max t b (negsuc m) (pos n) = ((λ h. inr h), ⊎-elim (λ u. omega arith) (λ u. u))
+at-most-max t b (negsuc m) (negsuc n) = by-test (leb n m) (negsuc n) (negsuc m) (λ z. AtMost t b z ↔ ((t + suc m ≤ b) ⊎ (t + suc n ≤ b)))
+    (λ l. let k : n ≤ m = leb→le n m l in ((λ h. inr h), ⊎-elim (λ u. omega arith) (λ u. u)))
+    (λ l. let k : m < n = nleb→lt n m l in ((λ h. inl h), ⊎-elim (λ u. u) (λ u. omega arith)))
 
 pub at-most-less : (t b : ℕ) (z : ℤ) (c : ℕ) → AtMost t b (z -ℤ pos c) ↔ AtMost (t + c) b z
 at-most-less t b (pos n) zero = ((λ h. omega arith), (λ h. omega arith))

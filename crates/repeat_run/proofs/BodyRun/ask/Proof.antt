@@ -10,7 +10,7 @@ use mir.Val.{Fits}
 use borrow.Author.Needs.{needs}
 use Rattle.rules.specs.Numbers.{most-positions}
 use Rattle.rules.specs.Run.{Run, gives}
-use Rattle.rules.specs.Repeat.{LentBody, lent-plan, action-at, body-ask-refusal, body-ask}
+use Rattle.rules.specs.Repeat.{LentBody, lent-each, lent-plan, action-at, body-ask-refusal, body-ask}
 use Rattle.repeat_laws.proofs.Places.{place-lt}
 use Rattle.run.proofs.Turns.{asked-refused, asked-decided, asked-coasted}
 use Rattle.repeat_run.specs.Calls.{steps-of}
@@ -101,7 +101,7 @@ decided-requires c κs =
     omega (arith, h .may .counted, h .may .more, h .ranged .products .total)
 
 returns-2 : tie.Need-returns-2
-unfolding body-ask lent-plan
+unfolding body-ask lent-plan lent-each
 returns-2 c =
     let d = c .decided .ensures in
     let spot = c .before .before .before .before .before .before in
