@@ -12,7 +12,7 @@ use Rattle.rules.proofs.Limits.Signed.{time-at-most, time-less}
 use Rattle.repeat_laws.specs.Standing.{Standing}
 use Rattle.repeat_laws.proofs.Standing.{rest-left}
 use Rattle.repeat_laws.proofs.Coasting.{Ends, granted-ends, granted-each}
-use Rattle.repeat_limits.specs.Limits.{Spans, last-mix}
+use Rattle.repeat_limits.specs.Limits.{last-mix}
 use Rattle.repeat_decision.specs.Decision.{MayGrant}
 use Rattle.repeat_decision.specs.declared.Fit.{Fit}
 
@@ -20,18 +20,6 @@ module _ {b : Body} {T : LentBody} {place after t longest : ℕ} {f : Fit} (h : 
     (long : longest ≡ min longest-coast (after * b .n + (b .n - place))) where
   some : 0 < longest
   some = omega (arith, long, h .summarised .inside)
-
-  pub spans : Spans b (T .summaries) place after (f .levels - 1) longest
-  spans = record {
-    counts = h .summarised .counts;
-    summed = h .summarised .summed;
-    inside = h .summarised .inside;
-    fewer = h .summarised .fewer;
-    level = h .level;
-    some = some;
-    most = omega (arith, long);
-    room = omega (arith, long);
-  }
 
   module _ {x : ℕ} (s : Standing b x place after) where
     length-is : longest ≡ min longest-coast (positions b - x)

@@ -143,11 +143,11 @@ positions b = b .repeats * b .n
 abbrev pub body-of : Profile → ℕ → Body
 body-of F N = record { n = F .n; levels = F .levels; cycle = F .cycle; repeats = N }
 
--- All positions from x on, where `rest` has the summaries of the rest of a body: those of its own body, then the whole bodies after it. M and V of
--- them.
+-- All positions from x on, where `rest` has the summaries of the rest of a body: those of its own body, then the whole bodies after it
 abbrev pub sums-from : Body → (ℕ → ℕ → Sums) → ℕ → ℕ → Sums
 sums-from b rest x q = followed (rest (x % b .n) q) (bodies (rest 0 q) (b .repeats - 1 - x / b .n))
 
+-- M of them, and V
 unfoldable pub mix-from : Body → (ℕ → ℕ → Sums) → ℕ → ℕ → ℕ
 mix-from b rest x q = sums-from b rest x q .mix
 
@@ -167,13 +167,14 @@ body-plan b rest worst = record {
   bound = λ i q r. least-of (λ j. limit-from b rest j q -ℤ pos (span (λ p. worst (p % b .n) q) i j)) i (r - 1);
 }
 
--- At the top level a coast that is as long as there may be is read by its ends as well, its first and its last position alone: the worst times
--- before the last are V from the first on less V from the last on, and 0 where that is the greater.
+-- A coast read by its ends, its first and its last position alone: the cycle must have room for M from the first on, and for the worst times
+-- before the last and M from that on. These worst times are V from the first on less V from the last on, and 0 where that is the greater.
 abbrev pub ends-mix : Body → (ℕ → ℕ → Sums) → ℕ → ℕ → ℕ → ℕ
 ends-mix b rest i q r =
     let last : ℕ = i + (r - 1) in
     max (mix-from b rest i q) (worst-from b rest i q - worst-from b rest last q + mix-from b rest last q)
 
+-- It is so read at the top level, where it is as long as there may be: 16 actions, or all that are left.
 abbrev pub by-ends : Body → ℕ → ℕ → ℕ → Bool
 by-ends b i q r = leb (b .levels) (suc q) && eqb r (min longest-coast (positions b - i))
 
@@ -189,11 +190,11 @@ stretch-at l x = record {
 abbrev pub rest-lent : Body → LentBody → ℕ → ℕ → Sums
 rest-lent b T i q = stretch-at (T .summaries) (i * b .levels + q)
 
--- a coast read at each of its positions
+-- every coast read at each of its positions
 unfoldable pub lent-each : Body → LentBody → Plan
 lent-each b T = body-plan b (rest-lent b T) (cell (T .worst) (b .levels))
 
--- and by its ends, whichever bound is the greater: where planning wrote the tables they are the same
+-- and where it may be by its ends too, with the greater of the two bounds. Where planning wrote the tables they are the same.
 unfoldable pub lent-plan : Body → LentBody → Plan
 lent-plan b T = record {
   n = positions b;

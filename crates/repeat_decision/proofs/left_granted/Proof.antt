@@ -2,7 +2,7 @@
 use mathlib.Core.Logic.{⊎-elim}
 use native.Mathlib.Omega.{arith}
 use borrow.Author.Needs.{needs}
-use Rattle.repeat_decision.proofs.Ends.{spans, long-granted, each-granted}
+use Rattle.repeat_decision.proofs.Ends.{long-granted, each-granted}
 use Rattle.repeat_decision.proofs.left_granted.Statement.{statement}
 use Rattle.repeat_decision.proofs.left_granted.Tie as tie
 
@@ -11,14 +11,14 @@ returns c x s =
     let last = c .before .before in
     let top = last .before .before in
     let m = top .before .before .before in
-    long-granted (m .before .before .before .before .pre) (m .most .ensures) s (top .if1 .taken) (omega (arith, c .if2 .taken, last .last-reach .ensures .1 x s))
+    long-granted (m .before .before .before .before .pre) (m .most .ensures) s (omega (arith, top .if1 .taken)) (omega (arith, c .if2 .taken, last .last-reach .ensures .1 x s))
 
 -- below the top level, or without room at the last position
 returns-2 : tie.Need-returns-2
 returns-2 c x s =
     let m = c .before .before .before .before in
     each-granted (m .before .before .before .before .pre) (m .most .ensures) s
-    (⊎-elim (λ no-room top. omega (arith, no-room .4 .left, no-room .2 .ensures .1 x s)) (λ below top. absurd (below .left top)) (c .before .if1 .came))
+    (⊎-elim (λ no-room top. omega (arith, no-room .4 .left, no-room .2 .ensures .1 x s)) (λ below top. absurd (omega (arith, below .left, top))) (c .before .if1 .came))
     (c .left-walked .ensures x s)
 
 pub left-granted-spec : {M : Type 1} → statement M
