@@ -5,14 +5,13 @@ use native.Mathlib.Omega.{arith}
 use lib.IntN.{pos}
 use Rattle.rules.specs.Numbers.{longest-coast}
 use Rattle.rules.specs.Run.{left-granted}
-use Rattle.rules.specs.Repeat.{LentBody, positions, mix-from, rest-lent, lent-each, lent-plan}
+use Rattle.rules.specs.Repeat.{LentBody, positions, mix-from, last-mix, rest-lent, lent-each, lent-plan}
 use Rattle.rules.specs.declared.Body.{Body}
 use Rattle.rules.proofs.Tests.{pass}
 use Rattle.rules.proofs.Limits.Signed.{time-at-most, time-less}
 use Rattle.repeat_laws.specs.Standing.{Standing}
 use Rattle.repeat_laws.proofs.Standing.{rest-left}
 use Rattle.repeat_laws.proofs.Coasting.{Ends, granted-ends, granted-each}
-use Rattle.repeat_limits.specs.Limits.{last-mix}
 use Rattle.repeat_decision.specs.Decision.{MayGrant}
 use Rattle.repeat_decision.specs.declared.Fit.{Fit}
 
@@ -34,7 +33,7 @@ module _ {b : Body} {T : LentBody} {place after t longest : ℕ} {f : Fit} (h : 
     )
 
     -- at the top level, with room at its last position too
-    pub long-granted : f .levels ≡ b .levels → t + last-mix b (T .summaries) x (f .levels - 1) longest ≤ b .cycle
+    pub long-granted : f .levels ≡ b .levels → t + last-mix b (rest-lent b T) x (f .levels - 1) longest ≤ b .cycle
         → longest - 1 ≡ left-granted longest-coast (lent-plan b T) t x (f .levels - 1)
     long-granted top room =
         let all : longest ≡ suc (longest - 1) = omega (arith, some) in
@@ -42,7 +41,7 @@ module _ {b : Body} {T : LentBody} {place after t longest : ℕ} {f : Fit} (h : 
         (subst (Ends b T t x (f .levels - 1)) all (record { top = omega (arith, top); longest = length-is; room = omega (arith, room, first-fits) }))
 
     -- else each position tells
-    pub each-granted : (f .levels ≡ b .levels → b .cycle < t + last-mix b (T .summaries) x (f .levels - 1) longest) → {left : ℕ}
+    pub each-granted : (f .levels ≡ b .levels → b .cycle < t + last-mix b (rest-lent b T) x (f .levels - 1) longest) → {left : ℕ}
         → left ≡ left-granted longest-coast (lent-each b T) t x (f .levels - 1) → left ≡ left-granted longest-coast (lent-plan b T) t x (f .levels - 1)
     each-granted late e = e ∙ granted-each b T t x (f .levels - 1) (s .present) (λ E.
         let there = subst (Ends b T t x (f .levels - 1)) (sym length-is) E in

@@ -13,7 +13,7 @@ use borrow.Author.Tests.{ltb-true, ltb-false, lt-ltb, le-leb, lt-leb, eq-eqb, eq
 use Rattle.rules.specs.Numbers.{longest-coast}
 use Rattle.rules.specs.Words.{sum, span, greatest-of, maxZ, least-of}
 use Rattle.rules.specs.Dry.{cell}
-use Rattle.rules.specs.Repeat.{LentBody, positions, stretch-at, rest-lent, mix-from, by-ends, lent-each, lent-plan}
+use Rattle.rules.specs.Repeat.{LentBody, positions, stretch-at, rest-lent, mix-from, last-mix, by-ends, lent-each, lent-plan}
 use Rattle.rules.specs.declared.Body.{Body}
 use Rattle.rules.proofs.Sums.{sum-longer}
 use Rattle.rules.proofs.Differences.{take-both}
@@ -24,9 +24,9 @@ use Rattle.repeat_laws.proofs.Mixed.{each-greatest, greatest-under}
 use Rattle.repeat_laws.proofs.Places.{row-lt}
 use Rattle.repeat_laws.proofs.Standing.{stands, place-in, fewer, next-body, further, rest-left}
 use Rattle.repeat_laws.proofs.Plan.{least-same}
-use Rattle.repeat_limits.specs.Limits.{Stands, Summed, MoreAfter, Spans, last-mix}
+use Rattle.repeat_limits.specs.Limits.{Stands, Summed, MoreAfter, Spans}
 use Rattle.repeat_limits.proofs.Sizes.{mix-of}
-use Rattle.repeat_limits.proofs.Reading.{standing-mix, standing-worst}
+use Rattle.repeat_limits.proofs.Reading.{alone, standing-mix, standing-worst}
 use Rattle.repeat_limits.proofs.Refusing.{Entry, entry-of, summed-of}
 
 -- c less the greatest is the least of c less each
@@ -131,7 +131,7 @@ module _ (b : Body) (T : LentBody) (i q r each : ℕ) (is : pos (b .cycle) -ℤ 
 
   -- where they do
   pub by-either : {first last : ℕ} → b .levels ≤ suc q → r ≡ min longest-coast (positions b - i)
-      → first ≡ mix-from b (rest-lent b T) i q → last ≡ last-mix b (T .summaries) i q r
+      → first ≡ mix-from b (rest-lent b T) i q → last ≡ last-mix b (rest-lent b T) i q r
       → pos (b .cycle) -ℤ pos (min each (max first last)) ≡ lent-plan b T .bound i q r
   unfolding lent-plan
   by-either {first} {last} top long first-is last-is =
@@ -205,7 +205,7 @@ module _ {b : Body} {l : List ℕ} {place after q r : ℕ} (h : Spans b l place 
       → stretch-at l (place * b .levels + q) .worst + (place + r - 1) / b .n * stretch-at l q .worst
       - stretch-at l ((place + r - 1) % b .n * b .levels + q) .worst
       + mix-of l ((place + r - 1) % b .n * b .levels + q) q (after - (place + r - 1) / b .n)
-      ≡ last-mix b l x q r
+      ≡ last-mix b (rest-lent b (alone l)) x q r
   last-read {x} s =
       let last = last-stands s in
       let p : ℕ = (place + r - 1) / b .n in

@@ -12,7 +12,7 @@ use Rattle.rules.specs.Image.{Profile}
 use Rattle.rules.specs.Order.{Order, TheOrder}
 use Rattle.rules.specs.Limits.{tables, limit, planned}
 use Rattle.rules.specs.Refusals.{kept}
-use Rattle.rules.specs.Repeat.{unrolled, Sums, bodies, mix-from, worst-from, stretch-at, rest-lent, LentBody, positions, lent-plan, PlannedBody, body-limit-refusal, body-bound-refusal, bound-or-absent}
+use Rattle.rules.specs.Repeat.{unrolled, Sums, bodies, stretch-at, LentBody, positions, lent-plan, PlannedBody, body-limit-refusal, body-bound-refusal, bound-or-absent}
 use Rattle.rules.specs.declared.Body.{Body}
 use Rattle.repeat_limits.specs.declared.Limited.{Limited}
 use Rattle.repeat_limits.specs.declared.Later.{Later}
@@ -172,10 +172,3 @@ pub record Passes (summaries : List ℕ) (x y q passed : ℕ) : Type 0 where
   pub last : y * summary-numbers + summary-numbers ≤ length summaries
   pub whole : q * summary-numbers + summary-numbers ≤ length summaries
   pub few : passed < longest-coast
-
--- the worst times of a coast before its last position, by V, and M from that on
-abbrev pub last-mix : Body → List ℕ → ℕ → ℕ → ℕ → ℕ
-last-mix b summaries i q r =
-    let rest : ℕ → ℕ → Sums = rest-lent b (record { order = []; summaries = summaries; worst = [] }) in
-    let last : ℕ = i + (r - 1) in
-    worst-from b rest i q - worst-from b rest last q + mix-from b rest last q

@@ -10,9 +10,9 @@ ghost use lib.ListN.{length, getD};
 ghost use lib.Signed.{mag};
 ghost use Rattle.rules.specs.Numbers.{most-repeats, longest-coast, summary-numbers};
 ghost use Rattle.rules.specs.Refusals.{first};
-ghost use Rattle.rules.specs.Repeat.{followed, bodies, stretch-at, positions, lent-each, lent-plan, body-tests, body-limit-refusal, body-bound-refusal};
+ghost use Rattle.rules.specs.Repeat.{followed, bodies, last-mix, stretch-at, rest-lent, positions, lent-each, lent-plan, body-tests, body-limit-refusal, body-bound-refusal};
 ghost use Rattle.repeat_laws.specs.Standing.{Standing};
-ghost use Rattle.repeat_limits.specs.Limits.{signed-above, most-entry, greatest-mix, greatest-reach, CountsIn, Stands, Summed, later-of, BodiesAfter, Before, mix-before, LeavesRoom, Nears, room-left, fits-in, MoreAfter, Spans, Coasts, Passes, last-mix, LimitAnswers, BoundAnswers};
+ghost use Rattle.repeat_limits.specs.Limits.{signed-above, most-entry, greatest-mix, greatest-reach, CountsIn, Stands, Summed, later-of, BodiesAfter, Before, mix-before, LeavesRoom, Nears, room-left, fits-in, MoreAfter, Spans, Coasts, Passes, LimitAnswers, BoundAnswers};
 
 // What the limit or the coast bound asked for is; with a refusal it is 0.
 #[repr(C)]
@@ -266,7 +266,8 @@ pub fn last_reach(
 ) -> u64
     requires { ⌜ Spans body (now summaries) place after level length ⌝ }
     ensures small { λ r. ⌜ r ≤ greatest-reach ⌝ }
-    ensures is { λ r. ⌜ ((i : ℕ) → Standing body i place after → r ≡ last-mix body (now (summaries .entry)) i level length) ⌝ }
+    ensures is { λ r. ⌜ ((i : ℕ) → Standing body i place after → r
+        ≡ last-mix body (rest-lent body (record { order = []; summaries = now (summaries .entry); worst = [] })) i level length) ⌝ }
 {
     let levels = body.levels as usize;
     let ahead = (place + length - 1) as u32;

@@ -169,10 +169,11 @@ body-plan b rest worst = record {
 
 -- A coast read by its ends, its first and its last position alone: the cycle must have room for M from the first on, and for the worst times
 -- before the last and M from that on. These worst times are V from the first on less V from the last on, and 0 where that is the greater.
+abbrev pub last-mix : Body → (ℕ → ℕ → Sums) → ℕ → ℕ → ℕ → ℕ
+last-mix b rest i q r = let last : ℕ = i + (r - 1) in worst-from b rest i q - worst-from b rest last q + mix-from b rest last q
+
 abbrev pub ends-mix : Body → (ℕ → ℕ → Sums) → ℕ → ℕ → ℕ → ℕ
-ends-mix b rest i q r =
-    let last : ℕ = i + (r - 1) in
-    max (mix-from b rest i q) (worst-from b rest i q - worst-from b rest last q + mix-from b rest last q)
+ends-mix b rest i q r = max (mix-from b rest i q) (last-mix b rest i q r)
 
 -- It is so read at the top level, where it is as long as there may be: 16 actions, or all that are left.
 abbrev pub by-ends : Body → ℕ → ℕ → ℕ → Bool

@@ -7,6 +7,7 @@ use native.Mathlib.Nat.{mul-le-mul}
 use native.Mathlib.Omega.{arith}
 use lib.IntN.{pos, _-ℤ_}
 use borrow.Author.Needs.{needs}
+use Rattle.rules.specs.Numbers.{most-actions, most-repeats}
 use Rattle.rules.specs.Repeat.{LentBody}
 use Rattle.repeat_laws.proofs.Standing.{rest-left}
 use Rattle.repeat_limits.proofs.Reading.{standing-mix}
@@ -18,10 +19,10 @@ abbrev lent : tie.Start → LentBody
 lent s = record { order = []; summaries = s .args .summaries .now; worst = s .args .worst .now }
 
 -- the bodies of a frame
-few : (s : tie.Start) → s .args .after * s .args .body .n ≤ 103680
+few : (s : tie.Start) → s .args .after * s .args .body .n ≤ most-repeats * most-actions
 few s =
     let h = s .pre .spans in
-    let less : s .args .after ≤ 1620 = omega (arith, h .fewer, h .counts .few-repeats) in
+    let less : s .args .after ≤ most-repeats = omega (arith, h .fewer, h .counts .few-repeats) in
     mul-le-mul less (h .counts .few)
 
 mul-left : tie.Need-mul-left

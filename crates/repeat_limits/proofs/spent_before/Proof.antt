@@ -1,19 +1,20 @@
 -- V of the bodies passed and of the rest before them, less that of the rest after them. Assumes nothing.
-use Prim.Native.Nat.{ℕ, _*_, _≤_}
+use Prim.Native.Nat.{ℕ, _-_, _*_, _≤_}
 use mathlib.Core.Path.{_≡_, ap}
 use native.Mathlib.Nat.{mul-le-mul}
 use native.Mathlib.Omega.{arith}
 use borrow.Author.Needs.{needs}
+use Rattle.rules.specs.Numbers.{longest-coast}
 use Rattle.rules.specs.Repeat.{stretch-at}
 use Rattle.repeat_limits.specs.Limits.{most-entry}
 use Rattle.repeat_limits.proofs.spent_before.Statement.{statement}
 use Rattle.repeat_limits.proofs.spent_before.Tie as tie
 
 -- the bodies of a coast are fewer than its actions
-whole : (c : tie.After-number-at2) → c .before .before .before .args .passed * c .number-at2 .result ≤ 15 * most-entry
+whole : (c : tie.After-number-at2) → c .before .before .before .args .passed * c .number-at2 .result ≤ (longest-coast - 1) * most-entry
 whole c =
     let s = c .before .before .before in
-    let few : s .args .passed ≤ 15 = omega (arith, s .pre .few) in
+    let few : s .args .passed ≤ longest-coast - 1 = omega (arith, s .pre .few) in
     mul-le-mul few (c .number-at2 .ensures .1)
 
 mul-all : tie.Need-mul-all
