@@ -127,7 +127,7 @@ module _ {F : Profile} (body : Repeatable F) (N : ℕ) {o : Order (F .n)} (x : T
       ∙ ap (λ (z : ℤ). z -ℤ pos (span w i last)) (limit-there body N o q sound m last (omega arith))
       ∙ take-both (F .cycle) (mix last) (span w i last)
 
-  -- and the first position has as much
+  -- and the first position needs no more
   first-less : mix i ≤ mix last + span w i last
   first-less =
       let c : ℕ = F .cycle in
