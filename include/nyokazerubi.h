@@ -441,13 +441,13 @@ struct nyokazerubi_limited nyokazerubi_body_bound(
 struct nyokazerubi_body_run {
     struct nyokazerubi_body body;
     uint64_t clock;    /* the last accepted one, at most 1073741823 */
-    uint32_t position; /* actions ended, of all repeats, and while one runs its position */
     uint32_t level;    /* the last given one */
+    uint32_t position; /* actions ended, of all repeats, and while one runs its position */
     uint32_t decisions;
     uint8_t left; /* actions left of the coast */
-    bool overrun; /* to the end of the cycle */
     bool running;
-    bool late; /* to the end of the cycle */
+    bool overrun; /* to the end of the cycle */
+    bool late;    /* to the end of the cycle */
 };
 
 /* Starts a cycle in the record, whatever bytes it held. 3, 19, which leave a record of zero actions. */

@@ -1,5 +1,5 @@
--- A plain struct with its laws; a struct of two such, the next record and the answer; and one that may have another record beside them, with a test
--- that says which is the next. Assumes nothing.
+-- A plain struct with its laws; a struct of two such, the next record and the answer; and one that may have another record beside them, or two, each
+-- with a test that says whether it is the next. Assumes nothing.
 use mathlib.Core.Path.{_≡_, refl}
 use mathlib.Core.Bool.{Bool, true, false, not, cond}
 use mathlib.Core.List.{List, [], _∷_}
@@ -108,42 +108,51 @@ module _ {S Q : Kind} (p : Pair S Q) where
   pub known-both : (x : p .D) → Known S (p .next x) → Known Q (p .answer x) → Known both x
   known-both x s q = LL.owes (both .type) (both .laws) x (s, (q, tt))
 
--- ---- one record to store, or two
+-- ---- one record to store, or more
 
--- What is stored behind the reference: the next record once; or that, and then another one where a test of the result holds.
+-- What is stored behind the reference: the next record once; or that, and then another one where a test of the result holds; or after it a third one
+-- where a second test does.
 pub data Stores (S : Kind) (D : Type 0) : Type 0 where
   once : Stores S D
   again : (D → Value S) → (D → Bool) → Stores S D
+  and-again : (D → Value S) → (D → Bool) → (D → Value S) → (D → Bool) → Stores S D
 
 -- the fields for it after the two
 module _ {S : Kind} {D : Type 0} where
   abbrev beyond : Stores S D → List Field
   beyond once = []
   beyond (again other test) = field (S .type) ∷ bool-field ∷ []
+  beyond (and-again other test third second) = field (S .type) ∷ bool-field ∷ field (S .type) ∷ bool-field ∷ []
 
   abbrev pub beyond-to : (s : Stores S D) → D → Denots (rows (beyond s))
   beyond-to once x = tt
   beyond-to (again other test) x = (S .type .to (other x), (test x, tt))
+  beyond-to (and-again other test third second) x = (S .type .to (other x), (test x, (S .type .to (third x), (second x, tt))))
 
   abbrev beyond-laws : (s : Stores S D) → LL.Lawss (beyond s)
   beyond-laws once = tt
   beyond-laws (again other test) = (part-laws S, (LL.bool-laws, tt))
+  beyond-laws (and-again other test third second) = (part-laws S, (LL.bool-laws, (part-laws S, (LL.bool-laws, tt))))
 
   abbrev beyond-plain : (s : Stores S D) → Plains (rows (beyond s))
   beyond-plain once = tt
   beyond-plain (again other test) = (LL.field-plain (S .type) (S .plain), (LL.bool-plain, tt))
+  beyond-plain (and-again other test third second) =
+      let record-plain = LL.field-plain (S .type) (S .plain) in
+      (record-plain, (LL.bool-plain, (record-plain, (LL.bool-plain, tt))))
 
   -- the record that is left there
   abbrev pub left-of : Stores S D → (D → Value S) → D → Value S
   left-of once next x = next x
   left-of (again other test) next x = cond (test x) (other x) (next x)
+  left-of (and-again other test third second) next x = cond (second x) (third x) (cond (test x) (other x) (next x))
 
 -- a value is its fields
 abbrev pub One : (S Q : Kind) (D : Type 0) → (D → Value S) → (D → Value Q) → Stores S D → Type 0
 One S Q D next answer stores = (x y : D) → _≡_ {A = Denots (rows (field (S .type) ∷ field (Q .type) ∷ beyond stores))}
     (S .type .to (next x), (Q .type .to (answer x), beyond-to stores x)) (S .type .to (next y), (Q .type .to (answer y), beyond-to stores y)) → x ≡ y
 
--- a struct with field 0 the next record, field 1 the answer and, if there are two to store, field 2 the other record and field 3 the test
+-- a struct with field 0 the next record, field 1 the answer and, if there are more to store, field 2 another record, field 3 its test and so on
 pub record Result (S Q : Kind) : Type 2 where
   pub name : Sym
   pub D : Type 0
@@ -177,6 +186,8 @@ module _ {S : Kind} {D : Type 0} where
   pub left-known : (s : Stores S D) (next : D → Value S) (x : D) → Known S (next x) → Beyond s x → Known S (left-of s next x)
   left-known once next x k more = k
   left-known (again other test) next x k more = either S (test x) (other x) (next x) (more .0) k
+  left-known (and-again other test third second) next x k more =
+      either S (second x) (third x) (cond (test x) (other x) (next x)) (more .1 .1 .0) (either S (test x) (other x) (next x) (more .0) k)
 
 module _ {S Q : Kind} (p : Result S Q) where
   abbrev pub result : Kind

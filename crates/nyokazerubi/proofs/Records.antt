@@ -31,7 +31,7 @@ use Rattle.nyokazerubi.specs.declared.bodies.Asked as bodies
 use Rattle.nyokazerubi.proofs.bodies.Asked as body-asked′
 use Rattle.repeat_run.specs.declared.BodyEnds.{BodyEnds}
 use Rattle.repeat_run.proofs.BodyEnds as body-ends′
-use Rattle.nyokazerubi.proofs.Plain.{Kind, Still, Pair, again, Result}
+use Rattle.nyokazerubi.proofs.Plain.{Kind, Still, Pair, again, and-again, Result}
 
 abbrev pub run : Kind
 run = record { type = run′.the-type; laws = run-laws.the-laws; plain = run-laws.the-plain }
@@ -84,15 +84,6 @@ body-started = record {
   one = body-started′.the-type .to-one;
 }
 
-abbrev pub body-asked : Pair body-run given
-body-asked = record {
-  name = body-asked′.the-type .name;
-  D = bodies.Asked;
-  next = λ r. r .run;
-  answer = λ r. r .given;
-  one = body-asked′.the-type .to-one;
-}
-
 abbrev pub body-reported : Pair body-run refusal
 body-reported = record {
   name = body-reported′.the-type .name;
@@ -100,6 +91,17 @@ body-reported = record {
   next = λ r. r .run;
   answer = λ r. r .refusal;
   one = body-reported′.the-type .to-one;
+}
+
+-- an asking: the record as it was, the one that a coast leaves, and the one that a decision leaves
+abbrev pub body-asked : Result body-run given
+body-asked = record {
+  name = body-asked′.the-type .name;
+  D = bodies.Asked;
+  next = λ r. r .run;
+  answer = λ r. r .given;
+  stores = and-again (λ r. r .gone) (λ r. r .coasts) (λ r. r .made) (λ r. r .decided);
+  one = body-asked′.the-type .to-one;
 }
 
 -- an end: its record, and the one that an overrun leaves

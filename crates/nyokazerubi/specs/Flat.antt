@@ -1,7 +1,7 @@
 -- The answers that are laid flat for a host, since an enum does not cross to C.
 use Prim.Native.Nat.{ℕ}
 use mathlib.Core.Path.{_≡_}
-use mathlib.Core.Bool.{true, false}
+use mathlib.Core.Bool.{true, false, cond}
 use mathlib.Core.List.{List}
 use lib.IntN.{pos}
 use lib.Ieee.{Float, fin}
@@ -11,7 +11,9 @@ use Rattle.rules.specs.Speed.{ratio, spent}
 use Rattle.speed_stretch.specs.Answer.{SpeedAnswer, gives, refuses, reading-of}
 use Rattle.speed_stretch.specs.declared.Reading.{Reading}
 use Rattle.speed.specs.Speed.{ReadsSpeed}
+use Rattle.repeat_run.specs.declared.BodyRun.{BodyRun}
 use Rattle.nyokazerubi.specs.declared.runs.Given.{Given}
+use Rattle.nyokazerubi.specs.declared.bodies.Asked.{Asked}
 use Rattle.nyokazerubi.specs.declared.readings.Read.{Read}
 
 -- The version of the boundary.
@@ -41,6 +43,10 @@ next-run (rules.gives action level decided late r) = r
 pub record Asks (x : rules.Answer) (r : rules.Run) (g : Given) : Type 0 where
   pub given : g ≡ given-of x
   pub run : r ≡ next-run x
+
+-- the record that an asking of a body leaves
+abbrev pub asked-left : Asked → BodyRun
+asked-left a = cond (a .decided) (a .made) (cond (a .coasts) (a .gone) (a .run))
 
 -- ---- the speed reading
 

@@ -15,7 +15,7 @@ ghost use Rattle.repeat_planner.specs.PlanningBody.{PlansBody};
 ghost use Rattle.repeat_limits.specs.Limits.{LimitAnswers, BoundAnswers};
 ghost use Rattle.repeat_run.specs.Calls.{steps-of};
 ghost use Rattle.repeat_frame.specs.BodyFrame.{BodyFrames};
-ghost use Rattle.nyokazerubi.specs.Flat.{next-flat, Asks};
+ghost use Rattle.nyokazerubi.specs.Flat.{next-flat, Asks, asked-left};
 
 // ---- the plan, and what it comes to
 
@@ -63,23 +63,34 @@ pub extern "C" fn nyokazerubi_body_bound(
 
 // ---- asking by value, its answer laid flat
 
+// The next record is `made` where a decision was made, `gone` where it coasts, else `run`.
 pub struct Asked {
     pub run: BodyRun,
     pub given: Given,
+    pub gone: BodyRun,
+    pub coasts: bool,
+    pub made: BodyRun,
+    pub decided: bool,
 }
 
 pub fn ask_flat(run: BodyRun, order: &[u8], summaries: &[u32], worst: &[u32]) -> Asked
-    ensures body { λ r. ⌜ r .run .body ≡ run .body ⌝ }
+    ensures body { λ r. ⌜ asked-left r .body ≡ run .body ⌝ }
     ensures answer { λ r. ⌜ Asks (body-ask (run .body)
         (record { order = now (order .entry); summaries = now (summaries .entry); worst = now (worst .entry) }) (steps-of run))
-        (steps-of (r .run)) (r .given) ⌝ }
+        (steps-of (asked-left r)) (r .given) ⌝ }
 {
-    let asked = run.ask(order, summaries, worst);
+    let asked = run.asks(order, summaries, worst);
     let next = asked.run;
     let answer = asked.answer;
+    let gone = asked.gone;
+    let made = asked.made;
     Asked {
         run: next,
         given: runs::flat(answer),
+        gone,
+        coasts: asked.coasts,
+        made,
+        decided: asked.decided,
     }
 }
 
@@ -108,6 +119,12 @@ pub extern "C" fn nyokazerubi_body_ask(
 {
     let out = ask_flat(*run, order, summaries, worst_by_position);
     *run = out.run;
+    if out.coasts {
+        *run = out.gone;
+    }
+    if out.decided {
+        *run = out.made;
+    }
     out.given
 }
 

@@ -12,6 +12,7 @@ use Rattle.repeat_decision.specs.Decision.{last-start}
 use Rattle.repeat_run.specs.declared.BodyRun.{BodyRun}
 use Rattle.repeat_run.specs.declared.BodyStarted.{BodyStarted}
 use Rattle.repeat_run.specs.declared.BodyAsked.{BodyAsked}
+use Rattle.repeat_run.specs.declared.BodyAsks.{BodyAsks}
 use Rattle.repeat_run.specs.declared.BodyReported.{BodyReported}
 use Rattle.repeat_run.specs.declared.BodyEnds.{BodyEnds}
 
@@ -68,6 +69,13 @@ asked-of a = with-run (a .answer) (steps-of (a .run))
 
 abbrev pub reported-of : BodyReported → rules.Next
 reported-of a = record { number = a .refusal .number; run = steps-of (a .run) }
+
+-- the record that an asking leaves, and so what it answers
+abbrev pub after-ask : BodyAsks → BodyRun
+after-ask a = cond (a .decided) (a .made) (cond (a .coasts) (a .gone) (a .run))
+
+abbrev pub asks-of : BodyAsks → rules.Answer
+asks-of a = with-run (a .answer) (steps-of (after-ask a))
 
 -- the record that an end leaves, and so what it answers
 abbrev pub left-by : BodyEnds → BodyRun

@@ -14,21 +14,22 @@ ghost use Rattle.rules.specs.Limits.{Plan};
 ghost use Rattle.rules.specs.Run.{begun, coast, decide, ended};
 ghost use Rattle.rules.specs.Repeat.{positions, body-in-range, body-start, body-ask-refusal, body-ask, body-report-refusal, body-report};
 ghost use Rattle.repeat_decision.specs.Decision.{Chooses};
-ghost use Rattle.repeat_run.specs.Calls.{steps-of, passed-by, cut-short, started-of, asked-of, left-by, ends-of, reported-of};
+ghost use Rattle.repeat_run.specs.Calls.{steps-of, passed-by, cut-short, started-of, asked-of, after-ask, asks-of, left-by, ends-of, reported-of};
 
 // The fields and their ranges are `body-in-range` of the rules. The position and the decisions are those of the unrolled system. The clock has 64
 // bits for a dry run, which goes on past the latest clock; between calls it is within it. No byte is left unused between the fields, so that a call
-// copies the record without gaps.
+// copies the record without gaps. What an asking and a report store by turns, position, coast left and whether an action runs, has neighbours that
+// are stored apart: fields that a call only hands on are read together, and that would wait for one stored alone a moment ago.
 #[repr(C)]
 pub struct BodyRun {
     pub body: Body,
     pub clock: u64,
-    pub position: u32,
     pub level: u32,
+    pub position: u32,
     pub decisions: u32,
     pub left: u8,
-    pub overrun: bool,
     pub running: bool,
+    pub overrun: bool,
     pub late: bool,
 }
 
@@ -43,6 +44,18 @@ pub struct BodyStarted {
 pub struct BodyAsked {
     pub run: BodyRun,
     pub answer: Answer,
+}
+
+// The same before it is known which record is the next: `made`, with the decision, where one was made; `gone`, an action on in its coast, where it
+// coasts; else `run`, as it was. A host's record takes what changes and no more: with a refusal nothing, in a coast neither level nor count nor late
+// mark.
+pub struct BodyAsks {
+    pub run: BodyRun,
+    pub answer: Answer,
+    pub gone: BodyRun,
+    pub coasts: bool,
+    pub made: BodyRun,
+    pub decided: bool,
 }
 
 // What a report answers: the next record, and the refusal.
@@ -69,12 +82,12 @@ pub fn begun(body: Body) -> BodyRun
     BodyRun {
         body,
         clock: 0,
-        position: 0,
         level: 0,
+        position: 0,
         decisions: 0,
         left: 0,
-        overrun: false,
         running: false,
+        overrun: false,
         late: false,
     }
 }
@@ -102,7 +115,7 @@ impl BodyRun {
         }
     }
 
-    // Whether each field is in its range. Too high a position and too long a coast are told first, so that their sum does not wrap.
+    // Whether each field is in its range. Too high a position is told first, so that what is asked and left after it does not wrap.
     fn in_range(self) -> bool
         ensures { λ r. ⌜ r ≡ body-in-range (self .body) (steps-of self) ⌝ }
     {
@@ -115,11 +128,11 @@ impl BodyRun {
         if n < self.position {
             return false;
         }
-        if rules::LONGEST_COAST <= left as usize {
-            return false;
-        }
         let asked = self.position + run::one_if(self.running);
         if n < left + asked {
+            return false;
+        }
+        if rules::LONGEST_COAST <= left as usize {
             return false;
         }
         if body.levels <= self.level {
@@ -223,44 +236,77 @@ impl BodyRun {
         0
     }
 
-    // Asking takes no clock and sets the action running, told by its number in the unrolled system. A refusal gives back the record.
-    pub fn ask(self, order: &[u8], summaries: &[u32], worst: &[u32]) -> BodyAsked
-        ensures body { λ r. ⌜ r .run .body ≡ self .body ⌝ }
-        ensures answer { λ r. ⌜ asked-of r ≡ body-ask (self .body)
+    // Asking takes no clock and sets the action running, told by its number in the unrolled system. A refusal gives back the record. What a decision
+    // alone needs is made ready where it is called, so that a coasted asking has no part in it.
+    pub fn asks(self, order: &[u8], summaries: &[u32], worst: &[u32]) -> BodyAsks
+        ensures body { λ r. ⌜ after-ask r .body ≡ self .body ⌝ }
+        ensures answer { λ r. ⌜ asks-of r ≡ body-ask (self .body)
             (record { order = now (order .entry); summaries = now (summaries .entry); worst = now (worst .entry) }) (steps-of self) ⌝ }
     {
         let number = self.ask_refusal(order, summaries, worst);
         if number != 0 {
-            return BodyAsked {
+            return BodyAsks {
                 run: self,
                 answer: Answer::Refused(Refusal { number }),
+                gone: self,
+                coasts: false,
+                made: self,
+                decided: false,
             };
         }
-        let body = self.body;
-        let spot = spot_of(body, self.position as usize);
+        let spot = spot_of(self.body, self.position as usize);
         let place = spot.place;
         let action = self.position - place as u32 + order[place] as u32;
         if self.left == 0 {
-            let made = choose(body, summaries, worst, place, spot.after, self.clock);
-            return BodyAsked {
-                run: self.decided(made),
+            let body = self.body;
+            let made = choose(body, summaries, &worst[..], place, spot.after, self.clock);
+            return BodyAsks {
+                run: self,
                 answer: Answer::Given {
                     action,
                     level: made.level,
                     decided: true,
                     late: made.late,
                 },
+                gone: self,
+                coasts: false,
+                made: self.decided(made),
+                decided: true,
             };
         }
-        BodyAsked {
-            run: self.coasted(),
+        BodyAsks {
+            run: self,
             answer: Answer::Given {
                 action,
                 level: self.level,
                 decided: false,
                 late: false,
             },
+            gone: self.coasted(),
+            coasts: true,
+            made: self,
+            decided: false,
         }
+    }
+
+    // The same by value.
+    pub fn ask(self, order: &[u8], summaries: &[u32], worst: &[u32]) -> BodyAsked
+        ensures body { λ r. ⌜ r .run .body ≡ self .body ⌝ }
+        ensures answer { λ r. ⌜ asked-of r ≡ body-ask (self .body)
+            (record { order = now (order .entry); summaries = now (summaries .entry); worst = now (worst .entry) }) (steps-of self) ⌝ }
+    {
+        let out = self.asks(order, summaries, worst);
+        let answer = out.answer;
+        if out.decided {
+            let run = out.made;
+            return BodyAsked { run, answer };
+        }
+        if out.coasts {
+            let run = out.gone;
+            return BodyAsked { run, answer };
+        }
+        let run = out.run;
+        BodyAsked { run, answer }
     }
 
     // Fields out of range 11, room 17, none runs 11, back 12, above the clock limit 13.

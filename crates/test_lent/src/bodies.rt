@@ -5,7 +5,7 @@ use crate::part;
 use crate::say;
 use crate::say_given;
 use crate::through;
-use nyokazerubi::bodies;
+use nyokazerubi::runs;
 use repeat_run::BodyRun;
 use rules::Body;
 use text::words;
@@ -70,8 +70,9 @@ fn start(run: BodyRun, body: Body) -> BodyRun {
 fn ask(run: BodyRun, much: u32, order: [u8; 3], summaries: &[u32], worst: &[u32]) -> BodyRun {
     let k = part(much, 3);
     let lent = through::body_asked(run, &order[0..k], summaries, worst);
-    let value = bodies::ask_flat(run, &order[0..k], summaries, worst);
-    let alike = say_given(lent.given, value.given);
+    let value = run.ask(&order[0..k], summaries, worst);
+    let answer = value.answer;
+    let alike = say_given(lent.given, runs::flat(answer));
     tell_record(alike, lent.run, value.run);
     lent.run
 }

@@ -2,6 +2,7 @@
 use nyokazerubi::bodies;
 use nyokazerubi::runs;
 use nyokazerubi::runs::Asked;
+use nyokazerubi::runs::Given;
 use repeat_run::BodyReported;
 use repeat_run::BodyRun;
 use repeat_run::BodyStarted;
@@ -44,6 +45,12 @@ pub fn reported(run: Run, clock: u32, worst: &[u32]) -> Reported
 
 // ---- a body repeated
 
+// What an asking left and answered.
+pub struct BodyAsked {
+    pub run: BodyRun,
+    pub given: Given,
+}
+
 pub fn body_started(run: BodyRun, body: Body) -> BodyStarted
     ensures { λ r. ⌜ (r .run .body, next-flat (steps-of (r .run)) (r .refusal)) ≡ body-start body ⌝ }
 {
@@ -52,7 +59,7 @@ pub fn body_started(run: BodyRun, body: Body) -> BodyStarted
     BodyStarted { run: kept, refusal }
 }
 
-pub fn body_asked(run: BodyRun, order: &[u8], summaries: &[u32], worst: &[u32]) -> bodies::Asked
+pub fn body_asked(run: BodyRun, order: &[u8], summaries: &[u32], worst: &[u32]) -> BodyAsked
     ensures body { λ r. ⌜ r .run .body ≡ run .body ⌝ }
     ensures answer { λ r. ⌜ Asks (body-ask (run .body)
         (record { order = now (order .entry); summaries = now (summaries .entry); worst = now (worst .entry) }) (steps-of run))
@@ -60,7 +67,7 @@ pub fn body_asked(run: BodyRun, order: &[u8], summaries: &[u32], worst: &[u32]) 
 {
     let mut kept = run;
     let given = bodies::nyokazerubi_body_ask(&mut kept, order, summaries, worst);
-    bodies::Asked { run: kept, given }
+    BodyAsked { run: kept, given }
 }
 
 pub fn body_reported(run: BodyRun, clock: u32, worst: &[u32]) -> BodyReported

@@ -25,17 +25,17 @@ mul-n c = omega (arith, few (c .before))
 returns-2 : tie.Need-returns-2
 returns-2 c = not-ranged _ _ (λ none C. omega (arith, C .position))
 
-returns-3 : tie.Need-returns-3
-returns-3 c = not-ranged _ _ (λ none C. omega (arith, C .left))
-
 add-asked : tie.Need-add-asked
-add-asked c = omega (arith, few (c .before .before .before .before .before .before .before), c .before .one-if .ensures)
+add-asked c = omega (arith, few (c .before .before .before .before .before .before), c .before .one-if .ensures)
 
-add-if4 : tie.Need-add-if4
-add-if4 c = omega (arith, few (c .before .before .before .before .before .before .before), c .before .one-if .ensures)
+add-if3 : tie.Need-add-if3
+add-if3 c = omega (arith, few (c .before .before .before .before .before .before), c .before .one-if .ensures)
+
+returns-3 : tie.Need-returns-3
+returns-3 c = not-ranged _ _ (λ none C. omega (arith, C .room, c .before .before .one-if .ensures))
 
 returns-4 : tie.Need-returns-4
-returns-4 c = not-ranged _ _ (λ none C. omega (arith, C .room, c .before .before .one-if .ensures))
+returns-4 c = not-ranged _ _ (λ none C. omega (arith, C .left))
 
 returns-5 : tie.Need-returns-5
 returns-5 c = not-ranged _ _ (λ none C. omega (arith, C .level))
@@ -45,21 +45,23 @@ returns-6 c = not-ranged _ _ (λ none C. omega (arith, C .clock))
 
 returns-7 : tie.Need-returns-7
 returns-7 c =
-    let asked = c .before .before .before .before .before .before .before .before .before in
+    let asked = c .before .before .before .before .before .before .before .before .before .before in
     not-ranged _ _ (λ none C. omega (arith, C .decisions, asked .one-if .ensures))
 
 returns-8 : tie.Need-returns-8
 returns-8 c =
-    let asked = c .before .before .before .before .before .before .before .before .before in
+    let short = c .before .before .before .before .before .before .before in
+    let fits = short .before in
+    let asked = fits .before .before in
     let e = asked .one-if .ensures in
-    let else1 = asked .before .before .before .before .before .before in
+    let else1 = asked .before .before .before .before .before in
     is-ranged _ _ (none else1) (record {
       position = omega arith;
       clock = omega arith;
-      running = omega (arith, e);
+      running = omega (arith, e, fits .if3 .left);
       level = omega arith;
-      left = omega arith;
-      room = omega (arith, e);
+      left = omega (arith, short .if4 .left);
+      room = omega (arith, e, fits .if3 .left);
       decisions = omega (arith, e);
     })
 
@@ -72,11 +74,11 @@ in-range-spec =
     mul-n
     (λ c. search needs)
     returns-2
-    (λ c. search needs)
-    returns-3
     (λ c κs. search needs)
     add-asked
-    add-if4
+    add-if3
+    returns-3
+    (λ c. search needs)
     returns-4
     returns-5
     (λ c. search needs)

@@ -4,15 +4,21 @@ use mathlib.Core.List.{[], _∷_}
 use base.Logic.{id⊢}
 use denote.Builtin.{u8, u32}
 use Rattle.nyokazerubi.proofs.Beside.{slice}
-use Rattle.nyokazerubi.proofs.Records.{body-run-still, body-asked}
+use Rattle.nyokazerubi.proofs.Plain.{Pair}
+use Rattle.nyokazerubi.proofs.Records.{given, body-run, body-run-still}
 use Rattle.nyokazerubi.proofs.bodies.nyokazerubi_body_ask as g
 use Rattle.nyokazerubi.proofs.bodies.nyokazerubi_body_ask.Symbol as g-def
 use Rattle.nyokazerubi.proofs.bodies.nyokazerubi_body_ask.Met as g-thm
 use Rattle.test_lent.proofs.Lending.{returns-by}
+use Rattle.test_lent.specs.declared.through.BodyAsked.{BodyAsked}
+use Rattle.test_lent.proofs.through.BodyAsked as asked′
 use Rattle.test_lent.proofs.through.body_asked as f
 use Rattle.test_lent.proofs.through.body_asked.Key.{name}
 use Rattle.test_lent.proofs.through.body_asked.Statement.{statement}
 use Rattle.test_lent.proofs.through.body_asked.Code as code
+
+abbrev body-asked : Pair body-run given
+body-asked = record { name = asked′.the-type .name; D = BodyAsked; next = λ r. r .run; answer = λ r. r .given; one = asked′.the-type .to-one }
 
 pub body-asked-spec : {M : Type 1} → statement M
 unfolding code.routine
