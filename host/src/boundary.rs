@@ -217,12 +217,12 @@ pub struct Limited {
 pub struct BodyRun {
     pub body: Body,
     pub clock: u64,
-    pub position: u32,
     pub level: u32,
+    pub position: u32,
     pub decisions: u32,
     pub left: u8,
-    pub overrun: bool,
     pub running: bool,
+    pub overrun: bool,
     pub late: bool,
 }
 

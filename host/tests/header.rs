@@ -123,10 +123,10 @@ fn layout() {
     assert_eq!([size_of::<Body>(), size_of::<BodyPlanned>(), size_of::<Limited>()], [16, 20, 16]);
     assert_eq!([size_of::<BodyRun>(), size_of::<BodyFramed>()], [40, 24]);
     // The run record has no padding: each field begins where the one before it ends.
-    assert_eq!([offset_of!(BodyRun, body), offset_of!(BodyRun, clock), offset_of!(BodyRun, position)], [0, 16, 24]);
-    assert_eq!([offset_of!(BodyRun, level), offset_of!(BodyRun, decisions)], [28, 32]);
-    assert_eq!([offset_of!(BodyRun, left), offset_of!(BodyRun, overrun)], [36, 37]);
-    assert_eq!([offset_of!(BodyRun, running), offset_of!(BodyRun, late)], [38, 39]);
+    assert_eq!([offset_of!(BodyRun, body), offset_of!(BodyRun, clock), offset_of!(BodyRun, level)], [0, 16, 24]);
+    assert_eq!([offset_of!(BodyRun, position), offset_of!(BodyRun, decisions)], [28, 32]);
+    assert_eq!([offset_of!(BodyRun, left), offset_of!(BodyRun, running)], [36, 37]);
+    assert_eq!([offset_of!(BodyRun, overrun), offset_of!(BodyRun, late)], [38, 39]);
     assert_eq!(
         [offset_of!(Limited, limit), offset_of!(BodyFramed, end), offset_of!(BodyFramed, positions)],
         [8, 8, 16]
