@@ -49,9 +49,9 @@ typedef struct {
 typedef struct {
     fast_body body;
     uint64_t clock;
-    uint32_t position, level, decisions;
+    uint32_t level, position, decisions;
     uint8_t left;
-    bool overrun, running, late;
+    bool running, overrun, late;
 } fast_body_run;
 
 typedef struct {
