@@ -11,7 +11,7 @@ ghost use mathlib.Core.Path.{_≡_};
 ghost use Prim.Native.Nat.{_+_, _*_, _<_, _≤_};
 ghost use Rattle.rules.specs.Numbers.{most-positions, longest-coast};
 ghost use Rattle.rules.specs.Limits.{Plan};
-ghost use Rattle.rules.specs.Run.{begun, coast, decide, ended};
+ghost use Rattle.rules.specs.Run.{begun, coast, decide, ended, refused};
 ghost use Rattle.rules.specs.Repeat.{positions, body-in-range, body-start, body-ask-refusal, body-ask, body-report-refusal, body-report};
 ghost use Rattle.repeat_decision.specs.Decision.{Chooses};
 ghost use Rattle.repeat_run.specs.Calls.{steps-of, passed-by, cut-short, started-of, asked-of, after-ask, asks-of, left-by, ends-of, reported-of};
@@ -236,8 +236,22 @@ impl BodyRun {
         0
     }
 
-    // Asking takes no clock and sets the action running, told by its number in the unrolled system. A refusal gives back the record. What a decision
-    // alone needs is made ready where it is called, so that a coasted asking has no part in it.
+    // A refused asking gives back the record.
+    fn refused(self, number: u32) -> BodyAsks
+        ensures { λ r. ⌜ (after-ask r .body ≡ self .body) × (asks-of r ≡ refused number (steps-of self)) ⌝ }
+    {
+        BodyAsks {
+            run: self,
+            answer: Answer::Refused(Refusal { number }),
+            gone: self,
+            coasts: false,
+            made: self,
+            decided: false,
+        }
+    }
+
+    // Asking takes no clock and sets the action running, told by its number in the unrolled system. What a decision alone needs is made ready where
+    // it is called, so that a coasted asking has no part in it.
     pub fn asks(self, order: &[u8], summaries: &[u32], worst: &[u32]) -> BodyAsks
         ensures body { λ r. ⌜ after-ask r .body ≡ self .body ⌝ }
         ensures answer { λ r. ⌜ asks-of r ≡ body-ask (self .body)
@@ -245,14 +259,7 @@ impl BodyRun {
     {
         let number = self.ask_refusal(order, summaries, worst);
         if number != 0 {
-            return BodyAsks {
-                run: self,
-                answer: Answer::Refused(Refusal { number }),
-                gone: self,
-                coasts: false,
-                made: self,
-                decided: false,
-            };
+            return self.refused(number);
         }
         let spot = spot_of(self.body, self.position as usize);
         let place = spot.place;

@@ -28,10 +28,15 @@ start c = c .before .before .before .before .before
 returns : tie.Need-returns
 unfolding body-ask
 returns c =
-    let s = c .before .before .before .before .before in
+    let asking = c .before .before in
+    let s = asking .before .before .before .before in
     let r = s .args .self in
-    let e = c .before .ask-refusal .ensures in
-    (refl, rw (sym e) (asked-refused _ (action-at (r .body .n) (s .args .order .now) (r .position)) (lent-plan (r .body) (lent s)) (steps-of r) (c .if1 .taken)))
+    let e = asking .ask-refusal .ensures in
+    let d = c .refused .ensures in (
+      d .0,
+      d .1 ∙ rw (sym e) (asked-refused _ (action-at (r .body .n) (s .args .order .now) (r .position)) (lent-plan (r .body) (lent s)) (steps-of r)
+          (c .before .if1 .taken)),
+    )
 
 -- after the test of the refusal
 none : (c : tie.Else1) → let r = start c .args .self in 0 ≡ body-ask-refusal (r .body) (lent (start c)) (steps-of r)
@@ -135,6 +140,7 @@ pub asks-spec : {M : Type 1} → statement M
 asks-spec =
     tie.close
     (tie.spec
+    (λ c κs. search needs)
     (λ c κs. search needs)
     returns
     (λ c. search needs)
