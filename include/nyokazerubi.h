@@ -22,6 +22,10 @@
  * were, and all else in the answer is 0 or false. One exception: a refused start leaves a record of zero actions, on which ask and report answer 11
  * until a start is accepted.
  *
+ * THE ACTION AT FAULT. Where an image, or the tables to write one, are refused with 5, 6, 7 or 8, the refusal has the lowest action at fault beside
+ * its number: 5, a spare bit of its record is set; 6, its deadline or mask, and on writing a time of it; 7, its times; 8, it must follow itself. It is
+ * NYOKAZERUBI_NO_ACTION where no action is at fault: with 5 where a spare bit of the header alone is set, and with every other number, 0 among them.
+ *
  * A CYCLE, for profiles of up to 9 actions and 8 levels; encode() is the host's own. host/check compiles and runs these lines as they stand.
  *
  * ---- the loop
@@ -140,7 +144,7 @@ extern "C" {
 #endif
 
 /* The version of this boundary, and that of the archive that is linked: a host compares them once. */
-#define NYOKAZERUBI_BOUNDARY 3u
+#define NYOKAZERUBI_BOUNDARY 4u
 uint32_t nyokazerubi_boundary(void);
 
 #define NYOKAZERUBI_MOST_ACTIONS 64
@@ -153,6 +157,7 @@ uint32_t nyokazerubi_boundary(void);
 #define NYOKAZERUBI_SUMMARY_NUMBERS 4        /* of the rest of a body at a position and level */
 #define NYOKAZERUBI_LAST_CLOCK 1073741823u   /* the longest cycle, the latest deadline, the latest clock */
 #define NYOKAZERUBI_LONGEST_TIME 16777215u   /* the longest average, worst time and duration of a dry run */
+#define NYOKAZERUBI_NO_ACTION 64u            /* the action of a refusal that none is at fault for */
 #define NYOKAZERUBI_ABSENT_BOUND INT32_MIN   /* the coast bound where a coast would go past the last position */
 #define NYOKAZERUBI_ABSENT_LONG INT64_MIN    /* the same of a body repeated */
 
@@ -202,13 +207,19 @@ struct nyokazerubi_refusal {
     uint32_t number; /* 0 for none */
 };
 
+/* The same of a call that takes an image, or writes one. */
+struct nyokazerubi_fault {
+    uint32_t number; /* 0 for none */
+    uint32_t action; /* the lowest at fault, with 5 to 8; NYOKAZERUBI_NO_ACTION where none is */
+};
+
 /* ---- the profile */
 
 /* The check of an image: 1 to 9, each over the whole image before the next. Every call on an image makes it first. */
-struct nyokazerubi_refusal nyokazerubi_check(const uint8_t *image, size_t image_length);
+struct nyokazerubi_fault nyokazerubi_check(const uint8_t *image, size_t image_length);
 
 struct nyokazerubi_unpacked {
-    struct nyokazerubi_refusal refusal;
+    struct nyokazerubi_fault refusal;
     size_t n;
     size_t levels;
     uint32_t cycle;
@@ -223,7 +234,7 @@ struct nyokazerubi_unpacked nyokazerubi_read(
     uint32_t *worst_by_action, size_t worst_by_action_length);
 
 struct nyokazerubi_written {
-    struct nyokazerubi_refusal refusal;
+    struct nyokazerubi_fault refusal;
     size_t bytes; /* of the image */
 };
 
@@ -240,7 +251,7 @@ struct nyokazerubi_written nyokazerubi_write(
 struct nyokazerubi_written nyokazerubi_write_encoder(uint8_t *image, size_t image_length);
 
 struct nyokazerubi_place {
-    struct nyokazerubi_refusal refusal;
+    struct nyokazerubi_fault refusal;
     size_t start; /* the action's own part is image + start, length bytes long */
     size_t length;
 };
@@ -249,12 +260,12 @@ struct nyokazerubi_place {
 struct nyokazerubi_place nyokazerubi_lookup(const uint8_t *image, size_t image_length, size_t action);
 
 /* The refusal of a lookup alone. */
-struct nyokazerubi_refusal nyokazerubi_lookup_refusal(const uint8_t *image, size_t image_length, size_t action);
+struct nyokazerubi_fault nyokazerubi_lookup_refusal(const uint8_t *image, size_t image_length, size_t action);
 
 /* ---- the plan */
 
 struct nyokazerubi_planned {
-    struct nyokazerubi_refusal refusal;
+    struct nyokazerubi_fault refusal;
     size_t n;
     size_t levels;
     uint32_t cycle;
@@ -329,7 +340,7 @@ struct nyokazerubi_dried nyokazerubi_dry_run(
     uint8_t *marks, size_t marks_length);
 
 struct nyokazerubi_framed {
-    struct nyokazerubi_refusal refusal;
+    struct nyokazerubi_fault refusal;
     size_t n;
     uint32_t decisions;
     uint32_t end; /* the clock at the end of the cycle */
@@ -348,7 +359,7 @@ struct nyokazerubi_framed nyokazerubi_dry_frame(
 /* ---- recordings */
 
 struct nyokazerubi_opened {
-    struct nyokazerubi_refusal refusal;
+    struct nyokazerubi_fault refusal;
     size_t n;
     size_t levels;
     size_t frame_bytes; /* of each frame, 4nL */
@@ -404,7 +415,7 @@ struct nyokazerubi_body {
 };
 
 struct nyokazerubi_body_planned {
-    struct nyokazerubi_refusal refusal;
+    struct nyokazerubi_fault refusal;
     struct nyokazerubi_body body;
 };
 
@@ -467,7 +478,7 @@ struct nyokazerubi_refusal nyokazerubi_body_report(
     const uint32_t *worst_by_position, size_t worst_by_position_length);
 
 struct nyokazerubi_body_framed {
-    struct nyokazerubi_refusal refusal;
+    struct nyokazerubi_fault refusal;
     uint32_t decisions;
     uint64_t end;       /* the clock at the end of the cycle; after overruns it may be above 1073741823 */
     uint32_t positions; /* n times the repeats */
@@ -487,7 +498,7 @@ struct nyokazerubi_body_framed nyokazerubi_body_dry_frame(
 /* ---- the speed reading */
 
 struct nyokazerubi_reading {
-    struct nyokazerubi_refusal refusal;
+    struct nyokazerubi_fault refusal;
     bool spent;   /* no time is left for these positions */
     double ratio; /* 0 when spent */
 };
@@ -503,7 +514,7 @@ bool nyokazerubi_on_time(const uint8_t *image, size_t image_length, size_t first
 /* ---- refreshing averages */
 
 struct nyokazerubi_refreshed {
-    struct nyokazerubi_refusal refusal;
+    struct nyokazerubi_fault refusal;
     size_t bytes; /* of the image written */
 };
 

@@ -12,13 +12,13 @@ use Rattle.rules.specs.Numbers.{most-actions, most-levels, longest-coast, refus
 use Rattle.rules.specs.Words.{tab}
 use Rattle.rules.specs.Image.{profile}
 use Rattle.rules.specs.Limits.{LentTables, planner-tables}
-use Rattle.rules.specs.Refusals.{Ground, _when_, First, Tight, image-checks}
+use Rattle.rules.specs.Refusals.{Ground, _when_, First, AtFault, Refuses, Tight, image-checks}
 use Rattle.rules.specs.Run.{Run}
 use Rattle.rules.specs.Dry.{LongEntry, dry-call, frame-call}
 use Rattle.rules.proofs.Differences.{not-above}
-use Rattle.rules.proofs.Refusals.{Sound, accepted-sound, accepted-parts, first-stops, first-goes-on, image-numbered}
+use Rattle.rules.proofs.Refusals.{Sound, accepted-sound, accepted-parts, Blameless, blameless, handed-on, handed-back, refuses-stops, refuses-goes-on, image-numbered}
 use Rattle.rules.proofs.Accepted.{some-level, not-unfit}
-use Rattle.rules.specs.declared.Refusal.{Refusal}
+use Rattle.rules.specs.declared.Fault.{Fault}
 use Rattle.fields.specs.Fields.{splice}
 use Rattle.fields.proofs.Tabs.{tab-ext}
 use Rattle.planner.specs.declared.Planned.{Planned}
@@ -94,7 +94,7 @@ module _ {s : List ℕ} (h : Sound s) {T : LentTables} (sized : Sized T) (durati
 -- ---- what is refused
 
 -- what a refused call answers
-abbrev pub refused : Refusal → Framed
+abbrev pub refused : Fault → Framed
 refused f = record { refusal = f; n = 0; decisions = 0; end = 0; overrun = false; late = false }
 
 module _ (s durations : List ℕ) (before : FrameLists) where
@@ -104,11 +104,16 @@ module _ (s durations : List ℕ) (before : FrameLists) where
   abbrev rest : List Ground
   rest = own (profile s .n) (profile s .levels) durations before
 
-  frames-not : {after : FrameLists} {r : Framed} (f : Refusal) → First whole (f .number) → f .number ≢ 0
+  -- the frame's own blame no action
+  no-blame : Blameless rest
+  no-blame = ((λ a z. z), ((λ a z. z), tt))
+
+  frames-not : {after : FrameLists} {r : Framed} (f : Fault) → Refuses whole f → f .number ≢ 0
       → after .order ≡ before .order → after .levels ≡ before .levels → after .decided ≡ before .decided
       → r ≡ refused f → Frames s durations before after r
-  frames-not f first some a b c e = rw e (record {
-    number = first;
+  frames-not f p some a b c e = rw e (record {
+    number = p .number;
+    action = p .action;
     n = kept-old _ _ _ some;
     o = by-number (profile s .n);
     the-order = λ none. absurd (some none);
@@ -156,6 +161,10 @@ module _ {s : List ℕ} {lent : LentTables} {p : Planned} (P : Planning s lent p
   by-image : p .refusal .number ≢ 0 → First (image-checks s) (p .refusal .number)
   by-image some = ⊎-elim (λ x. x .0) (λ x. absurd (⊎-elim (λ t. never-tight (x .0) zeros-sized (t .0)) (λ t. some (t .1)) (x .1))) parts
 
+  -- the image's action
+  named : AtFault (image-checks s) (p .refusal .action)
+  named = handed-back (image-checks s) plan-room (p .refusal .action) ((λ a z. z), tt) (P .plans .action)
+
   pub sound : p .refusal .number ≡ 0 → Sound s
   sound none = ⊎-elim (λ x. absurd (x .1 none)) (λ x. x .0) parts
 
@@ -170,16 +179,19 @@ module _ {s : List ℕ} {lent : LentTables} {p : Planned} (P : Planning s lent p
     pub image-refused : {r : Framed} → p .refusal .number ≢ 0 → r ≡ refused (p .refusal) → Frames s durations before before r
     image-refused some e =
         frames-not s durations before (p .refusal)
-        (first-stops (image-checks s) (rest s durations before) (p .refusal .number) (by-image some) some) some refl refl refl e
+        (refuses-stops (image-checks s) (rest s durations before) (p .refusal) (record { number = by-image some; action = named }) some)
+        some refl refl refl e
 
-    then-own : p .refusal .number ≡ 0 → {k : ℕ} → First (rest s durations before) k → First (whole s durations before) k
+    then-own : p .refusal .number ≡ 0 → {k : ℕ} → First (rest s durations before) k
+        → Refuses (whole s durations before) (record { number = k; action = most-actions })
     then-own none {k} f =
-        first-goes-on (image-checks s) (rest s durations before) k (image-numbered s) (accepted-sound s .1 (sound none)) f
+        refuses-goes-on (image-checks s) (rest s durations before) _ (image-numbered s) (accepted-sound s .1 (sound none))
+        (blameless (rest s durations before) k (no-blame s durations before) f)
 
-    pub order-refused : {r : Framed} → p .refusal .number ≡ 0 → length (before .order) < p .n → r ≡ refused (record { number = refused-room })
-        → Frames s durations before before r
+    pub order-refused : {r : Framed} → p .refusal .number ≡ 0 → length (before .order) < p .n
+        → r ≡ refused (record { number = refused-room; action = most-actions }) → Frames s durations before before r
     order-refused none l e =
-        frames-not s durations before (record { number = refused-room })
+        frames-not s durations before _
         (then-own none (inl (inr (inl (omega (arith, n-is none))), refl))) (λ z. omega arith) refl refl refl e
 
     module _ (after : FrameLists) {q : Dried} (none : p .refusal .number ≡ 0) (room : p .n ≤ length (before .order))
@@ -190,10 +202,11 @@ module _ {s : List ℕ} {lent : LentTables} {p : Planned} (P : Planning s lent p
       own-is : First (rest s durations before) (q .refusal .number)
       own-is = own-of-dry (sound none) (P .sized) durations before (q .refusal .number) (omega (arith, n-is none)) (dries′ .refused)
 
-      pub dry-refused : {r : Framed} → q .refusal .number ≢ 0 → after .order ≡ before .order → r ≡ refused (q .refusal)
+      pub dry-refused : {r : Framed} → q .refusal .number ≢ 0 → after .order ≡ before .order
+          → r ≡ refused (record { number = q .refusal .number; action = most-actions })
           → Frames s durations before after r
       dry-refused some same e =
-          frames-not s durations before (q .refusal) (then-own none own-is) some same
+          frames-not s durations before _ (then-own none own-is) some same
           (dries′ .levels ∙ sym (kept-old (q .refusal .number) _ (before .levels) some))
           (dries′ .decided ∙ sym (kept-old (q .refusal .number) _ (before .decided) some)) e
 
@@ -223,8 +236,10 @@ module _ {s : List ℕ} {lent : LentTables} {p : Planned} (P : Planning s lent p
         pub framed : after .order ≡ splice (before .order) 0 (tab (λ k. getD (lent .order) k 0) (p .n)) → Frames s durations before after answer
         framed e =
             let listed = reads-order (profile s) (P .plans .o) zeros written in
+            let given : First (whole s durations before) (p .refusal .number) = rw none (then-own none (rw dry-none at own-is) .number) in
             record {
-              number = rw none (then-own none (rw dry-none at own-is));
+              number = given;
+              action = handed-on (image-checks s) (rest s durations before) _ _ (no-blame s durations before) named given;
               n = kept-new _ _ _ none (n-is none);
               o = P .plans .o;
               the-order = P .plans .the-order;

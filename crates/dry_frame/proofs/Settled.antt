@@ -13,7 +13,8 @@ use Rattle.rules.specs.Limits.{LentTables, planner-tables}
 use Rattle.rules.specs.Refusals.{_when_, Tight}
 use Rattle.rules.specs.Run.{Run, decides}
 use Rattle.rules.specs.Dry.{LongEntry, frame-call}
-use Rattle.rules.proofs.Refusals.{Sound, first-one, accepted-parts}
+use Rattle.rules.specs.declared.Fault.{Fault}
+use Rattle.rules.proofs.Refusals.{Sound, refuses-one, accepted-parts}
 use Rattle.rules.proofs.Accepted.{some-level}
 use Rattle.rules.proofs.Order.OfProfile.{order-settled}
 use Rattle.fields.specs.Fields.{splice}
@@ -25,11 +26,11 @@ use Rattle.dry_frame.specs.Frame.{FrameLists, frame-rooms, run-at, Frame
 use Rattle.dry_frame.proofs.Cycle.{same-run}
 
 -- answers and lists that are equal part by part
-abbrev made : ℕ → ℕ → ℕ → ℕ → Bool → Bool → Framed
-made number n decisions end overrun late =
-    record { refusal = record { number = number }; n = n; decisions = decisions; end = end; overrun = overrun; late = late }
+abbrev made : Fault → ℕ → ℕ → ℕ → Bool → Bool → Framed
+made refusal n decisions end overrun late =
+    record { refusal = refusal; n = n; decisions = decisions; end = end; overrun = overrun; late = late }
 
-made-one : {a a′ b b′ c c′ d d′ : ℕ} {e e′ f f′ : Bool} → a ≡ a′ → b ≡ b′ → c ≡ c′ → d ≡ d′ → e ≡ e′ → f ≡ f′
+made-one : {a a′ : Fault} {b b′ c c′ d d′ : ℕ} {e e′ f f′ : Bool} → a ≡ a′ → b ≡ b′ → c ≡ c′ → d ≡ d′ → e ≡ e′ → f ≡ f′
     → made a b c d e f ≡ made a′ b′ c′ d′ e′ f′
 made-one p q r s t u = cc
 
@@ -44,8 +45,14 @@ module _ {s durations : List ℕ} {before after₁ after₂ : FrameLists} {r t :
   abbrev room : List (ℕ × ℕ)
   room = frame-rooms (profile s .n) (profile s .levels) durations before
 
+  refusal : r .refusal ≡ t .refusal
+  refusal =
+      refuses-one (frame-call s durations room) (r .refusal) (t .refusal)
+      (record { number = x .number; action = x .action })
+      (record { number = y .number; action = y .action })
+
   number : r .refusal .number ≡ t .refusal .number
-  number = first-one (frame-call s durations room) (r .refusal .number) (t .refusal .number) (x .number) (y .number)
+  number = ap (λ (f : Fault). f .number) refusal
 
   -- without a refusal the image is sound
   sound : r .refusal .number ≡ 0 → Sound s
@@ -75,7 +82,7 @@ module _ {s durations : List ℕ} {before after₁ after₂ : FrameLists} {r t :
 
   answer : r ≡ t
   answer =
-      made-one number
+      made-one refusal
       (kept-one _ _ (profile s .n) (profile s .n) 0 number (λ _. refl) (x .n) (y .n))
       (kept-one _ _ _ _ 0 number (last-one (λ (z : Run). z .decisions)) (x .decisions) (y .decisions))
       (kept-one _ _ _ _ 0 number (last-one (λ (z : Run). z .clock)) (x .end) (y .end))

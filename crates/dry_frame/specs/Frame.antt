@@ -9,7 +9,7 @@ use Rattle.rules.specs.Words.{sum, tab, one-if}
 use Rattle.rules.specs.Image.{profile}
 use Rattle.rules.specs.Order.{Order, TheOrder}
 use Rattle.rules.specs.Limits.{Tables, tables, limit, planned}
-use Rattle.rules.specs.Refusals.{First, kept}
+use Rattle.rules.specs.Refusals.{First, AtFault, kept}
 use Rattle.rules.specs.Run.{Run, decides}
 use Rattle.rules.specs.Dry.{before, cell, frame-call}
 use Rattle.rules.specs.Demand.{Policy, clock, Kept}
@@ -57,6 +57,7 @@ pub record Promised (S : Tables) (d given : ℕ → ℕ) (r : Framed) : Type 0 w
 -- of each, their tails kept, and with a refusal all of it. Without one the order is the profile's; with one o counts for nothing.
 pub record Frames (s durations : List ℕ) (before after : FrameLists) (r : Framed) : Type 0 where
   pub number : First (frame-call s durations (frame-rooms (profile s .n) (profile s .levels) durations before)) (r .refusal .number)
+  pub action : AtFault (frame-call s durations (frame-rooms (profile s .n) (profile s .levels) durations before)) (r .refusal .action)
   pub n : r .n ≡ kept (r .refusal .number) (profile s .n) 0
   pub o : Order (profile s .n)
   pub the-order : r .refusal .number ≡ 0 → TheOrder (profile s) o

@@ -1,5 +1,5 @@
 // A frame run dry: an image is planned and its cycle run over given durations, in one call. Demand 3 is its promise.
-use rules::Refusal;
+use rules::Fault;
 ghost use mathlib.Core.Path.{_≡_};
 ghost use mathlib.Core.Bool.{false};
 ghost use Rattle.dry_frame.specs.Frame.{Frames};
@@ -7,7 +7,7 @@ ghost use Rattle.dry_frame.specs.Frame.{Frames};
 // The refusal; without one the number of positions, the decisions made, the clock at the end and the two marks, else 0 and no.
 #[repr(C)]
 pub struct Framed {
-    pub refusal: Refusal,
+    pub refusal: Fault,
     pub n: usize,
     pub decisions: u32,
     pub end: u32,
@@ -16,7 +16,7 @@ pub struct Framed {
 }
 
 // What a refused call answers.
-fn refused(refusal: Refusal) -> Framed
+fn refused(refusal: Fault) -> Framed
     ensures { λ r. ⌜ r ≡ record { refusal = refusal; n = 0; decisions = 0; end = 0; overrun = false; late = false } ⌝ }
 {
     Framed {
@@ -54,8 +54,9 @@ pub fn dry_frame(
     }
     let n = planned.n;
     if order.len() < n {
-        return refused(Refusal {
+        return refused(Fault {
             number: rules::REFUSED_ROOM,
+            action: rules::NO_ACTION,
         });
     }
     let dried = run::dry::dry_run(
@@ -69,7 +70,10 @@ pub fn dry_frame(
         marks,
     );
     if dried.refusal.number != 0 {
-        return refused(dried.refusal);
+        return refused(Fault {
+            number: dried.refusal.number,
+            action: rules::NO_ACTION,
+        });
     }
     fields::copy_front(&actions, n, order);
     Framed {

@@ -74,7 +74,7 @@ fn column(table: [[[u32; 2]; LEVELS]; ACTIONS], which: usize) -> [u32; ENTRIES]
 
 // Writes the encoder's profile: refused only where the image is shorter than its 546 bytes (`Written`, `only-room`).
 pub fn write_image(image: &mut [u8]) -> Written
-    ensures { λ r. ⌜ Writes 9 8 320000 encoder-tables (now (image .entry)) (now (image .exit)) (r .refusal .number) (r .bytes) ⌝ }
+    ensures { λ r. ⌜ Writes 9 8 320000 encoder-tables (now (image .entry)) (now (image .exit)) (r .refusal) (r .bytes) ⌝ }
 {
     let masks = MASKS;
     let deadlines = DEADLINES;

@@ -8,7 +8,8 @@ use native.Mathlib.Omega.{arith}
 use lib.ListN.{getD}
 use Rattle.rules.specs.Image.{Profile, due, profile}
 use Rattle.rules.specs.Numbers.{refused-loop, refused-unfit}
-use Rattle.rules.specs.Refusals.{_when_, First, Looped, Unfit}
+use Rattle.rules.specs.Refusals.{Ground, _when_, _blames_below_, First, AtFault, Refuses, LoopFault, Looped, Unfit}
+use Rattle.rules.specs.declared.Fault.{Fault}
 use Rattle.rules.proofs.Refusals.{first-none}
 use Rattle.rules.proofs.Order.Alike.{Alike, alike-back}
 use Rattle.sets.proofs.Laws.{below-exact}
@@ -54,11 +55,11 @@ module _ {s : List ℕ} {h : Header} {m d w : List ℕ} (x : Opened s h) (y : Co
     times = λ a l. rw mul-one (y .worst .each a l);
   }
 
-  pub verdict : {k : ℕ} {l : List ℕ} → Verdict (lent-profile (h .n) (h .cycle) m d w 1) k l → Verdict (profile s) k l
+  pub verdict : {f : Fault} {l : List ℕ} → Verdict (lent-profile (h .n) (h .cycle) m d w 1) f l → Verdict (profile s) f l
   verdict v = verdict-alike (alike-back alike) v
 
 -- without a refusal the header's counts are found, and the actions in order
-pub found : {s : List ℕ} {h : Header} {r : Checked} {k : ℕ} → HeaderOf s h → Verdict (profile s) k (r .order) → k ≢ refused-loop
+pub found : {s : List ℕ} {h : Header} {r : Checked} {f : Fault} → HeaderOf s h → Verdict (profile s) f (r .order) → f .number ≢ refused-loop
     → r .n ≡ h .n → r .levels ≡ h .levels → r .cycle ≡ h .cycle → Found s r
 unfolding profile
 found x v loopless n levels cycle = record {
@@ -71,33 +72,45 @@ found x v loopless n levels cycle = record {
 
 -- ---- 8, and then 9
 
--- The order gives 8 exactly if its verdict is 8.
-pub loop-given : {F : Profile} {k : ℕ} {l : List ℕ} → Verdict F k l → k ≡ refused-loop → First (refused-loop when Looped F ∷ []) k
-loop-given {F} {k} v e = by (v .number)
-  where
-    other : First (refused-unfit when Unfit F ∷ []) k → ⊥
-    other (inl p) = omega (arith, p .1)
-    other (inr p) = omega (arith, p .1)
+module _ {F : Profile} {f : Fault} {l : List ℕ} (v : Verdict F f l) where
+  abbrev eight : Ground
+  eight = refused-loop blames LoopFault F below F .n
 
-    by : First (refused-loop when Looped F ∷ refused-unfit when Unfit F ∷ []) k → First (refused-loop when Looped F ∷ []) k
-    by (inl p) = inl p
-    by (inr p) = absurd (other (p .1))
+  abbrev nine : List Ground
+  nine = refused-unfit when Unfit F ∷ []
 
-module _ {F : Profile} {k : ℕ} {l : List ℕ} (v : Verdict F k l) (loopless : k ≢ refused-loop) where
-  after-loop : (Looped F → ⊥) × First (refused-unfit when Unfit F ∷ []) k
-  after-loop = by (v .number)
+  -- the number of 9 or of none
+  other : First nine (f .number) → f .number ≢ refused-loop
+  other (inl p) e = omega (arith, p .1)
+  other (inr p) e = omega (arith, p .1)
+
+  -- The order gives 8 exactly if its verdict is 8.
+  pub loop-given : f .number ≡ refused-loop → Refuses (eight ∷ []) f
+  loop-given e = record { number = number (v .given .number); action = action (v .given .number) (v .given .action) }
     where
-      by : First (refused-loop when Looped F ∷ refused-unfit when Unfit F ∷ []) k
-          → (Looped F → ⊥) × First (refused-unfit when Unfit F ∷ []) k
-      by (inl p) = absurd (loopless (p .1))
-      by (inr p) = p
+      number : First (eight ∷ nine) (f .number) → First (eight ∷ []) (f .number)
+      number (inl p) = inl p
+      number (inr p) = absurd (other (p .1) e)
 
-  pub none-given : First (refused-loop when Looped F ∷ []) 0
-  none-given = inr (after-loop .0, refl)
+      action : First (eight ∷ nine) (f .number) → AtFault (eight ∷ nine) (f .action) → AtFault (eight ∷ []) (f .action)
+      action p (inl q) = inl q
+      action (inl p) (inr q) = absurd (q .0 (p .0))
+      action (inr p) (inr q) = absurd (other (p .1) e)
 
-  pub unfit-told : (k ≡ refused-unfit) ↔ Unfit F
-  unfit-told = by (after-loop .1)
-    where
-      by : First (refused-unfit when Unfit F ∷ []) k → (k ≡ refused-unfit) ↔ Unfit F
-      by (inl p) = ((λ e. p .0), (λ u. p .1))
-      by (inr p) = ((λ e. absurd (omega (arith, p .1))), (λ u. absurd (p .0 u)))
+  module _ (loopless : f .number ≢ refused-loop) where
+    after-loop : (Looped F → ⊥) × First nine (f .number)
+    after-loop = by (v .given .number)
+      where
+        by : First (eight ∷ nine) (f .number) → (Looped F → ⊥) × First nine (f .number)
+        by (inl p) = absurd (loopless (p .1))
+        by (inr p) = p
+
+    pub none-given : First (eight ∷ []) 0
+    none-given = inr (after-loop .0, refl)
+
+    pub unfit-told : (f .number ≡ refused-unfit) ↔ Unfit F
+    unfit-told = by (after-loop .1)
+      where
+        by : First nine (f .number) → (f .number ≡ refused-unfit) ↔ Unfit F
+        by (inl p) = ((λ e. p .0), (λ u. p .1))
+        by (inr p) = ((λ e. absurd (omega (arith, p .1))), (λ u. absurd (p .0 u)))

@@ -6,9 +6,9 @@ use mathlib.Core.Logic.{_≢_, _↔_}
 use mathlib.Core.List.{List, [], _∷_, _++_}
 use lib.ListN.{replicate}
 use Rattle.rules.specs.Numbers.{most-actions, refused-version, refused-count, refused-length, refused-spare, refused-range, refused-table, refused-loop}
-use Rattle.rules.specs.Image.{profile}
+use Rattle.rules.specs.Image.{header-spare, profile}
 use Rattle.rules.specs.Order.{Order, TheOrder}
-use Rattle.rules.specs.Refusals.{Ground, _when_, First, Count, Range, Table, Looped, Unfit, Version, Length, Spare, image-checks}
+use Rattle.rules.specs.Refusals.{Ground, _when_, _blames_below_, _or-when_, First, AtFault, Count, SpareFault, RangeFault, TableFault, LoopFault, Unfit, Version, Length, image-checks}
 use Rattle.order.specs.Arranged.{Lists, ZeroFrom}
 use Rattle.image_check.specs.declared.Checked.{Checked}
 
@@ -16,14 +16,20 @@ use Rattle.image_check.specs.declared.Checked.{Checked}
 abbrev pub head-checks : List ℕ → List Ground
 head-checks s = refused-version when Version s ∷ refused-count when Count (profile s) ∷ refused-length when Length s ∷ []
 
-abbrev pub record-checks : List ℕ → List Ground
-record-checks s = refused-spare when Spare s ∷ refused-range when Range (profile s) ∷ refused-table when Table (profile s) ∷ []
+abbrev pub spare-check : List ℕ → List Ground
+spare-check s = refused-spare blames SpareFault s below profile s .n or-when (header-spare s ≢ 0) ∷ []
 
-abbrev pub order-checks : List ℕ → List Ground
-order-checks s = refused-loop when Looped (profile s) ∷ []
+abbrev pub row-checks : List ℕ → List Ground
+row-checks s = refused-range blames RangeFault (profile s) below profile s .n ∷ refused-table blames TableFault (profile s) below profile s .n ∷ []
+
+abbrev pub record-checks : List ℕ → List Ground
+record-checks s = spare-check s ++ row-checks s
+
+abbrev pub loop-check : List ℕ → List Ground
+loop-check s = refused-loop blames LoopFault (profile s) below profile s .n ∷ []
 
 abbrev pub rest-checks : List ℕ → List Ground
-rest-checks s = record-checks s ++ order-checks s
+rest-checks s = record-checks s ++ loop-check s
 
 -- with a refusal nothing else is said
 pub record Blank (r : Checked) : Type 0 where
@@ -44,6 +50,7 @@ pub record Found (s : List ℕ) (r : Checked) : Type 0 where
 -- r is what the checks in the row answer of the image s
 pub record CheckAnswers (row : List Ground) (s : List ℕ) (r : Checked) : Type 0 where
   pub number : First row (r .refusal .number)
+  pub action : AtFault row (r .refusal .action)
   pub refused : r .refusal .number ≢ 0 → Blank r
   pub accepted : r .refusal .number ≡ 0 → Found s r
 

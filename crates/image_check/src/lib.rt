@@ -1,14 +1,14 @@
 // The check of a profile image, refusals 1 to 9.
-use rules::Refusal;
+use rules::Fault;
 
 pub mod whole;
 
-ghost use Rattle.rules.specs.Refusals.{First, image-checks};
+ghost use Rattle.rules.specs.Refusals.{Refuses, image-checks};
 
 // What the whole check finds: with a refusal all else is 0 or no; without one what the header says, the n actions in order, then 0, and of a
 // check that does not give 9 whether it would be given.
 pub struct Checked {
-    pub refusal: Refusal,
+    pub refusal: Fault,
     pub n: usize,
     pub levels: usize,
     pub cycle: u32,
@@ -17,8 +17,8 @@ pub struct Checked {
 }
 
 // The check of an image: refusals 1 to 9, in this order, over the whole image.
-pub fn check(image: &[u8]) -> Refusal
-    ensures { λ r. ⌜ First (image-checks (now (image .entry))) (r .number) ⌝ }
+pub fn check(image: &[u8]) -> Fault
+    ensures { λ r. ⌜ Refuses (image-checks (now (image .entry))) r ⌝ }
 {
     let checked = whole::checked(image);
     let refusal = checked.refusal;

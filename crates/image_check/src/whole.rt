@@ -4,15 +4,15 @@ use image_fields::Header;
 use image_fields::column;
 use image_fields::read;
 use image_fields::scan;
-use rules::Refusal;
+use rules::Fault;
 ghost use mathlib.Core.Path.{_≡_};
 ghost use Rattle.rules.specs.Image.{mask-of, deadline-of};
-ghost use Rattle.rules.specs.Refusals.{First, loop-checks};
+ghost use Rattle.rules.specs.Refusals.{Refuses, loop-checks};
 ghost use Rattle.image_fields.specs.Reading.{HeaderOf, Opened, Column, Columns};
-ghost use Rattle.image_check.specs.Checks.{head-checks, record-checks, rest-checks, Blank, BodyAnswers, Judged};
+ghost use Rattle.image_check.specs.Checks.{head-checks, spare-check, record-checks, rest-checks, Blank, BodyAnswers, Judged};
 
 // What a refused image answers.
-fn refused(refusal: Refusal) -> Checked
+fn refused(refusal: Fault) -> Checked
     ensures { λ r. ⌜ (r .refusal ≡ refusal) × Blank r ⌝ }
 {
     Checked {
@@ -26,57 +26,88 @@ fn refused(refusal: Refusal) -> Checked
 }
 
 // 2 to 4.
-fn head_refusal(image: &[u8], head: Header) -> Refusal
+fn head_refusal(image: &[u8], head: Header) -> Fault
     requires { ⌜ HeaderOf (now image) head ⌝ }
-    ensures { λ r. ⌜ First (head-checks (now (image .entry))) (r .number) ⌝ }
+    ensures { λ r. ⌜ Refuses (head-checks (now (image .entry))) r ⌝ }
 {
     if head.version != rules::FIRST_VERSION {
-        return Refusal {
+        return Fault {
             number: rules::REFUSED_VERSION,
+            action: rules::NO_ACTION,
         };
     }
     if scan::count_out(head.n, head.levels, head.cycle) {
-        return Refusal {
+        return Fault {
             number: rules::REFUSED_COUNT,
+            action: rules::NO_ACTION,
         };
     }
     if image.len() != read::record_at(head.levels, head.n) {
-        return Refusal {
+        return Fault {
             number: rules::REFUSED_LENGTH,
+            action: rules::NO_ACTION,
         };
     }
-    Refusal { number: 0 }
+    Fault {
+        number: 0,
+        action: rules::NO_ACTION,
+    }
+}
+
+// 5: a record's spare bit is looked for before the header's, as the action is named where one is at fault.
+fn spare_refusal(image: &[u8], head: Header) -> Fault
+    requires { ⌜ Opened (now image) head ⌝ }
+    ensures { λ r. ⌜ Refuses (spare-check (now (image .entry))) r ⌝ }
+{
+    let n = head.n;
+    let spared = scan::spare_fault(image, head.levels, n);
+    if spared < n {
+        return Fault {
+            number: rules::REFUSED_SPARE,
+            action: spared as u32,
+        };
+    }
+    if head.spare != 0 {
+        return Fault {
+            number: rules::REFUSED_SPARE,
+            action: rules::NO_ACTION,
+        };
+    }
+    Fault {
+        number: 0,
+        action: rules::NO_ACTION,
+    }
 }
 
 // 5 to 7.
-fn record_refusal(image: &[u8], head: Header, masks: &[u64], deadlines: &[u32]) -> Refusal
+fn record_refusal(image: &[u8], head: Header, masks: &[u64], deadlines: &[u32]) -> Fault
     requires { ⌜ Opened (now image) head ⌝ }
     requires { ⌜ Column (mask-of (now image)) (head .n) (now masks) × Column (deadline-of (now image)) (head .n) (now deadlines) ⌝ }
-    ensures { λ r. ⌜ First (record-checks (now (image .entry))) (r .number) ⌝ }
+    ensures { λ r. ⌜ Refuses (record-checks (now (image .entry))) r ⌝ }
 {
     let n = head.n;
-    let levels = head.levels;
-    if head.spare != 0 {
-        return Refusal {
-            number: rules::REFUSED_SPARE,
-        };
+    let refusal = spare_refusal(image, head);
+    if refusal.number != 0 {
+        return refusal;
     }
-    if scan::spare_fault(image, levels, n) < n {
-        return Refusal {
-            number: rules::REFUSED_SPARE,
-        };
-    }
-    if scan::range_fault(masks, deadlines, head.cycle, n) < n {
-        return Refusal {
+    let out = scan::range_fault(masks, deadlines, head.cycle, n);
+    if out < n {
+        return Fault {
             number: rules::REFUSED_RANGE,
+            action: out as u32,
         };
     }
-    if scan::table_fault(image, levels, n) < n {
-        return Refusal {
+    let fallen = scan::table_fault(image, head.levels, n);
+    if fallen < n {
+        return Fault {
             number: rules::REFUSED_TABLE,
+            action: fallen as u32,
         };
     }
-    Refusal { number: 0 }
+    Fault {
+        number: 0,
+        action: rules::NO_ACTION,
+    }
 }
 
 // 5 to 8, by the image's columns, and whether 9 would be given.
@@ -95,9 +126,9 @@ fn checked_columns(
         return refused(refusal);
     }
     let judged = order::judge(masks, deadlines, head.cycle, worst, 1, head.n);
-    let number = judged.refusal;
-    if number == rules::REFUSED_LOOP {
-        return refused(Refusal { number });
+    let judgement = judged.refusal;
+    if judgement.number == rules::REFUSED_LOOP {
+        return refused(judgement);
     }
     let order = judged.order;
     Checked {
@@ -106,7 +137,7 @@ fn checked_columns(
         levels: head.levels,
         cycle: head.cycle,
         order,
-        unfit: number == rules::REFUSED_UNFIT,
+        unfit: judgement.number == rules::REFUSED_UNFIT,
     }
 }
 
@@ -134,8 +165,9 @@ pub fn checked_body(image: &[u8]) -> Checked
     ensures { λ r. ⌜ BodyAnswers (loop-checks (now (image .entry))) (now (image .entry)) r ⌝ }
 {
     if image.len() < rules::HEADER_BYTES {
-        return refused(Refusal {
+        return refused(Fault {
             number: rules::REFUSED_SHORT,
+            action: rules::NO_ACTION,
         });
     }
     let head = read::header(image);
@@ -152,8 +184,9 @@ pub fn checked(image: &[u8]) -> Checked
 {
     let found = checked_body(image);
     if found.unfit {
-        return refused(Refusal {
+        return refused(Fault {
             number: rules::REFUSED_UNFIT,
+            action: rules::NO_ACTION,
         });
     }
     found

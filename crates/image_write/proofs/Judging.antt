@@ -9,6 +9,7 @@ use lib.ListN.{getD}
 use Rattle.rules.specs.Numbers.{longest-time}
 use Rattle.rules.specs.Image.{ProfileTables, due, of-tables}
 use Rattle.rules.specs.Refusals.{WriteFault}
+use Rattle.rules.specs.declared.Fault.{Fault}
 use Rattle.rules.proofs.Order.Alike.{Alike}
 use Rattle.sets.proofs.Laws.{below-exact}
 use Rattle.order.specs.Lent.{lent-profile, Masked, Timed}
@@ -27,8 +28,8 @@ module _ (n L cycle : ℕ) (T : ProfileTables) where
     times = λ a h. rw add-zero;
   }
 
-  pub judged : {k : ℕ} {order : List ℕ} → Verdict (lent-profile n cycle (T .masks) (T .deadlines) (T .worst) L) k order
-      → Verdict (of-tables n L cycle T) k order
+  pub judged : {f : Fault} {order : List ℕ} → Verdict (lent-profile n cycle (T .masks) (T .deadlines) (T .worst) L) f order
+      → Verdict (of-tables n L cycle T) f order
   judged v = verdict-alike as-lent v
 
   module _ (room : Roomy n L T)

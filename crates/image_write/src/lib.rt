@@ -1,15 +1,15 @@
 // Writing: n, L, cycle and lent slices of masks, deadlines, averages and worst times, packed into a lent image.
 
-ghost use Rattle.rules.specs.Refusals.{First};
+ghost use Rattle.rules.specs.Refusals.{Refuses};
 ghost use Rattle.image_write.specs.Writing.{writing, Writes};
-use rules::Refusal;
+use rules::Fault;
 
 pub mod checks;
 
 // The answer of writing: the refusal, and the number of bytes written.
 #[repr(C)]
 pub struct Written {
-    pub refusal: Refusal,
+    pub refusal: Fault,
     pub bytes: usize,
 }
 
@@ -23,25 +23,28 @@ pub fn refusal(
     averages: &[u32],
     worst: &[u32],
     room: usize,
-) -> Refusal
-    ensures { λ r. ⌜ First
+) -> Fault
+    ensures { λ r. ⌜ Refuses
         (writing n levels cycle
         (record { masks = now (masks .entry); deadlines = now (deadlines .entry); averages = now (averages .entry); worst = now (worst .entry) })
-        room) (r .number) ⌝ }
+        room) r ⌝ }
 {
     if image_fields::scan::count_out(n, levels, cycle) {
-        return Refusal {
+        return Fault {
             number: rules::REFUSED_COUNT,
+            action: rules::NO_ACTION,
         };
     }
     if checks::tight(n, levels, masks, deadlines, averages, worst) {
-        return Refusal {
+        return Fault {
             number: rules::REFUSED_ROOM,
+            action: rules::NO_ACTION,
         };
     }
     if room < image_pack::image_bytes(n, levels) {
-        return Refusal {
+        return Fault {
             number: rules::REFUSED_ROOM,
+            action: rules::NO_ACTION,
         };
     }
     // The lowest action at fault for 7 and for 6, n for none. 6 is given before 7 and looked for after it: where no row breaks the rule of 7,
@@ -50,18 +53,18 @@ pub fn refusal(
     let ordered = n <= fallen;
     let out = checks::range(n, levels, cycle, masks, deadlines, averages, worst, ordered);
     if out < n {
-        return Refusal {
+        return Fault {
             number: rules::REFUSED_RANGE,
+            action: out as u32,
         };
     }
     if fallen < n {
-        return Refusal {
+        return Fault {
             number: rules::REFUSED_TABLE,
+            action: fallen as u32,
         };
     }
-    Refusal {
-        number: order::judge(masks, deadlines, cycle, worst, levels, n).refusal,
-    }
+    order::judge(masks, deadlines, cycle, worst, levels, n).refusal
 }
 
 // Packs the tables into the image. A refusal leaves it untouched, and what it has beyond the bytes written stays.
@@ -77,7 +80,7 @@ pub fn write(
 ) -> Written
     ensures { λ r. ⌜ Writes n levels cycle
         (record { masks = now (masks .entry); deadlines = now (deadlines .entry); averages = now (averages .entry); worst = now (worst .entry) })
-        (now (image .entry)) (now (image .exit)) (r .refusal .number) (r .bytes) ⌝ }
+        (now (image .entry)) (now (image .exit)) (r .refusal) (r .bytes) ⌝ }
 {
     let room = image.len();
     let refused = refusal(n, levels, cycle, masks, deadlines, averages, worst, room);

@@ -6,7 +6,9 @@ use mathlib.Core.List.{List}
 use lib.IntN.{pos}
 use lib.Ieee.{Float, fin}
 use Rattle.rules.specs.Run as rules
+use Rattle.rules.specs.Numbers.{most-actions}
 use Rattle.rules.specs.declared.Refusal.{Refusal}
+use Rattle.rules.specs.declared.Fault.{Fault}
 use Rattle.rules.specs.Speed.{ratio, spent}
 use Rattle.speed_stretch.specs.Answer.{SpeedAnswer, gives, refuses, reading-of}
 use Rattle.speed_stretch.specs.declared.Reading.{Reading}
@@ -18,7 +20,7 @@ use Rattle.nyokazerubi.specs.declared.readings.Read.{Read}
 
 -- The version of the boundary.
 abbrev pub boundary : ℕ
-boundary = 3
+boundary = 4
 
 -- ---- starting and reporting
 
@@ -54,10 +56,13 @@ asked-left a = cond (a .decided) (a .made) (cond (a .coasts) (a .gone) (a .run))
 abbrev pub none : Float
 none = fin false 0 (pos 0)
 
+abbrev pub not-refused : Fault
+not-refused = record { number = 0; action = most-actions }
+
 abbrev pub read-of : SpeedAnswer → Read
-read-of (gives (ratio x)) = record { refusal = record { number = 0 }; spent = false; ratio = x }
-read-of (gives spent) = record { refusal = record { number = 0 }; spent = true; ratio = none }
-read-of (refuses number) = record { refusal = record { number = number }; spent = false; ratio = none }
+read-of (gives (ratio x)) = record { refusal = not-refused; spent = false; ratio = x }
+read-of (gives spent) = record { refusal = not-refused; spent = true; ratio = none }
+read-of (refuses refusal) = record { refusal = refusal; spent = false; ratio = none }
 
 -- r is the speed reading of positions first to last at the level and time t.
 pub record ReadsFlat (s : List ℕ) (first last level t : ℕ) (r : Read) : Type 0 where

@@ -6,11 +6,11 @@ use planner::Planned;
 use profile::Place;
 use profile::Unpacked;
 use refresh::Refreshed;
-use rules::Refusal;
+use rules::Fault;
 use run::dry::Dried;
 ghost use mathlib.Core.Path.{_≡_};
 ghost use mathlib.Core.List.{[]};
-ghost use Rattle.rules.specs.Refusals.{First, image-checks, lookup-call};
+ghost use Rattle.rules.specs.Refusals.{Refuses, image-checks, lookup-call};
 ghost use Rattle.image_write.specs.Writing.{Writes};
 ghost use Rattle.profile.specs.Calls.{ReadsImage, Places};
 ghost use Rattle.planner.specs.Planning.{Plans};
@@ -26,7 +26,7 @@ pub mod recordings;
 pub mod runs;
 
 // The version of this boundary: of its calls, their parameters and the layout of its records. It goes up by 1 when one of them changes.
-pub const BOUNDARY: u32 = 3;
+pub const BOUNDARY: u32 = 4;
 
 #[no_mangle]
 pub extern "C" fn nyokazerubi_boundary() -> u32
@@ -38,8 +38,8 @@ pub extern "C" fn nyokazerubi_boundary() -> u32
 // ---- the profile
 
 #[no_mangle]
-pub extern "C" fn nyokazerubi_check(image: &[u8]) -> Refusal
-    ensures { λ r. ⌜ First (image-checks (now (image .entry))) (r .number) ⌝ }
+pub extern "C" fn nyokazerubi_check(image: &[u8]) -> Fault
+    ensures { λ r. ⌜ Refuses (image-checks (now (image .entry))) r ⌝ }
 {
     profile::check(image)
 }
@@ -72,7 +72,7 @@ pub extern "C" fn nyokazerubi_write(
 ) -> Written
     ensures { λ r. ⌜ Writes n levels cycle
         (record { masks = now (masks .entry); deadlines = now (deadlines .entry); averages = now (averages .entry); worst = now («worst_by_action» .entry) })
-        (now (image .entry)) (now (image .exit)) (r .refusal .number) (r .bytes) ⌝ }
+        (now (image .entry)) (now (image .exit)) (r .refusal) (r .bytes) ⌝ }
 {
     profile::write(
         n,
@@ -88,7 +88,7 @@ pub extern "C" fn nyokazerubi_write(
 
 #[no_mangle]
 pub extern "C" fn nyokazerubi_write_encoder(image: &mut [u8]) -> Written
-    ensures { λ r. ⌜ Writes 9 8 320000 encoder-tables (now (image .entry)) (now (image .exit)) (r .refusal .number) (r .bytes) ⌝ }
+    ensures { λ r. ⌜ Writes 9 8 320000 encoder-tables (now (image .entry)) (now (image .exit)) (r .refusal) (r .bytes) ⌝ }
 {
     encoder::write_image(image)
 }
@@ -102,8 +102,8 @@ pub extern "C" fn nyokazerubi_lookup(image: &[u8], action: usize) -> Place
 }
 
 #[no_mangle]
-pub extern "C" fn nyokazerubi_lookup_refusal(image: &[u8], action: usize) -> Refusal
-    ensures { λ r. ⌜ First (lookup-call (now (image .entry)) action) (r .number) ⌝ }
+pub extern "C" fn nyokazerubi_lookup_refusal(image: &[u8], action: usize) -> Fault
+    ensures { λ r. ⌜ Refuses (lookup-call (now (image .entry)) action) r ⌝ }
 {
     profile::lookup_refusal(image, action)
 }
@@ -173,7 +173,7 @@ pub extern "C" fn nyokazerubi_dry_frame(
 
 #[no_mangle]
 pub extern "C" fn nyokazerubi_refresh(image: &[u8], trace: &[u8], out: &mut [u8]) -> Refreshed
-    ensures { λ r. ⌜ Refreshes (now (image .entry)) (now (trace .entry)) (now (out .entry)) (now (out .exit)) (r .refusal .number) (r .bytes) ⌝ }
+    ensures { λ r. ⌜ Refreshes (now (image .entry)) (now (trace .entry)) (now (out .entry)) (now (out .exit)) (r .refusal) (r .bytes) ⌝ }
 {
     refresh::refresh(image, trace, out)
 }

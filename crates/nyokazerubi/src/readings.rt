@@ -1,5 +1,5 @@
 // The speed reading for a host. An enum does not cross to C, so its cases are laid flat.
-use rules::Refusal;
+use rules::Fault;
 use speed_stretch::Reading;
 ghost use mathlib.Core.Path.{_≡_};
 ghost use Rattle.speed_stretch.specs.Answer.{reading-of};
@@ -9,7 +9,7 @@ ghost use Rattle.nyokazerubi.specs.Flat.{read-of, ReadsFlat};
 // The refusal, and without one whether it is spent, and else the ratio. What does not count is 0 or no.
 #[repr(C)]
 pub struct Read {
-    pub refusal: Refusal,
+    pub refusal: Fault,
     pub spent: bool,
     pub ratio: f64,
 }
@@ -17,14 +17,18 @@ pub struct Read {
 fn flat(reading: Reading) -> Read
     ensures { λ r. ⌜ r ≡ read-of (reading-of reading) ⌝ }
 {
+    let none = Fault {
+        number: 0,
+        action: rules::NO_ACTION,
+    };
     match reading {
         Reading::Ratio(ratio) => Read {
-            refusal: Refusal { number: 0 },
+            refusal: none,
             spent: false,
             ratio,
         },
         Reading::Spent => Read {
-            refusal: Refusal { number: 0 },
+            refusal: none,
             spent: true,
             ratio: 0.0,
         },

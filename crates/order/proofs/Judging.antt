@@ -1,21 +1,24 @@
 -- Refusals 8 and 9 from the urgencies, the placed actions and the test along them.
 use mathlib.Core.Path.{_≡_, refl, sym, subst, _∙_}
 use mathlib.Core.Bool.{Bool, true, false}
-use mathlib.Core.Logic.{inl, inr, _↔_}
+use mathlib.Core.Logic.{_↔_}
 use mathlib.Core.List.{List, [], _∷_}
 use Prim.Native.Nat.{ℕ, _≤_, _<_}
 use native.Mathlib.Omega.{arith}
 use lib.ListN.{getD, replicate}
-use Rattle.rules.specs.Numbers.{refused-loop, refused-unfit}
+use Rattle.rules.specs.Numbers.{most-actions, refused-loop, refused-unfit}
 use Rattle.rules.specs.Image.{Profile, due}
 use Rattle.rules.specs.Order.{Order, TheOrder, Fit}
-use Rattle.rules.specs.Refusals.{_when_, First, Looped, Unfit}
+use Rattle.rules.specs.Refusals.{LowestFault, _when_, _blames_below_, LoopFault, Looped, Unfit}
+use Rattle.rules.specs.declared.Fault.{Fault}
 use Rattle.rules.proofs.Tests.{not-both}
-use Rattle.rules.proofs.Order.Alike.{Alike, alike-back, looped-alike, fit-alike, order-alike}
+use Rattle.rules.proofs.Faults.{some-fault}
+use Rattle.rules.proofs.Refusals.{Same, refuses-same, refuses-none, refuses-when, refuses-on, refuses-blamed}
+use Rattle.rules.proofs.Order.Alike.{Alike, alike-back, on-loop-alike, looped-alike, fit-alike, order-alike}
 use Rattle.order.specs.Lent.{lent-profile}
 use Rattle.order_urgency.specs.Spread.{Urgent}
 use Rattle.order.specs.Arranged.{Lists, Placed}
-use Rattle.order.specs.Judged.{Ordered, TellsFit, Verdict}
+use Rattle.order.specs.Judged.{Ordered, TellsFit, order-checks, Verdict}
 use Rattle.order.proofs.Waiting.{none-yet}
 
 pub ordered-placed : (n cycle : ℕ) (masks deadlines : List ℕ) {u : List ℕ} {k : ℕ} {l : List ℕ}
@@ -41,11 +44,13 @@ ordered-timed n cycle masks deadlines worst stride x = record {
 }
 
 module _ {F : Profile} {k : ℕ} {l : List ℕ} (x : Ordered F k l) where
-  pub verdict-loop : k < F .n → Verdict F 8 (replicate 64 0)
-  verdict-loop m = record {
-    number = inl (x .looped .0 m, refl);
+  -- where not all were placed there is a loop, and r is the lowest action on one
+  pub verdict-loop : k < F .n → {r : ℕ} → F .n ≤ most-actions → LowestFault (LoopFault F) (F .n) r
+      → Verdict F (record { number = refused-loop; action = r }) (replicate most-actions 0)
+  verdict-loop m few low = record {
+    given = refuses-blamed refused-loop low few (some-fault low .1 (x .looped .0 m));
     order = λ e. absurd (e refl);
-    rest = λ j h. none-yet 64 j;
+    rest = λ j h. none-yet most-actions j;
     looped = λ e. refl;
   }
 
@@ -60,37 +65,45 @@ module _ {F : Profile} {k : ℕ} {l : List ℕ} (x : Ordered F k l) where
       exact : (r ≡ true) ↔ Fit F
       exact = let w = x .whole all in tells (w .0) (w .1) (w .2)
 
-      pub verdict-fit : r ≡ true → Verdict F 0 l
+      pub verdict-fit : r ≡ true → Verdict F (record { number = 0; action = most-actions }) l
       verdict-fit e = record {
-        number = inr (loopless, inr ((λ unfit. unfit (exact .0 e)), refl));
+        given = refuses-on loopless (refuses-on (λ unfit. unfit (exact .0 e)) refuses-none);
         order = λ h. x .whole all;
         rest = x .rest;
         looped = λ z. absurd (omega arith);
       }
 
-      pub verdict-unfit : r ≡ false → Verdict F 9 l
+      pub verdict-unfit : r ≡ false → Verdict F (record { number = refused-unfit; action = most-actions }) l
       verdict-unfit e = record {
-        number = inr (loopless, inl ((λ fit. not-both (exact .1 fit) e), refl));
+        given = refuses-on loopless (refuses-when refused-unfit (λ fit. not-both (exact .1 fit) e));
         order = λ h. x .whole all;
         rest = x .rest;
         looped = λ z. absurd (omega arith);
       }
 
 -- A verdict on slices that were filled from F is one on F.
-pub verdict-alike : {F G : Profile} {k : ℕ} {l : List ℕ} → Alike F G → Verdict G k l → Verdict F k l
-verdict-alike {F} {G} {k} {l} x v = record {
-  number = go (v .number);
+pub verdict-alike : {F G : Profile} {f : Fault} {l : List ℕ} → Alike F G → Verdict G f l → Verdict F f l
+verdict-alike {F} {G} {f} {l} x v = record {
+  given = refuses-same (order-checks G) (order-checks F) f (loop, (unfit, tt)) (v .given);
   order = λ e. same (v .order e);
   rest = λ j h. v .rest j (omega (arith, x .n));
   looped = v .looped;
 }
   where
-    go : First (refused-loop when Looped G ∷ refused-unfit when Unfit G ∷ []) k → First (refused-loop when Looped F ∷ refused-unfit when Unfit F ∷ []) k
-    go (inl h) = inl (looped-alike x .1 (h .0), h .1)
-    go (inr (h, inl u)) = inr ((λ f. h (looped-alike x .0 f)), inl ((λ f. u .0 (fit-alike x 0 .0 f)), u .1))
-    go (inr (h, inr u)) = inr ((λ f. h (looped-alike x .0 f)), inr ((λ f. u .0 (λ g. f (fit-alike x 0 .1 g))), u .1))
+    y : Alike G F
+    y = alike-back x
+
+    loop : Same (refused-loop blames LoopFault G below G .n) (refused-loop blames LoopFault F below F .n)
+    loop = record { number = refl; holds = looped-alike y; at-fault = on-loop-alike y }
+
+    unfit : Same (refused-unfit when Unfit G) (refused-unfit when Unfit F)
+    unfit = record {
+      number = refl;
+      holds = ((λ u f. u (fit-alike x 0 .0 f)), (λ u g. u (fit-alike x 0 .1 g)));
+      at-fault = λ a. ((λ z. z), (λ z. z));
+    }
 
     same : (o : Order (G .n)) × TheOrder G o × Lists l o → (o : Order (F .n)) × TheOrder F o × Lists l o
     same w =
-        let p = order-alike (alike-back x) (w .1) in
+        let p = order-alike y (w .1) in
         (p .0, p .1, λ j m. w .2 j (omega (arith, x .n)) ∙ sym (p .2 j))

@@ -8,7 +8,8 @@ use lib.ListN.{replicate}
 use Rattle.rules.specs.Numbers.{most-actions, refused-loop, refused-unfit}
 use Rattle.rules.specs.Image.{Profile, due}
 use Rattle.rules.specs.Order.{Order, TheOrder, Fit}
-use Rattle.rules.specs.Refusals.{_when_, First, Looped, Unfit}
+use Rattle.rules.specs.Refusals.{Ground, _when_, _blames_below_, Refuses, LoopFault, Looped, Unfit}
+use Rattle.rules.specs.declared.Fault.{Fault}
 use Rattle.sets.specs.Sets.{Below}
 use Rattle.order.specs.Arranged.{Lists, ZeroFrom}
 
@@ -27,9 +28,13 @@ pub record Ordered (F : Profile) (k : ℕ) (l : List ℕ) : Type 0 where
 abbrev pub TellsFit : Profile → List ℕ → Bool → Type 0
 TellsFit F l r = (o : Order (F .n)) → TheOrder F o → Lists l o → (r ≡ true) ↔ Fit F
 
--- k is the refusal of F by 8 and 9, or 0; but for 8 the list has the actions in the order of F and then 0, for 8 it has 0 alone.
-pub record Verdict (F : Profile) (k : ℕ) (l : List ℕ) : Type 0 where
-  pub number : First (refused-loop when Looped F ∷ refused-unfit when Unfit F ∷ []) k
-  pub order : k ≢ refused-loop → (o : Order (F .n)) × TheOrder F o × Lists l o
+-- 8 and 9 of a profile
+abbrev pub order-checks : Profile → List Ground
+order-checks F = refused-loop blames LoopFault F below F .n ∷ refused-unfit when Unfit F ∷ []
+
+-- f is the refusal of F by 8 and 9, or none; but for 8 the list has the actions in the order of F and then 0, for 8 it has 0 alone.
+pub record Verdict (F : Profile) (f : Fault) (l : List ℕ) : Type 0 where
+  pub given : Refuses (order-checks F) f
+  pub order : f .number ≢ refused-loop → (o : Order (F .n)) × TheOrder F o × Lists l o
   pub rest : ZeroFrom (F .n) l
-  pub looped : k ≡ refused-loop → l ≡ replicate most-actions 0
+  pub looped : f .number ≡ refused-loop → l ≡ replicate most-actions 0

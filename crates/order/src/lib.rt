@@ -1,8 +1,10 @@
 // The order of actions on lent slices: the masks and deadlines by action, the level 0 worst time of action a at a * stride.
 // A deadline of 0 stands for the cycle.
 
+use order_loops::first_looped;
 use order_urgency::due;
 use order_urgency::urgencies;
+use rules::Fault;
 use sets::above_lowest;
 use sets::all_below;
 use sets::count;
@@ -173,11 +175,11 @@ pub fn fit(
 
 // Refusal 8 or 9, 0 for neither, and but for 8 the actions in order; all else of the order is 0.
 pub struct Judgement {
-    pub refusal: u32,
+    pub refusal: Fault,
     pub order: [u8; 64],
 }
 
-// 8 where the masks contain a loop, else 9 where no permitted order meets all deadlines at level 0 worst times.
+// 8 where the masks contain a loop, with the lowest action on one, else 9 where no permitted order meets all deadlines at level 0 worst times.
 pub fn judge(
     masks: &[u64],
     deadlines: &[u32],
@@ -193,17 +195,24 @@ pub fn judge(
     let arranged = ordered(masks, deadlines, cycle, n);
     let order = arranged.order;
     if arranged.placed < n {
+        let looped = first_looped(masks, n);
+        let refusal = Fault {
+            number: rules::REFUSED_LOOP,
+            action: looped as u32,
+        };
         return Judgement {
-            refusal: rules::REFUSED_LOOP,
+            refusal,
             order: [0u8; 64],
         };
     }
-    if fit(&order, deadlines, cycle, worst, stride, n) {
-        Judgement { refusal: 0, order }
+    let number = if fit(&order, deadlines, cycle, worst, stride, n) {
+        0
     } else {
-        Judgement {
-            refusal: rules::REFUSED_UNFIT,
-            order,
-        }
-    }
+        rules::REFUSED_UNFIT
+    };
+    let refusal = Fault {
+        number,
+        action: rules::NO_ACTION,
+    };
+    Judgement { refusal, order }
 }

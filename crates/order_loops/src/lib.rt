@@ -1,11 +1,16 @@
 // The actions on a loop of lent masks, from the sets of all that comes before each action.
 
+use sets::lowest;
 use sets::member;
+use sets::with;
 ghost use mathlib.Core.Path.{_≡_};
+ghost use mathlib.Core.Bool.{true};
+ghost use mathlib.Core.Logic.{_↔_};
 ghost use mathlib.Core.List.{List};
 ghost use Prim.Native.Nat.{ℕ, _+_, _≤_, _<_};
 ghost use lib.ListN.{length, getD};
 ghost use Rattle.rules.specs.Numbers.{most-actions};
+ghost use Rattle.rules.specs.Image.{has};
 ghost use Rattle.rules.specs.Order.{OnLoop};
 ghost use Rattle.rules.specs.Refusals.{LowestFault};
 ghost use Rattle.sets.specs.Sets.{comes-before};
@@ -56,18 +61,31 @@ fn closed(masks: &[u64], n: usize) -> [u64; 64]
     all
 }
 
+// The actions that must follow themselves.
+fn looped(masks: &[u64], n: usize) -> u64
+    requires { ⌜ (n ≤ most-actions) × (n ≤ length (now masks)) ⌝ }
+    ensures { λ r. ⌜ ((a : ℕ) → (has r a ≡ true) ↔ ((a < n) × OnLoop n (comes-before (now (masks .entry))) a)) ⌝ }
+{
+    let all = closed(masks, n);
+    let mut set: u64 = 0;
+    let mut a: usize = 0;
+    while a < n {
+        if member(all[a], a) {
+            set = with(set, a);
+        }
+        a += 1;
+    }
+    set
+}
+
 // The lowest action on a loop, n where there is none.
 pub fn first_looped(masks: &[u64], n: usize) -> usize
     requires { ⌜ (n ≤ most-actions) × (n ≤ length (now masks)) ⌝ }
     ensures { λ r. ⌜ LowestFault (OnLoop n (comes-before (now (masks .entry)))) n r ⌝ }
 {
-    let all = closed(masks, n);
-    let mut a: usize = 0;
-    while a < n {
-        if member(all[a], a) {
-            return a;
-        }
-        a += 1;
+    let set = looped(masks, n);
+    if set == 0 {
+        return n;
     }
-    n
+    lowest(set)
 }

@@ -1,7 +1,7 @@
 -- What planning answers: refused, and not. Assumes nothing.
 use Prim.Native.Nat.{ℕ, _*_, _≤_}
 use mathlib.Core.Path.{_≡_, refl}
-use mathlib.Core.List.{List, [], _∷_}
+use mathlib.Core.List.{List, [], _∷_, _++_}
 use mathlib.Core.Logic.{inl, inr, _≢_}
 use native.Mathlib.Omega.{arith}
 use borrow.Author.Tests.{ne-eqb}
@@ -10,10 +10,9 @@ use Rattle.rules.specs.Numbers.{refused-room}
 use Rattle.rules.specs.Image.{profile}
 use Rattle.rules.specs.Order.{Order}
 use Rattle.rules.specs.Limits.{LentTables}
-use Rattle.rules.specs.Refusals.{Ground, _when_, First, Tight, Accepted, kept, image-checks}
+use Rattle.rules.specs.Refusals.{Ground, _when_, First, AtFault, Tight, Accepted, kept, image-checks}
 use Rattle.rules.proofs.Differences.{not-above}
-use Rattle.rules.proofs.Refusals.{first-stops, first-goes-on, first-parts, image-numbered}
-use Rattle.rules.specs.declared.Refusal.{Refusal}
+use Rattle.rules.proofs.Refusals.{first-stops, first-goes-on, first-parts, handed-on, image-numbered}
 use Rattle.image_check.specs.declared.Checked.{Checked}
 use Rattle.image_check.specs.Checks.{Judged}
 use Rattle.planner.specs.declared.Planned.{Planned}
@@ -57,19 +56,30 @@ module _ (n L : ℕ) (lent : LentTables) where
 -- ---- by what the check of the image answers: refused with 1 to 9, or judged for 17
 
 module _ {s : List ℕ} {r : Checked} (a : Judged s r) (lent : LentTables) where
-  pub image-refused : r .refusal .number ≢ 0 → Admits s lent r
-  image-refused some = record {
-    number = first-stops (image-checks s) (room-check s lent) (r .refusal .number) (a .number) some;
-    found = λ none. absurd (some none);
-  }
+  -- 17 blames no action, so the action is the check's
+  named : {k : ℕ} → First (image-checks s ++ room-check s lent) k → AtFault (image-checks s ++ room-check s lent) (r .refusal .action)
+  named p = handed-on (image-checks s) (room-check s lent) _ _ ((λ a z. z), tt) (a .action) p
 
-  pub room-judged : {f : Refusal} → r .refusal .number ≡ 0 → First (refused-room when Tight (plan-rooms (r .n) (r .levels) lent) ∷ []) (f .number)
-      → Admits s lent (record { refusal = f; n = r .n; levels = r .levels; cycle = r .cycle; order = r .order; unfit = r .unfit })
-  room-judged {f} none p =
+  pub image-refused : r .refusal .number ≢ 0 → Admits s lent r
+  image-refused some =
+      let number = first-stops (image-checks s) (room-check s lent) (r .refusal .number) (a .number) some in
+      record { number = number; action = named number; found = λ none. absurd (some none) }
+
+  pub room-judged : {k : ℕ} → r .refusal .number ≡ 0 → First (refused-room when Tight (plan-rooms (r .n) (r .levels) lent) ∷ []) k
+      → Admits s lent (record {
+        refusal = record { number = k; action = r .refusal .action };
+        n = r .n;
+        levels = r .levels;
+        cycle = r .cycle;
+        order = r .order;
+        unfit = r .unfit;
+      })
+  room-judged {k} none p =
       let found = a .accepted none in
+      let number = first-goes-on (image-checks s) (room-check s lent) k (image-numbered s) (rw none at (a .number)) (rw (found .n, found .levels) at p) in
       record {
-        number = first-goes-on (image-checks s) (room-check s lent) (f .number) (image-numbered s) (rw none at (a .number))
-            (rw (found .n, found .levels) at p);
+        number = number;
+        action = named number;
         found = λ _. record { n = found .n; levels = found .levels; cycle = found .cycle; order = found .order; rest = found .rest };
       }
 
@@ -79,6 +89,7 @@ module _ {s : List ℕ} {lent : LentTables} {r : Checked} (a : Admits s lent r) 
   pub refused-plans : {p : Planned} → r .refusal .number ≢ 0 → p ≡ record { refusal = r .refusal; n = 0; levels = 0; cycle = 0 } → Plans s lent lent p
   refused-plans some e = rw e (record {
     number = a .number;
+    action = a .action;
     n = kept-old _ _ _ some;
     levels = kept-old _ _ _ some;
     cycle = kept-old _ _ _ some;
@@ -113,6 +124,7 @@ module _ {s : List ℕ} {lent : LentTables} {r : Checked} (a : Admits s lent r) 
         let found = a .found none in
         record {
           number = a .number;
+          action = a .action;
           n = kept-new _ _ _ none (found .n);
           levels = kept-new _ _ _ none (found .levels);
           cycle = kept-new _ _ _ none (found .cycle);

@@ -10,7 +10,8 @@ use Rattle.rules.specs.Image.{Profile, due, profile}
 use Rattle.rules.specs.Order.{Order, TheOrder}
 use Rattle.rules.specs.Limits.{tables, LentTables, planner-tables}
 use Rattle.rules.specs.Refusals.{_when_, Count, Tight, kept, image-call}
-use Rattle.rules.proofs.Refusals.{Sound, first-one, accepted-parts}
+use Rattle.rules.specs.declared.Fault.{Fault}
+use Rattle.rules.proofs.Refusals.{Sound, refuses-one, accepted-parts}
 use Rattle.rules.proofs.Accepted.{some-level}
 use Rattle.rules.proofs.Order.OfProfile.{order-settled}
 use Rattle.fields.proofs.Tabs.{tab-ext}
@@ -47,13 +48,18 @@ kept-one {A} k m new new′ old e same f g = f ∙ both (ℕ-discrete k 0) ∙ s
     both (no z) = rw (ne-eqb k 0 z)
 
 module _ {s : List ℕ} {before after₁ after₂ : LentTables} {r t : Planned} (x : Plans s before after₁ r) (y : Plans s before after₂ t) where
+  refusal : r .refusal ≡ t .refusal
+  refusal =
+      refuses-one (image-call s (plan-rooms (profile s .n) (profile s .levels) before)) (r .refusal) (t .refusal)
+      (record { number = x .number; action = x .action })
+      (record { number = y .number; action = y .action })
+
   number : r .refusal .number ≡ t .refusal .number
-  number =
-      first-one (image-call s (plan-rooms (profile s .n) (profile s .levels) before)) (r .refusal .number) (t .refusal .number) (x .number) (y .number)
+  number = ap (λ (f : Fault). f .number) refusal
 
   answer : r ≡ t
   answer =
-      ap (λ (k : ℕ). record { refusal = record { number = k }; n = r .n; levels = r .levels; cycle = r .cycle }) number
+      ap (λ (f : Fault). record { refusal = f; n = r .n; levels = r .levels; cycle = r .cycle }) refusal
       ∙ ap (λ (k : ℕ). record { refusal = t .refusal; n = k; levels = r .levels; cycle = r .cycle })
       (kept-one _ _ (profile s .n) (profile s .n) 0 number (λ _. refl) (x .n) (y .n))
       ∙ ap (λ (k : ℕ). record { refusal = t .refusal; n = t .n; levels = k; cycle = r .cycle })

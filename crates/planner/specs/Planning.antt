@@ -7,7 +7,7 @@ use Rattle.rules.specs.Numbers.{longest-coast}
 use Rattle.rules.specs.Image.{profile}
 use Rattle.rules.specs.Order.{Order, TheOrder}
 use Rattle.rules.specs.Limits.{LentTables, planner-tables}
-use Rattle.rules.specs.Refusals.{First, kept, image-call}
+use Rattle.rules.specs.Refusals.{First, AtFault, kept, image-call}
 pub use Rattle.plan_tables.specs.Filling.{with-fronts}
 use Rattle.image_check.specs.declared.Checked.{Checked}
 use Rattle.image_check.specs.Checks.{Found}
@@ -26,6 +26,7 @@ plan-rooms n L lent =
 -- that was there. Without one the order is the profile's; with one there need not be any, and o counts for nothing.
 pub record Plans (s : List ℕ) (before after : LentTables) (r : Planned) : Type 0 where
   pub number : First (image-call s (plan-rooms (profile s .n) (profile s .levels) before)) (r .refusal .number)
+  pub action : AtFault (image-call s (plan-rooms (profile s .n) (profile s .levels) before)) (r .refusal .action)
   pub n : r .n ≡ kept (r .refusal .number) (profile s .n) 0
   pub levels : r .levels ≡ kept (r .refusal .number) (profile s .levels) 0
   pub cycle : r .cycle ≡ kept (r .refusal .number) (profile s .cycle) 0
@@ -38,4 +39,5 @@ pub record Plans (s : List ℕ) (before after : LentTables) (r : Planned) : Type
 -- what the check of the image s and of the lent tables answers: the first of 1 to 9 and 17 that is given, and without one what s has
 pub record Admits (s : List ℕ) (lent : LentTables) (r : Checked) : Type 0 where
   pub number : First (image-call s (plan-rooms (profile s .n) (profile s .levels) lent)) (r .refusal .number)
+  pub action : AtFault (image-call s (plan-rooms (profile s .n) (profile s .levels) lent)) (r .refusal .action)
   pub found : r .refusal .number ≡ 0 → Found s r

@@ -1,6 +1,7 @@
 // Planning: the order, the limits, the worst times by position and the coast bounds of an image, written to lent tables.
 use image_check::Checked;
 use image_check::whole;
+use rules::Fault;
 use rules::Refusal;
 ghost use mathlib.Core.Path.{_≡_};
 ghost use mathlib.Core.List.{[], _∷_};
@@ -12,7 +13,7 @@ ghost use Rattle.planner.specs.Planning.{plan-rooms, Plans, Admits};
 // The answer of planning: with a refusal all else is 0; without one what the header says.
 #[repr(C)]
 pub struct Planned {
-    pub refusal: Refusal,
+    pub refusal: Fault,
     pub n: usize,
     pub levels: usize,
     pub cycle: u32,
@@ -61,13 +62,13 @@ fn with_room(image: &[u8], order: &[u8], limits: &[i32], worst: &[u32], bounds: 
     if checked.refusal.number != 0 {
         return checked;
     }
-    let refusal = tight(checked.n, checked.levels, order, limits, worst, bounds);
-    checked.refusal = refusal;
+    let room = tight(checked.n, checked.levels, order, limits, worst, bounds);
+    checked.refusal.number = room.number;
     checked
 }
 
 // What a refused call answers.
-fn refused(refusal: Refusal) -> Planned
+fn refused(refusal: Fault) -> Planned
     ensures { λ r. ⌜ r ≡ record { refusal = refusal; n = 0; levels = 0; cycle = 0 } ⌝ }
 {
     Planned {

@@ -8,10 +8,10 @@ use lib.ListN.{length, getD}
 use Rattle.rules.specs.Numbers.{most-actions, refused-duration, refused-room}
 use Rattle.rules.specs.Words.{cat, one-if}
 use Rattle.rules.specs.Image.{profile}
-use Rattle.rules.specs.Refusals.{Ground, Tight, _when_, First, image-checks}
+use Rattle.rules.specs.Refusals.{Ground, Tight, _when_, First, Refuses, image-checks}
 use Rattle.rules.specs.Run.{Run, decides}
 use Rattle.rules.specs.Dry.{LongEntry, frame-call}
-use Rattle.rules.proofs.Refusals.{Sound, accepted-sound, accepted-parts, first-stops, first-goes-on, image-numbered}
+use Rattle.rules.proofs.Refusals.{Sound, accepted-sound, accepted-parts, first-stops, first-goes-on, handed-on, handed-back, image-numbered}
 use Rattle.fields.proofs.Cats.{cat-ext}
 use Rattle.fields.proofs.Written.{tab-written}
 use Rattle.dry_frame.specs.Frame.{FrameLists, frame-rooms, run-at, Frames}
@@ -19,8 +19,7 @@ use Rattle.dry_frame.specs.declared.Framed.{Framed}
 use Rattle.planner.proofs.Answers.{kept-old, kept-new}
 use Rattle.text.specs.Put.{Puts}
 use Rattle.text.proofs.Puts.{put-as}
-use Rattle.print_lines.specs.Lines.{refused-text}
-use Rattle.print_lines.specs.Lines.{four-line}
+use Rattle.print_lines.specs.Lines.{four-line, fault-text}
 use Rattle.print.specs.Dry.{dry-text, TellsDry}
 use Rattle.print.proofs.Plans.{few}
 
@@ -82,18 +81,26 @@ module _ {s durations : List ℕ} {before after : FrameLists} {r : Framed} (f : 
         → First (refused-room when Tight ((length durations, cells) ∷ []) ∷ long ∷ []) (r .refusal .number)
     own h = ⊎-elim (λ t. inl (scarce h (t .0), t .1)) (λ t. inr (⊎-elim (λ u. t .0 (inl u)) (λ u. u), t .1))
 
+    abbrev rest : List Ground
+    rest = refused-room when Tight ((length durations, cells) ∷ []) ∷ long ∷ []
+
     number-is : First (frame-call s durations ((length durations, cells) ∷ [])) (r .refusal .number)
     number-is =
-        let rest : List Ground = refused-room when Tight ((length durations, cells) ∷ []) ∷ long ∷ [] in
         ⊎-elim (λ x. first-stops (image-checks s) rest (r .refusal .number) (x .0) (x .1))
         (λ x. first-goes-on (image-checks s) rest (r .refusal .number) (image-numbered s) (accepted-sound s .1 (x .0)) (own (x .0) (x .1)))
         parts
 
+    -- its action is the image's
+    given : Refuses (frame-call s durations ((length durations, cells) ∷ [])) (r .refusal)
+    given =
+        let image = handed-back (image-checks s) (refused-room when Tight lent ∷ long ∷ []) (r .refusal .action) ((λ a z. z), ((λ a z. z), tt)) (f .action) in
+        record { number = number-is; action = handed-on (image-checks s) rest _ (r .refusal .action) ((λ a z. z), ((λ a z. z), tt)) image number-is }
+
     module _ {out out′ : List ℕ} {k : ℕ} where
-      pub dry-refused : r .refusal .number ≢ 0 → Puts out 0 (refused-text (r .refusal .number)) out′ k → TellsDry s durations out out′ k
+      pub dry-refused : r .refusal .number ≢ 0 → Puts out 0 (fault-text (r .refusal)) out′ k → TellsDry s durations out out′ k
       dry-refused some put = record {
-        number = r .refusal .number;
-        refusal = number-is;
+        refusal = r .refusal;
+        given = given;
         o = f .o;
         the-order = f .the-order;
         text = put-as (kept-old _ _ _ some) put;
@@ -103,8 +110,8 @@ module _ {s durations : List ℕ} {before after : FrameLists} {r : Framed} (f : 
           → Puts out 0 (cat (step (after .order) (after .levels) (after .decided)) (r .n) ++ four-line (r .decisions) (r .end) (one-if (r .overrun)) (one-if (r .late))) out′ k
           → TellsDry s durations out out′ k
       dry-told none put = record {
-        number = r .refusal .number;
-        refusal = number-is;
+        refusal = r .refusal;
+        given = given;
         o = f .o;
         the-order = f .the-order;
         text = put-as (kept-new _ _ _ none (text-is none)) put;

@@ -11,8 +11,8 @@ use Rattle.rules.specs.Numbers.{most-actions, most-levels, refused-room}
 use Rattle.rules.specs.Words.{cat}
 use Rattle.rules.specs.Image.{profile}
 use Rattle.rules.specs.Limits.{LentTables, tables, limit, planner-tables}
-use Rattle.rules.specs.Refusals.{Ground, Tight, _when_, First, image-checks}
-use Rattle.rules.proofs.Refusals.{Sound, accepted-sound, accepted-parts}
+use Rattle.rules.specs.Refusals.{Ground, Tight, _when_, First, Refuses, image-checks}
+use Rattle.rules.proofs.Refusals.{Sound, accepted-sound, accepted-parts, handed-back}
 use Rattle.rules.proofs.Differences.{not-above}
 use Rattle.fields.proofs.Cats.{cat-ext}
 use Rattle.fields.proofs.Tabs.{tab-ext}
@@ -23,7 +23,7 @@ use Rattle.planner.proofs.Answers.{kept-old, kept-new}
 use Rattle.text.specs.Digits.{decimal, signed, line}
 use Rattle.text.specs.Put.{Puts}
 use Rattle.text.proofs.Puts.{put-as}
-use Rattle.print_lines.specs.Lines.{refused-text}
+use Rattle.print_lines.specs.Lines.{fault-text}
 use Rattle.print.specs.Plan.{counts-line, position-line, plan-text, TellsPlan}
 
 -- ---- an accepted image has at most 64 actions and 8 levels
@@ -105,11 +105,15 @@ module _ {s : List ℕ} {before after : LentTables} {r : Planned} (p : Plans s b
         (λ x. ⊎-elim (λ t. absurd (enough (x .0) (t .0))) (λ t. rw (t .1) (accepted-sound s .1 (x .0))) (x .1))
         parts
 
+    -- the image's refusal, its action with it
+    given : Refuses (image-checks s) (r .refusal)
+    given = record { number = by-image; action = handed-back (image-checks s) own (r .refusal .action) ((λ a z. z), tt) (p .action) }
+
     module _ {out out′ : List ℕ} {k : ℕ} where
-      pub plan-refused : r .refusal .number ≢ 0 → Puts out 0 (refused-text (r .refusal .number)) out′ k → TellsPlan s out out′ k
+      pub plan-refused : r .refusal .number ≢ 0 → Puts out 0 (fault-text (r .refusal)) out′ k → TellsPlan s out out′ k
       plan-refused some put = record {
-        number = r .refusal .number;
-        refusal = by-image;
+        refusal = r .refusal;
+        given = given;
         o = p .o;
         the-order = p .the-order;
         text = put-as (kept-old _ _ _ some) put;
@@ -118,8 +122,8 @@ module _ {s : List ℕ} {before after : LentTables} {r : Planned} (p : Plans s b
       pub plan-told : r .refusal .number ≡ 0
           → Puts out 0 (counts-line (r .n) (r .levels) (r .cycle) ++ cat (told (after .order) (after .limits) (r .levels)) (r .n)) out′ k → TellsPlan s out out′ k
       plan-told none put = record {
-        number = r .refusal .number;
-        refusal = by-image;
+        refusal = r .refusal;
+        given = given;
         o = p .o;
         the-order = p .the-order;
         text = put-as (kept-new _ _ _ none (text-is none)) put;

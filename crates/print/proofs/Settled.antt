@@ -15,7 +15,8 @@ use Rattle.rules.specs.Limits.{tables, limit, coast-bound, coast-bounds, planne
 use Rattle.rules.specs.Run.{Run, decides}
 use Rattle.rules.specs.Dry.{LongEntry, cell}
 use Rattle.rules.specs.Refusals.{Ground, _when_, Tight, kept, image-checks}
-use Rattle.rules.proofs.Refusals.{Sound, first-one, accepted-sound, accepted-parts}
+use Rattle.rules.specs.declared.Fault.{Fault}
+use Rattle.rules.proofs.Refusals.{Sound, refuses-one, accepted-sound, accepted-parts}
 use Rattle.rules.proofs.Accepted.{some-level}
 use Rattle.rules.proofs.Demand.Alike.{Alike, before-alike}
 use Rattle.rules.proofs.Order.OfProfile.{order-settled}
@@ -25,9 +26,8 @@ use Rattle.planner.proofs.Alike.{limit-alike, bounds-alike}
 use Rattle.planner.proofs.Settled.{settled-alike, kept-one}
 use Rattle.dry_frame.specs.Frame.{run-at}
 use Rattle.text.proofs.Puts.{puts-one}
-use Rattle.print_lines.specs.Lines.{refused-text}
 use Rattle.print.specs.Plan.{counts-line, plan-text, TellsPlan}
-use Rattle.print_lines.specs.Lines.{four-line}
+use Rattle.print_lines.specs.Lines.{four-line, fault-text}
 use Rattle.print.specs.Dry.{TellsDry}
 use Rattle.print.proofs.Plans.{position-ext}
 
@@ -43,27 +43,30 @@ told-dry s d o =
 -- ---- the plan
 
 module _ {s out out₁ out₂ : List ℕ} {r t : ℕ} (x : TellsPlan s out out₁ r) (y : TellsPlan s out out₂ t) where
-  number : x .number ≡ y .number
-  number = first-one (image-checks s) (x .number) (y .number) (x .refusal) (y .refusal)
+  refusal : x .refusal ≡ y .refusal
+  refusal = refuses-one (image-checks s) (x .refusal) (y .refusal) (x .given) (y .given)
+
+  number : x .refusal .number ≡ y .refusal .number
+  number = ap (λ (f : Fault). f .number) refusal
 
   -- the text by an order
   abbrev text : Order (profile s .n) → List ℕ
   text o = plan-text (profile s .n) (profile s .levels) (profile s .cycle) (o .at) (limit (tables (profile s) o))
 
-  same-text : x .number ≡ 0 → text (x .o) ≡ text (y .o)
+  same-text : x .refusal .number ≡ 0 → text (x .o) ≡ text (y .o)
   same-text none =
       let a = x .the-order none in
       let b = y .the-order (sym number ∙ none) in
-      let sound = accepted-sound s .0 (rw none at (x .refusal)) in
+      let sound = accepted-sound s .0 (rw none at (x .given .number)) in
       let alike = settled-alike (sound .not-count) a b in
       ap (λ (z : List ℕ). counts-line (profile s .n) (profile s .levels) (profile s .cycle) ++ z)
       (cat-ext _ _ (profile s .n)
       (λ i l. position-ext i _ _ (profile s .levels) (order-settled a b i l) (λ q m. limit-alike alike q m i l)))
 
-  texts-one : kept (x .number) (text (x .o)) (refused-text (x .number)) ≡ kept (y .number) (text (y .o)) (refused-text (y .number))
+  texts-one : kept (x .refusal .number) (text (x .o)) (fault-text (x .refusal)) ≡ kept (y .refusal .number) (text (y .o)) (fault-text (y .refusal))
   texts-one =
-      kept-one (x .number) (y .number) (text (x .o)) (text (y .o)) (refused-text (x .number)) number same-text refl
-      (ap (λ (k : ℕ). kept (y .number) (text (y .o)) (refused-text k)) (sym number))
+      kept-one (x .refusal .number) (y .refusal .number) (text (x .o)) (text (y .o)) (fault-text (x .refusal)) number same-text refl
+      (ap (λ (f : Fault). kept (y .refusal .number) (text (y .o)) (fault-text f)) (sym refusal))
 
   -- Two results that satisfy the contract on the same input are equal.
   pub plan-text-settled : (out₁ ≡ out₂) × (r ≡ t)
@@ -78,10 +81,13 @@ module _ {s d out out₁ out₂ : List ℕ} {r t : ℕ} (x : TellsDry s d out ou
       ∷ refused-duration when LongEntry (profile s .n * profile s .levels) d
       ∷ []
 
-  dry-number : x .number ≡ y .number
-  dry-number = first-one (image-checks s ++ own) (x .number) (y .number) (x .refusal) (y .refusal)
+  dry-refusal : x .refusal ≡ y .refusal
+  dry-refusal = refuses-one (image-checks s ++ own) (x .refusal) (y .refusal) (x .given) (y .given)
 
-  module _ (none : x .number ≡ 0) where
+  dry-number : x .refusal .number ≡ y .refusal .number
+  dry-number = ap (λ (f : Fault). f .number) dry-refusal
+
+  module _ (none : x .refusal .number ≡ 0) where
     first : TheOrder (profile s) (x .o)
     first = x .the-order none
 
@@ -89,7 +95,7 @@ module _ {s d out out₁ out₂ : List ℕ} {r t : ℕ} (x : TellsDry s d out ou
     second = y .the-order (sym dry-number ∙ none)
 
     sound : Sound s
-    sound = ⊎-elim (λ p. absurd (p .1 none)) (λ p. p .0) (accepted-parts s own (x .number) (x .refusal))
+    sound = ⊎-elim (λ p. absurd (p .1 none)) (λ p. p .0) (accepted-parts s own (x .refusal .number) (x .given .number))
 
     -- two orders of one profile give one plan, and so one cycle
     same-plan : Alike 16 (planned (tables (profile s) (x .o))) (planned (tables (profile s) (y .o)))
@@ -130,7 +136,8 @@ module _ {s d out out₁ out₂ : List ℕ} {r t : ℕ} (x : TellsDry s d out ou
   pub dry-text-settled : (out₁ ≡ out₂) × (r ≡ t)
   dry-text-settled = puts-one dry-texts-one (x .text) (y .text)
     where
-      dry-texts-one : kept (x .number) (told-dry s d (x .o)) (refused-text (x .number)) ≡ kept (y .number) (told-dry s d (y .o)) (refused-text (y .number))
+      dry-texts-one : kept (x .refusal .number) (told-dry s d (x .o)) (fault-text (x .refusal))
+          ≡ kept (y .refusal .number) (told-dry s d (y .o)) (fault-text (y .refusal))
       dry-texts-one =
-          kept-one (x .number) (y .number) (told-dry s d (x .o)) (told-dry s d (y .o)) (refused-text (x .number)) dry-number same-dry refl
-          (ap (λ (k : ℕ). kept (y .number) (told-dry s d (y .o)) (refused-text k)) (sym dry-number))
+          kept-one (x .refusal .number) (y .refusal .number) (told-dry s d (x .o)) (told-dry s d (y .o)) (fault-text (x .refusal)) dry-number same-dry refl
+          (ap (λ (f : Fault). kept (y .refusal .number) (told-dry s d (y .o)) (fault-text f)) (sym dry-refusal))

@@ -7,10 +7,11 @@ use Rattle.rules.specs.Words.{cat, tab}
 use Rattle.rules.specs.Image.{profile}
 use Rattle.rules.specs.Order.{Order, TheOrder}
 use Rattle.rules.specs.Limits.{tables, limit}
-use Rattle.rules.specs.Refusals.{First, kept, image-checks}
+use Rattle.rules.specs.Refusals.{Refuses, kept, image-checks}
+use Rattle.rules.specs.declared.Fault.{Fault}
 use Rattle.text.specs.Digits.{decimal, signed, line}
 use Rattle.text.specs.Put.{Puts}
-use Rattle.print_lines.specs.Lines.{refused-text}
+use Rattle.print_lines.specs.Lines.{fault-text}
 
 -- actions, levels, cycle
 unfoldable pub counts-line : ℕ → ℕ → ℕ → List ℕ
@@ -27,10 +28,10 @@ plan-text n L cycle action limits = counts-line n L cycle ++ cat (λ i. position
 -- That text of the image s, or its refusal, is put into the buffer from its start on. Without a refusal the order is the profile's; with one
 -- there need not be any, and o counts for nothing. The program's own tables have room for every profile, so that there is no 17.
 pub record TellsPlan (s out out′ : List ℕ) (r : ℕ) : Type 0 where
-  pub number : ℕ
-  pub refusal : First (image-checks s) number
+  pub refusal : Fault
+  pub given : Refuses (image-checks s) refusal
   pub o : Order (profile s .n)
-  pub the-order : number ≡ 0 → TheOrder (profile s) o
+  pub the-order : refusal .number ≡ 0 → TheOrder (profile s) o
   pub text : Puts out 0
-      (kept number (plan-text (profile s .n) (profile s .levels) (profile s .cycle) (o .at) (limit (tables (profile s) o))) (refused-text number))
+      (kept (refusal .number) (plan-text (profile s .n) (profile s .levels) (profile s .cycle) (o .at) (limit (tables (profile s) o))) (fault-text refusal))
       out′ r

@@ -1,7 +1,7 @@
 // What the dry-run program prints.
 use dry_frame::Framed;
+use print_lines::put_fault;
 use print_lines::put_four;
-use print_lines::put_refusal;
 ghost use Prim.Native.Nat.{_≤_};
 ghost use lib.ListN.{length, getD};
 ghost use Rattle.io.specs.Counts.{Counts};
@@ -60,7 +60,7 @@ pub fn dry_text(image: &[u8], bytes: &[u8], out: &mut [u8]) -> usize
     );
     let refusal = framed.refusal;
     if refusal.number != 0 {
-        return put_refusal(out, 0, refusal.number);
+        return put_fault(out, 0, refusal);
     }
     let at = put_steps(&mut *out, &order, &given, &marks, framed.n);
     put_end(out, at, framed)

@@ -1,7 +1,7 @@
 // What the plan program prints.
 use planner::Planned;
+use print_lines::put_fault;
 use print_lines::put_field;
-use print_lines::put_refusal;
 use text::put_byte;
 use text::put_number;
 use text::put_signed;
@@ -96,7 +96,7 @@ pub fn plan_text(image: &[u8], out: &mut [u8]) -> usize
     let planned = planner::plan(image, &mut order, &mut limits, &mut worst, &mut bounds);
     let refusal = planned.refusal;
     if refusal.number != 0 {
-        return put_refusal(out, 0, refusal.number);
+        return put_fault(out, 0, refusal);
     }
     let at = put_counts(&mut *out, planned);
     put_positions(out, at, &order, &limits, planned.n, planned.levels)

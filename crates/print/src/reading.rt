@@ -1,7 +1,8 @@
-// A speed reading as the programs print it: `spent`, `refused` and the number, or the 64 bits of the ratio in hexadecimal.
+// A speed reading as the programs print it: `spent`, `refused` and the number, with 5 to 8 the action too, or the 64 bits of the ratio in
+// hexadecimal.
+use print_lines::put_said;
 use speed_stretch::Reading;
 use text::put_bytes;
-use text::put_number;
 ghost use mathlib.Core.Path.{_≡_};
 ghost use Rattle.text.specs.Put.{Puts};
 ghost use Rattle.print.specs.Reading.{ratio-bits, reading-text};
@@ -26,9 +27,6 @@ pub fn put_reading(out: &mut [u8], reading: Reading) -> usize
             put_bytes(out, 0, &digits[..k])
         }
         Reading::Spent => put_bytes(out, 0, b"spent"),
-        Reading::Refused(refusal) => {
-            let at = put_bytes(&mut *out, 0, b"refused ");
-            put_number(out, at, refusal.number)
-        }
+        Reading::Refused(refusal) => put_said(out, 0, refusal),
     }
 }

@@ -8,13 +8,14 @@ use native.Mathlib.Omega.{arith}
 use lib.Dec.{eqb}
 use lib.ListN.{length}
 use borrow.Author.Tests.{eq-eqb, ne-eqb}
+use Rattle.rules.specs.Numbers.{most-actions}
 use Rattle.rules.specs.Words.{tab, rows}
 use Rattle.rules.specs.Image.{ProfileTables, mask-of, deadline-of, average-of, worst-of, profile}
-use Rattle.rules.specs.Refusals.{Ground, First, Tight, Accepted, image-checks, image-call}
+use Rattle.rules.specs.Refusals.{Ground, _when_, First, Refuses, Tight, Accepted, image-checks, image-call}
 use Rattle.rules.proofs.Differences.{not-above}
-use Rattle.rules.proofs.Refusals.{image-numbered, first-stops, first-goes-on, first-parts}
+use Rattle.rules.proofs.Refusals.{image-numbered, first-goes-on, first-parts, handed-on, refuses-when, refuses-stops, refuses-goes-on}
 use Rattle.fields.specs.Fields.{splice}
-use Rattle.rules.specs.declared.Refusal.{Refusal}
+use Rattle.rules.specs.declared.Fault.{Fault}
 use Rattle.image_check.specs.declared.Checked.{Checked}
 use Rattle.image_check.specs.Checks.{Found, Judged}
 use Rattle.image_write.specs.Writing.{table-rooms}
@@ -23,21 +24,24 @@ use Rattle.profile.specs.Calls.{Unread, ReadsImage}
 
 -- ---- the image's refusals, and one of the call's own after them
 
-module _ (s : List ℕ) (own : Ground) where
-  pub image-refusal : (k : ℕ) → First (image-checks s) k → k ≢ 0 → First (image-checks s ++ (own ∷ [])) k
-  image-refusal k = first-stops (image-checks s) (own ∷ []) k
+module _ (s : List ℕ) (k : ℕ) (A : Type 0) where
+  abbrev own : List Ground
+  own = k when A ∷ []
 
-  pub own-refusal : First (image-checks s) 0 → own .holds → First (image-checks s ++ (own ∷ [])) (own .number)
-  own-refusal accepted h = first-goes-on (image-checks s) (own ∷ []) (own .number) (image-numbered s) accepted (inl (h, refl))
+  pub image-refusal : (f : Fault) → Refuses (image-checks s) f → f .number ≢ 0 → Refuses (image-checks s ++ own) f
+  image-refusal f = refuses-stops (image-checks s) own f
 
-  pub no-refusal : First (image-checks s) 0 → (own .holds → ⊥) → First (image-checks s ++ (own ∷ [])) 0
-  no-refusal accepted never = first-goes-on (image-checks s) (own ∷ []) 0 (image-numbered s) accepted (inr (never, refl))
+  pub own-refusal : First (image-checks s) 0 → A → Refuses (image-checks s ++ own) (record { number = k; action = most-actions })
+  own-refusal accepted h = refuses-goes-on (image-checks s) own _ (image-numbered s) accepted (refuses-when k h)
+
+  pub no-refusal : First (image-checks s) 0 → (A → ⊥) → First (image-checks s ++ own) 0
+  no-refusal accepted never = first-goes-on (image-checks s) own 0 (image-numbered s) accepted (inr (never, refl))
 
   -- the other way round
-  pub none-given : 0 < own .number → First (image-checks s ++ (own ∷ [])) 0 → Accepted s × (own .holds → ⊥)
-  none-given some p = go (first-parts (image-checks s) (own ∷ []) 0 (image-numbered s) p)
+  pub none-given : 0 < k → First (image-checks s ++ own) 0 → Accepted s × (A → ⊥)
+  none-given some p = go (first-parts (image-checks s) own 0 (image-numbered s) p)
     where
-      go : (First (image-checks s) 0 × (_≢_ {A = ℕ} 0 0)) ⊎ (Accepted s × First (own ∷ []) 0) → Accepted s × (own .holds → ⊥)
+      go : (First (image-checks s) 0 × (_≢_ {A = ℕ} 0 0)) ⊎ (Accepted s × First own 0) → Accepted s × (A → ⊥)
       go (inl x) = absurd (x .1 refl)
       go (inr (accepted, inl x)) = absurd (omega (arith, x .1))
       go (inr (accepted, inr x)) = (accepted, x .0)
@@ -47,6 +51,13 @@ module _ (s : List ℕ) (own : Ground) where
 module _ {s : List ℕ} {r : Checked} where
   pub judged-accepted : Judged s r → r .refusal .number ≡ 0 → Accepted s
   judged-accepted a none = rw none at (a .number)
+
+  -- an accepted call hands the check's refusal on
+  pub none-refused : (k : ℕ) (A : Type 0) → Judged s r → r .refusal .number ≡ 0 → (A → ⊥) → Refuses (image-checks s ++ (k when A ∷ [])) (r .refusal)
+  none-refused k A a none never =
+      let number = no-refusal s k A (judged-accepted a none) never in
+      let given : First (image-checks s ++ (k when A ∷ [])) (r .refusal .number) = rw none number in
+      record { number = given; action = handed-on (image-checks s) (k when A ∷ []) _ _ ((λ a z. z), tt) (a .action) given }
 
   pub found-rooms : (T : ProfileTables) → Found s r
       → Tight (table-rooms (r .n) (r .levels) T) ↔ Tight (table-rooms (profile s .n) (profile s .levels) T)
@@ -70,13 +81,12 @@ has-room n L T f = record {
 }
 
 module _ {s : List ℕ} {T : ProfileTables} where
-  pub refused-reads : {r : Unpacked} (f : Refusal) → First (image-call s (table-rooms (profile s .n) (profile s .levels) T)) (f .number)
+  pub refused-reads : {r : Unpacked} (f : Fault) → Refuses (image-call s (table-rooms (profile s .n) (profile s .levels) T)) f
       → f .number ≢ 0 → (r .refusal ≡ f) × Unread r → ReadsImage s T T r
   refused-reads {r} f p some (e, blank) =
-      let number : First (image-call s (table-rooms (profile s .n) (profile s .levels) T)) (r .refusal .number) = rw e p in
       let other : r .refusal .number ≢ 0 = rw e some in
       let none : eqb (r .refusal .number) 0 ≡ false = ne-eqb (r .refusal .number) 0 other in record {
-        given = number;
+        given = rw e p;
         n = rw none (blank .n);
         levels = rw none (blank .levels);
         cycle = rw none (blank .cycle);
@@ -86,7 +96,7 @@ module _ {s : List ℕ} {T : ProfileTables} where
         worst = rw none;
       }
 
-  pub accepted-reads : {T′ : ProfileTables} {r : Unpacked} → First (image-call s (table-rooms (profile s .n) (profile s .levels) T)) 0
+  pub accepted-reads : {T′ : ProfileTables} {r : Unpacked} → Refuses (image-call s (table-rooms (profile s .n) (profile s .levels) T)) (r .refusal)
       → r .refusal .number ≡ 0 → r .n ≡ profile s .n → r .levels ≡ profile s .levels → r .cycle ≡ profile s .cycle
       → T′ .masks ≡ splice (T .masks) 0 (tab (mask-of s) (r .n)) → T′ .deadlines ≡ splice (T .deadlines) 0 (tab (deadline-of s) (r .n))
       → T′ .averages ≡ splice (T .averages) 0 (rows (average-of s) (r .n) (r .levels))
@@ -95,7 +105,7 @@ module _ {s : List ℕ} {T : ProfileTables} where
   unfolding profile
   accepted-reads {r = r} p none n levels cycle masks deadlines averages worst =
       let is : eqb (r .refusal .number) 0 ≡ true = eq-eqb (r .refusal .number) 0 none in record {
-        given = rw none p;
+        given = p;
         n = rw is n;
         levels = rw is levels;
         cycle = rw is cycle;

@@ -9,7 +9,7 @@ use borrow.Author.Tests.{ne-eqb}
 use lib.ListN.{length}
 use Rattle.rules.specs.Numbers.{refused-name}
 use Rattle.rules.specs.Image.{be, levels, record-bytes, record-at, mask-of, deadline-of, average-of, worst-of, profile}
-use Rattle.rules.specs.Refusals.{_when_, First, kept, lookup-call}
+use Rattle.rules.specs.Refusals.{First, kept, lookup-call}
 use Rattle.rules.proofs.Refusals.{Sound, accepted-sound}
 use Rattle.fields.specs.Fields.{part}
 use Rattle.fields.proofs.Strides.{stride-more}
@@ -29,7 +29,7 @@ pub record Named (s : List ℕ) (a : ℕ) : Type 0 where
 
 pub named : (s : List ℕ) (a : ℕ) → First (lookup-call s a) 0 → Named s a
 named s a p =
-    let x = none-given s (refused-name when (profile s .n ≤ a)) (lit< tt) p in
+    let x = none-given s refused-name (profile s .n ≤ a) (lit< tt) p in
     let present = x .1 in
     record { sound = accepted-sound s .0 (x .0); named = omega arith }
 
@@ -61,7 +61,7 @@ module _ (s : List ℕ) (a : ℕ) {r : Place} (x : Places s a r) where
     where
       by : Dec (r .refusal .number ≡ 0) → r .start + r .length ≤ length s
       by (yes none) =
-          let h = has-named (named s a (rw none at (x .given))) in
+          let h = has-named (named s a (rw none at (x .given .number))) in
           omega (arith, h .within, rw none at (x .start), rw none at (x .length))
       by (no some) =
           let (from, size) = nowhere some in

@@ -4,9 +4,9 @@ use mathlib.Core.List.{List, []}
 use Prim.Native.Nat.{ℕ}
 use denote.Ref.{RefT, ptr, now}
 use Rattle.rules.specs.Image.{ProfileTables, profile}
-use Rattle.rules.specs.Refusals.{Ground, First, kept, image-call, lookup-call}
-use Rattle.rules.proofs.Refusals.{first-one}
-use Rattle.rules.specs.declared.Refusal.{Refusal}
+use Rattle.rules.specs.Refusals.{First, kept, image-call, lookup-call}
+use Rattle.rules.proofs.Refusals.{first-one, refuses-one}
+use Rattle.rules.specs.declared.Fault.{Fault}
 use Rattle.image_write.specs.Writing.{table-rooms, Writes}
 use Rattle.image_write.proofs.Settled.{writes-one}
 use Rattle.profile.specs.declared.Unpacked.{Unpacked}
@@ -14,16 +14,14 @@ use Rattle.image_write.specs.declared.Written.{Written}
 use Rattle.profile.specs.declared.Place.{Place}
 use Rattle.profile.specs.Calls.{ReadsImage, Places, record-of, LooksUp}
 
--- `check`, whose row is the image checks, and `lookup_refusal`, whose row is that of a lookup
-pub refusal-one : (row : List Ground) (r t : Refusal) → First row (r .number) → First row (t .number) → r ≡ t
-refusal-one row r t p q = ap (λ (k : ℕ). record { number = k }) (first-one row (r .number) (t .number) p q)
+-- `check` and `lookup_refusal` answer a refusal alone, which their rows settle: `refuses-one`.
 
 -- `read`
 module _ {s : List ℕ} {T : ProfileTables} where
   pub reads-one : {T′ T″ : ProfileTables} {r t : Unpacked} → ReadsImage s T T′ r → ReadsImage s T T″ t
       → (r ≡ t) × (T′ .masks ≡ T″ .masks) × (T′ .deadlines ≡ T″ .deadlines) × (T′ .averages ≡ T″ .averages) × (T′ .worst ≡ T″ .worst)
   reads-one {r = r} {t = t} x y =
-      let e = refusal-one (image-call s (table-rooms (profile s .n) (profile s .levels) T)) (r .refusal) (t .refusal) (x .given) (y .given) in (
+      let e = refuses-one (image-call s (table-rooms (profile s .n) (profile s .levels) T)) (r .refusal) (t .refusal) (x .given) (y .given) in (
         answer e ((rw e at (x .n)) ∙ sym (y .n)) ((rw e at (x .levels)) ∙ sym (y .levels)) ((rw e at (x .cycle)) ∙ sym (y .cycle)),
         (rw e at (x .masks)) ∙ sym (y .masks),
         (rw e at (x .deadlines)) ∙ sym (y .deadlines),
@@ -31,12 +29,12 @@ module _ {s : List ℕ} {T : ProfileTables} where
         (rw e at (x .worst)) ∙ sym (y .worst),
       )
     where
-      made : Refusal → ℕ → ℕ → ℕ → Unpacked
+      made : Fault → ℕ → ℕ → ℕ → Unpacked
       made f n L c = record { refusal = f; n = n; levels = L; cycle = c }
 
       answer : r .refusal ≡ t .refusal → r .n ≡ t .n → r .levels ≡ t .levels → r .cycle ≡ t .cycle → r ≡ t
       answer f n L c =
-          ap (λ (v : Refusal). made v (r .n) (r .levels) (r .cycle)) f
+          ap (λ (v : Fault). made v (r .n) (r .levels) (r .cycle)) f
           ∙ ap (λ (v : ℕ). made (t .refusal) v (r .levels) (r .cycle)) n
           ∙ ap (λ (v : ℕ). made (t .refusal) (t .n) v (r .cycle)) L
           ∙ ap (made (t .refusal) (t .n) (t .levels)) c
@@ -56,25 +54,25 @@ looked-up {image} {a = a} {k = k} p x = rw (first-one (lookup-call (now image) a
 module _ {s : List ℕ} {a : ℕ} where
   pub place-one : {r t : Place} → Places s a r → Places s a t → r ≡ t
   place-one {r} {t} x y =
-      let e = refusal-one (lookup-call s a) (r .refusal) (t .refusal) (x .given) (y .given) in
+      let e = refuses-one (lookup-call s a) (r .refusal) (t .refusal) (x .given) (y .given) in
       answer e ((rw e at (x .start)) ∙ sym (y .start)) ((rw e at (x .length)) ∙ sym (y .length))
     where
-      made : Refusal → ℕ → ℕ → Place
+      made : Fault → ℕ → ℕ → Place
       made f start length = record { refusal = f; start = start; length = length }
 
       answer : r .refusal ≡ t .refusal → r .start ≡ t .start → r .length ≡ t .length → r ≡ t
       answer f start length =
-          ap (λ (v : Refusal). made v (r .start) (r .length)) f
+          ap (λ (v : Fault). made v (r .start) (r .length)) f
           ∙ ap (λ (v : ℕ). made (t .refusal) v (r .length)) start
           ∙ ap (made (t .refusal) (t .start)) length
 
 -- `write`
 module _ {n L cycle : ℕ} {T : ProfileTables} {before : List ℕ} where
-  pub written-one : {after after′ : List ℕ} {r t : Written} → Writes n L cycle T before after (r .refusal .number) (r .bytes)
-      → Writes n L cycle T before after′ (t .refusal .number) (t .bytes) → (r ≡ t) × (after ≡ after′)
+  pub written-one : {after after′ : List ℕ} {r t : Written} → Writes n L cycle T before after (r .refusal) (r .bytes)
+      → Writes n L cycle T before after′ (t .refusal) (t .bytes) → (r ≡ t) × (after ≡ after′)
   written-one {r = r} {t = t} x y =
-      let (number, bytes, left) = writes-one x y in
-      (ap (λ (k : ℕ). made k (r .bytes)) number ∙ ap (made (t .refusal .number)) bytes, left)
+      let (refusal, bytes, left) = writes-one x y in
+      (ap (λ (f : Fault). made f (r .bytes)) refusal ∙ ap (made (t .refusal)) bytes, left)
     where
-      made : ℕ → ℕ → Written
-      made k bytes = record { refusal = record { number = k }; bytes = bytes }
+      made : Fault → ℕ → Written
+      made f bytes = record { refusal = f; bytes = bytes }

@@ -9,7 +9,8 @@ use lib.ListN.{length, take}
 use Rattle.rules.specs.Numbers.{refused-room}
 use Rattle.rules.specs.Words.{tab, rows}
 use Rattle.rules.specs.Image.{Profile, ProfileTables, actions, levels, cycle, image-bytes, profile, of-tables, image}
-use Rattle.rules.specs.Refusals.{_when_, Tight, Accepted, image-call}
+use Rattle.rules.specs.Refusals.{Tight, Accepted, image-call}
+use Rattle.rules.specs.declared.Fault.{Fault}
 use Rattle.rules.proofs.Refusals.{first-one}
 use Rattle.fields.specs.Fields.{splice}
 use Rattle.fields.proofs.Bytes.{Bytes}
@@ -43,7 +44,7 @@ pub record Unpacks (s : List ℕ) (T T′ : ProfileTables) (r : Unpacked) : Type
 pub unpacks : {s : List ℕ} {T T′ : ProfileTables} {r : Unpacked} → ReadsImage s T T′ r → r .refusal .number ≡ 0
     → Unpacks s T T′ r
 unpacks {s} {T} x none =
-    let own = none-given s (refused-room when Tight (table-rooms (profile s .n) (profile s .levels) T)) (lit< tt) (rw none at (x .given)) in record {
+    let own = none-given s refused-room (Tight (table-rooms (profile s .n) (profile s .levels) T)) (lit< tt) (rw none at (x .given .number)) in record {
       accepted = own .0;
       room = has-room (profile s .n) (profile s .levels) T (own .1);
       n = rw none at (x .n);
@@ -57,10 +58,10 @@ unpacks {s} {T} x none =
 
 -- ---- what reading accepts, writing packs back to the same bytes
 
-pub written-again : {s before after : List ℕ} {T T′ : ProfileTables} {r : Unpacked} {refusal bytes : ℕ} → Bytes s
+pub written-again : {s before after : List ℕ} {T T′ : ProfileTables} {r : Unpacked} {refusal : Fault} {bytes : ℕ} → Bytes s
     → ReadsImage s T T′ r → r .refusal .number ≡ 0
     → length s ≤ length before → Writes (r .n) (r .levels) (r .cycle) T′ before after refusal bytes
-    → (refusal ≡ 0) × (bytes ≡ length s) × (after ≡ splice before 0 s)
+    → (refusal .number ≡ 0) × (bytes ≡ length s) × (after ≡ splice before 0 s)
 unfolding profile
 written-again {s} {before} {after} {T} {T′} {r} {refusal} {bytes} b x none long y =
     let u = unpacks x none in
@@ -74,7 +75,7 @@ written-again {s} {before} {after} {T} {T′} {r} {refusal} {bytes} b x none lon
     } in
     let z : Writes (actions s) (levels s) (cycle s) T′ before after refusal bytes = rw (u .n, u .levels, u .cycle) at y in
     let given = tables-accepted from b (u .accepted) (write-rooms (actions s) (levels s) T′ (length before)) (enough u (omega (arith, f .whole))) in
-    let zero = first-one (writing (actions s) (levels s) (cycle s) T′ (length before)) refusal 0 (z .given) given in
+    let zero = first-one (writing (actions s) (levels s) (cycle s) T′ (length before)) (refusal .number) 0 (z .given .number) given in
     (zero, (rw zero at (z .count)) ∙ sym (f .whole), (rw zero at (z .written)) ∙ ap (splice before 0) (accepted-again from b (u .accepted)))
   where
     -- the slices are as long as before
@@ -105,8 +106,8 @@ pub record ReadsBack (n L cycle : ℕ) (written T T′ : ProfileTables) (r : Unp
   pub averages-are : T′ .averages ≡ splice (T .averages) 0 (take (n * L) (written .averages))
   pub worst-are : T′ .worst ≡ splice (T .worst) 0 (take (n * L) (written .worst))
 
-module _ {n L cycle : ℕ} {written : ProfileTables} {before after : List ℕ} {refusal bytes : ℕ}
-    (y : Writes n L cycle written before after refusal bytes) (none : refusal ≡ 0) where
+module _ {n L cycle : ℕ} {written : ProfileTables} {before after : List ℕ} {refusal : Fault} {bytes : ℕ}
+    (y : Writes n L cycle written before after refusal bytes) (none : refusal .number ≡ 0) where
   -- the bytes written are the image of the tables
   pub written-part : take bytes after ≡ image (of-tables n L cycle written)
   unfolding of-tables
@@ -122,13 +123,13 @@ module _ {n L cycle : ℕ} {written : ProfileTables} {before after : List ℕ} {
       let F : Profile = of-tables n L cycle written in
       let s : List ℕ = image F in
       let lent = write-rooms n L written (length before) in
-      let p = rw none at (y .given) in
+      let p = rw none at (y .given .number) in
       let k = packable n L cycle written (length before) p .tables in
       let g = written-back n L cycle written lent p (k .masks-room) (k .deadlines-room) (k .averages-room) (k .worst-room) in
       let z : ReadsImage s T T′ r = rw written-part at x in
       let enough : Tight (table-rooms (actions s) (levels s) T) → ⊥ = rw (g .actions-are, g .levels-are) (not-tight h) in
-      let given = no-refusal s (refused-room when Tight (table-rooms (actions s) (levels s) T)) (written-accepted F lent p) enough in
-      let zero = first-one (image-call s (table-rooms (actions s) (levels s) T)) (r .refusal .number) 0 (z .given) given in
+      let given = no-refusal s refused-room (Tight (table-rooms (actions s) (levels s) T)) (written-accepted F lent p) enough in
+      let zero = first-one (image-call s (table-rooms (actions s) (levels s) T)) (r .refusal .number) 0 (z .given .number) given in
       let u = unpacks z zero in record {
         accepted = zero;
         actions-are = u .n ∙ g .actions-are;

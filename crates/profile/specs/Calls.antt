@@ -5,7 +5,7 @@ use mathlib.Core.List.{List, []}
 use denote.Ref.{RefT, ptr, now}
 use Rattle.rules.specs.Words.{tab, rows}
 use Rattle.rules.specs.Image.{ProfileTables, profile, record-at, record-bytes}
-use Rattle.rules.specs.Refusals.{First, kept, image-call, lookup-call}
+use Rattle.rules.specs.Refusals.{First, Refuses, kept, image-call, lookup-call}
 use Rattle.fields.specs.Fields.{splice, part}
 use Rattle.image_write.specs.Writing.{table-rooms}
 use Rattle.profile.specs.declared.Unpacked.{Unpacked}
@@ -22,7 +22,7 @@ pub record Unread (r : Unpacked) : Type 0 where
 -- Reading the image s into the tables T answers r and leaves the tables T′: the masks, the deadlines, the averages and the worst times of the
 -- profile, each followed by the tail that was there; with a refusal what was there.
 pub record ReadsImage (s : List ℕ) (T T′ : ProfileTables) (r : Unpacked) : Type 0 where
-  pub given : First (image-call s (table-rooms (profile s .n) (profile s .levels) T)) (r .refusal .number)
+  pub given : Refuses (image-call s (table-rooms (profile s .n) (profile s .levels) T)) (r .refusal)
   pub n : r .n ≡ kept (r .refusal .number) (profile s .n) 0
   pub levels : r .levels ≡ kept (r .refusal .number) (profile s .levels) 0
   pub cycle : r .cycle ≡ kept (r .refusal .number) (profile s .cycle) 0
@@ -40,7 +40,7 @@ record-of s a = part s (record-at (profile s .levels) a) (record-bytes (profile 
 
 -- Where the record of action a lies in the image s; with a refusal nowhere.
 pub record Places (s : List ℕ) (a : ℕ) (r : Place) : Type 0 where
-  pub given : First (lookup-call s a) (r .refusal .number)
+  pub given : Refuses (lookup-call s a) (r .refusal)
   pub start : r .start ≡ kept (r .refusal .number) (record-at (profile s .levels) a) 0
   pub length : r .length ≡ kept (r .refusal .number) (record-bytes (profile s .levels)) 0
 

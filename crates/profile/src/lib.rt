@@ -1,15 +1,15 @@
 // The public calls on a profile image: check, read, look an action up, write.
 use image_write::Written;
-use rules::Refusal;
+use rules::Fault;
 ghost use mathlib.Core.Path.{_≡_};
-ghost use Rattle.rules.specs.Refusals.{First, image-checks, lookup-call};
+ghost use Rattle.rules.specs.Refusals.{Refuses, image-checks, lookup-call};
 ghost use Rattle.image_write.specs.Writing.{Writes};
 ghost use Rattle.profile.specs.Calls.{Unread, ReadsImage, Places, LooksUp};
 
 // The answer of reading: the refusal, and without one the counts and the cycle of the profile, else 0.
 #[repr(C)]
 pub struct Unpacked {
-    pub refusal: Refusal,
+    pub refusal: Fault,
     pub n: usize,
     pub levels: usize,
     pub cycle: u32,
@@ -18,20 +18,20 @@ pub struct Unpacked {
 // The answer of a lookup: the refusal, and without one where the action's own part of the image starts and how many bytes it has, else 0.
 #[repr(C)]
 pub struct Place {
-    pub refusal: Refusal,
+    pub refusal: Fault,
     pub start: usize,
     pub length: usize,
 }
 
 // The check of an image: refusals 1 to 9, in this order, over the whole image.
-pub fn check(image: &[u8]) -> Refusal
-    ensures { λ r. ⌜ First (image-checks (now (image .entry))) (r .number) ⌝ }
+pub fn check(image: &[u8]) -> Fault
+    ensures { λ r. ⌜ Refuses (image-checks (now (image .entry))) r ⌝ }
 {
     image_check::check(image)
 }
 
 // What a refused reading answers.
-fn refused(refusal: Refusal) -> Unpacked
+fn refused(refusal: Fault) -> Unpacked
     ensures { λ r. ⌜ (r .refusal ≡ refusal) × Unread r ⌝ }
 {
     Unpacked {
@@ -62,8 +62,9 @@ pub fn read(
         return refused(refusal);
     }
     if image_write::checks::tight(n, levels, masks, deadlines, averages, worst) {
-        return refused(Refusal {
+        return refused(Fault {
             number: rules::REFUSED_ROOM,
+            action: rules::NO_ACTION,
         });
     }
     image_read::unpack(image, n, levels, masks, deadlines, averages, worst);
@@ -76,8 +77,8 @@ pub fn read(
 }
 
 // The refusal of a lookup: those of the image, then 15, an absent action.
-pub fn lookup_refusal(image: &[u8], action: usize) -> Refusal
-    ensures { λ r. ⌜ First (lookup-call (now (image .entry)) action) (r .number) ⌝ }
+pub fn lookup_refusal(image: &[u8], action: usize) -> Fault
+    ensures { λ r. ⌜ Refuses (lookup-call (now (image .entry)) action) r ⌝ }
 {
     let checked = image_check::whole::checked(image);
     let given = checked.refusal;
@@ -85,8 +86,9 @@ pub fn lookup_refusal(image: &[u8], action: usize) -> Refusal
         return given;
     }
     if checked.n <= action {
-        return Refusal {
+        return Fault {
             number: rules::REFUSED_NAME,
+            action: rules::NO_ACTION,
         };
     }
     given
@@ -138,7 +140,7 @@ pub fn write(
 ) -> Written
     ensures { λ r. ⌜ Writes n levels cycle
         (record { masks = now (masks .entry); deadlines = now (deadlines .entry); averages = now (averages .entry); worst = now (worst .entry) })
-        (now (image .entry)) (now (image .exit)) (r .refusal .number) (r .bytes) ⌝ }
+        (now (image .entry)) (now (image .exit)) (r .refusal) (r .bytes) ⌝ }
 {
     image_write::write(n, levels, cycle, masks, deadlines, averages, worst, image)
 }

@@ -9,11 +9,11 @@ use native.Mathlib.Omega.{arith}
 use Rattle.rules.specs.Numbers.{most-actions, most-levels, duration-bytes, refused-trace, refused-room}
 use Rattle.rules.specs.Image.{profile}
 use Rattle.rules.specs.Limits.{LentTables}
-use Rattle.rules.specs.Refusals.{Ground, _when_, First, Tight, image-checks}
+use Rattle.rules.specs.Refusals.{Ground, _when_, First, AtFault, Refuses, Tight, image-checks}
 use Rattle.rules.specs.Recording.{frame-bytes, NotFrames, recording-call}
-use Rattle.rules.specs.declared.Refusal.{Refusal}
+use Rattle.rules.specs.declared.Fault.{Fault}
 use Rattle.rules.proofs.Differences.{not-above}
-use Rattle.rules.proofs.Refusals.{Sound, accepted-sound, accepted-parts, first-stops, first-goes-on, image-numbered}
+use Rattle.rules.proofs.Refusals.{Sound, accepted-sound, accepted-parts, Blameless, first-stops, first-goes-on, handed-on, handed-back, image-numbered}
 use Rattle.planner.specs.declared.Planned.{Planned}
 use Rattle.planner.specs.Planning.{plan-rooms, Plans}
 use Rattle.planner.proofs.Answers.{kept-old, kept-new, by-number}
@@ -21,7 +21,7 @@ use Rattle.recording.specs.declared.Opened.{Opened}
 use Rattle.recording.specs.Recording.{Opens, LengthFits}
 
 -- what a refused call answers
-abbrev pub unopened : Refusal → Opened
+abbrev pub unopened : Fault → Opened
 unopened f = record { refusal = f; n = 0; levels = 0; «frame_bytes» = 0; frames = 0 }
 
 module _ (s : List ℕ) (bytes : ℕ) (before : LentTables) where
@@ -34,9 +34,14 @@ module _ (s : List ℕ) (bytes : ℕ) (before : LentTables) where
   abbrev own : List Ground
   own = refused-trace when bad ∷ refused-room when Tight rooms ∷ []
 
-  opens-not : {r : Opened} (f : Refusal) → First (recording-call s bytes rooms) (f .number) → f .number ≢ 0 → r ≡ unopened f → Opens s bytes before before r
-  opens-not f first some e = rw e (record {
-    number = first;
+  -- 14 and 17 blame no action
+  no-blame : Blameless own
+  no-blame = ((λ a z. z), ((λ a z. z), tt))
+
+  opens-not : {r : Opened} (f : Fault) → Refuses (recording-call s bytes rooms) f → f .number ≢ 0 → r ≡ unopened f → Opens s bytes before before r
+  opens-not f p some e = rw e (record {
+    number = p .number;
+    action = p .action;
     n = kept-old _ _ _ some;
     levels = kept-old _ _ _ some;
     a-frame = kept-old _ _ _ some;
@@ -48,9 +53,9 @@ module _ (s : List ℕ) (bytes : ℕ) (before : LentTables) where
 
   -- ---- the length is no recording's
 
-  module _ (m : LengthFits s bytes false) {f : Refusal} (judged : First (image-checks s ++ (refused-trace when Unit {0} ∷ [])) (f .number)) where
+  module _ (m : LengthFits s bytes false) {f : Fault} (judged : Refuses (image-checks s ++ (refused-trace when Unit {0} ∷ [])) f) where
     parts : (First (image-checks s) (f .number) × (f .number ≢ 0)) ⊎ (Sound s × First (refused-trace when Unit {0} ∷ []) (f .number))
-    parts = accepted-parts s (refused-trace when Unit {0} ∷ []) (f .number) judged
+    parts = accepted-parts s (refused-trace when Unit {0} ∷ []) (f .number) (judged .number)
 
     wrong : Sound s → bad
     wrong h = ⊎-elim (λ x. absurd (h .not-short x)) (⊎-elim (λ x. absurd (h .not-count (inl x))) (λ x. x)) (m .fails refl)
@@ -63,11 +68,16 @@ module _ (s : List ℕ) (bytes : ℕ) (before : LentTables) where
         ⊎-elim (λ x. first-stops (image-checks s) own (f .number) (x .0) (x .1))
         (λ x. first-goes-on (image-checks s) own (f .number) (image-numbered s) (accepted-sound s .1 (x .0)) (inl (wrong (x .0), fourteen (x .1)))) parts
 
+    action-is : AtFault (recording-call s bytes rooms) (f .action)
+    action-is =
+        let image = handed-back (image-checks s) (refused-trace when Unit {0} ∷ []) (f .action) ((λ a z. z), tt) (judged .action) in
+        handed-on (image-checks s) own _ (f .action) no-blame image number-is
+
     some-number : f .number ≢ 0
     some-number e = ⊎-elim (λ x. x .1 e) (λ x. omega (arith, fourteen (x .1), e)) parts
 
     pub length-refused : {r : Opened} → r ≡ unopened f → Opens s bytes before before r
-    length-refused e = opens-not f number-is some-number e
+    length-refused e = opens-not f (record { number = number-is; action = action-is }) some-number e
 
   -- ---- it is, and the image is planned
 
@@ -81,10 +91,15 @@ module _ (s : List ℕ) (bytes : ℕ) (before : LentTables) where
         (λ x. first-goes-on (image-checks s) own (p .refusal .number) (image-numbered s) (accepted-sound s .1 (x .0)) (inr (m .fits refl .1, x .1)))
         (accepted-parts s room (p .refusal .number) (plans .number))
 
+    named-is : AtFault (recording-call s bytes rooms) (p .refusal .action)
+    named-is =
+        let image = handed-back (image-checks s) room (p .refusal .action) ((λ a z. z), tt) (plans .action) in
+        handed-on (image-checks s) own _ (p .refusal .action) no-blame image planned-is
+
     pub plan-refused : {r : Opened} → p .refusal .number ≢ 0 → r ≡ unopened (p .refusal) → Opens s bytes before after r
     plan-refused some e =
         let same : after ≡ before = plans .tables-are ∙ sym (kept-old _ _ _ some) in
-        rw same (opens-not (p .refusal) planned-is some e)
+        rw same (opens-not (p .refusal) (record { number = planned-is; action = named-is }) some e)
 
     module _ (none : p .refusal .number ≡ 0) where
       sound : Sound s
@@ -122,6 +137,7 @@ module _ (s : List ℕ) (bytes : ℕ) (before : LentTables) where
       pub opened : Opens s bytes before after answer
       opened = record {
         number = planned-is;
+        action = named-is;
         n = plans .n;
         levels = plans .levels;
         a-frame = kept-new _ _ _ none size-is;

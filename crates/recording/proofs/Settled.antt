@@ -9,7 +9,8 @@ use Rattle.rules.specs.Limits.{LentTables, planner-tables}
 use Rattle.rules.specs.Refusals.{Ground, _when_, Tight}
 use Rattle.rules.specs.Recording as rules
 use Rattle.rules.specs.Recording.{Ran, ran-of, with-frame, NotFrames, recording-call, recorded-call}
-use Rattle.rules.proofs.Refusals.{Sound, first-one, accepted-parts}
+use Rattle.rules.specs.declared.Fault.{Fault}
+use Rattle.rules.proofs.Refusals.{Sound, first-one, refuses-one, accepted-parts}
 use Rattle.planner.specs.Planning.{plan-rooms, with-fronts}
 use Rattle.planner.proofs.Settled.{tables-settled, kept-one}
 use Rattle.recording.specs.declared.Opened.{Opened}
@@ -18,9 +19,9 @@ use Rattle.recording.specs.Recording.{Opens, totals-of, ran-said, none-r
 
 -- ---- opening
 
-made-one : {a a′ b b′ c c′ d d′ e e′ : ℕ} → a ≡ a′ → b ≡ b′ → c ≡ c′ → d ≡ d′ → e ≡ e′
-    → _≡_ {A = Opened} (record { refusal = record { number = a }; n = b; levels = c; «frame_bytes» = d; frames = e })
-    (record { refusal = record { number = a′ }; n = b′; levels = c′; «frame_bytes» = d′; frames = e′ })
+made-one : {a a′ : Fault} {b b′ c c′ d d′ e e′ : ℕ} → a ≡ a′ → b ≡ b′ → c ≡ c′ → d ≡ d′ → e ≡ e′
+    → _≡_ {A = Opened} (record { refusal = a; n = b; levels = c; «frame_bytes» = d; frames = e })
+    (record { refusal = a′; n = b′; levels = c′; «frame_bytes» = d′; frames = e′ })
 made-one p q r s t = cc
 
 module _ {s : List ℕ} {bytes : ℕ} {before after₁ after₂ : LentTables} {r t : Opened} (x : Opens s bytes before after₁ r) (y : Opens s bytes before after₂ t) where
@@ -30,15 +31,21 @@ module _ {s : List ℕ} {bytes : ℕ} {before after₁ after₂ : LentTables} {r
   abbrev own : List Ground
   own = refused-trace when NotFrames (profile s .n) (profile s .levels) bytes ∷ refused-room when Tight rooms ∷ []
 
+  refusal : r .refusal ≡ t .refusal
+  refusal =
+      refuses-one (recording-call s bytes rooms) (r .refusal) (t .refusal)
+      (record { number = x .number; action = x .action })
+      (record { number = y .number; action = y .action })
+
   number : r .refusal .number ≡ t .refusal .number
-  number = first-one (recording-call s bytes rooms) (r .refusal .number) (t .refusal .number) (x .number) (y .number)
+  number = ap (λ (f : Fault). f .number) refusal
 
   sound : r .refusal .number ≡ 0 → Sound s
   sound none = ⊎-elim (λ p. absurd (p .1 none)) (λ p. p .0) (accepted-parts s own (r .refusal .number) (x .number))
 
   answer : r ≡ t
   answer =
-      made-one number
+      made-one refusal
       (kept-one _ _ _ _ 0 number (λ _. refl) (x .n) (y .n))
       (kept-one _ _ _ _ 0 number (λ _. refl) (x .levels) (y .levels))
       (kept-one _ _ _ _ 0 number (λ _. refl) (x .a-frame) (y .a-frame))

@@ -10,7 +10,7 @@ use Rattle.rules.specs.Numbers.{longest-coast}
 use Rattle.rules.specs.Image.{profile}
 use Rattle.rules.specs.Order.{Order, TheOrder}
 use Rattle.rules.specs.Limits.{Tables, limit, LentTables, planner-tables}
-use Rattle.rules.specs.Refusals.{First, kept, Short, CountsOut}
+use Rattle.rules.specs.Refusals.{First, AtFault, kept, Short, CountsOut}
 use Rattle.rules.specs.Dry.{cell}
 use Rattle.rules.specs.Demand.{Policy, clock, Kept}
 use Rattle.rules.specs.Recording as rules
@@ -27,6 +27,7 @@ use Rattle.recording.specs.declared.Counted.{Counted}
 -- are kept, and with a refusal all that was there. Without one the order is the profile's; with one o counts for nothing.
 pub record Opens (s : List ℕ) (bytes : ℕ) (before after : LentTables) (r : Opened) : Type 0 where
   pub number : First (recording-call s bytes (plan-rooms (profile s .n) (profile s .levels) before)) (r .refusal .number)
+  pub action : AtFault (recording-call s bytes (plan-rooms (profile s .n) (profile s .levels) before)) (r .refusal .action)
   pub n : r .n ≡ kept (r .refusal .number) (profile s .n) 0
   pub levels : r .levels ≡ kept (r .refusal .number) (profile s .levels) 0
   pub a-frame : r .«frame_bytes» ≡ kept (r .refusal .number) (frame-bytes (profile s .n) (profile s .levels)) 0

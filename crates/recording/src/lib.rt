@@ -3,6 +3,7 @@
 // A recording is frames one after another, and nothing else. A frame is n by L durations, by position, then level, four bytes each, high byte
 // first. No call takes more of a recording than its length and one frame.
 use image_fields::read;
+use rules::Fault;
 use rules::Refusal;
 use run::Run;
 ghost use Prim.Native.Nat.{_+_, _-_, _*_, _/_, _%_, _≤_, _<_, min};
@@ -11,7 +12,7 @@ ghost use mathlib.Core.Bool.{true, false};
 ghost use mathlib.Core.List.{[], _∷_, _++_};
 ghost use mathlib.Core.Logic.{_≢_};
 ghost use Rattle.rules.specs.Numbers.{most-actions, most-frames, refused-turn, refused-trace};
-ghost use Rattle.rules.specs.Refusals.{_when_, First, image-checks};
+ghost use Rattle.rules.specs.Refusals.{_when_, First, Refuses, image-checks};
 ghost use Rattle.rules.specs.Run.{begun, ended};
 ghost use Rattle.rules.specs.Dry.{cell, dry-call};
 ghost use Rattle.rules.specs.Recording.{durations, with-frame, totals-fit};
@@ -26,7 +27,7 @@ ghost use Rattle.recording.specs.Cycle.{Waits, Cycling, Ends};
 // there are.
 #[repr(C)]
 pub struct Opened {
-    pub refusal: Refusal,
+    pub refusal: Fault,
     pub n: usize,
     pub levels: usize,
     pub frame_bytes: usize,
@@ -49,7 +50,7 @@ fn whole_frames(image: &[u8], bytes: usize) -> bool
 }
 
 // What a refused call answers.
-fn unopened(refusal: Refusal) -> Opened
+fn unopened(refusal: Fault) -> Opened
     ensures { λ r. ⌜ r ≡ record { refusal = refusal; n = 0; levels = 0; «frame_bytes» = 0; frames = 0 } ⌝ }
 {
     Opened {
@@ -62,15 +63,16 @@ fn unopened(refusal: Refusal) -> Opened
 }
 
 // The refusal of a recording whose length is not that of its frames: the image's, else 14.
-fn length_refusal(image: &[u8]) -> Refusal
-    ensures { λ r. ⌜ First (image-checks (now (image .entry)) ++ (refused-trace when Unit {0} ∷ [])) (r .number) ⌝ }
+fn length_refusal(image: &[u8]) -> Fault
+    ensures { λ r. ⌜ Refuses (image-checks (now (image .entry)) ++ (refused-trace when Unit {0} ∷ [])) r ⌝ }
 {
     let refusal = image_check::check(image);
     if refusal.number != 0 {
         return refusal;
     }
-    Refusal {
+    Fault {
         number: rules::REFUSED_TRACE,
+        action: rules::NO_ACTION,
     }
 }
 

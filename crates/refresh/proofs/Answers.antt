@@ -4,8 +4,9 @@ use mathlib.Core.Path.{_≡_, sym, _∙_}
 use mathlib.Core.List.{List, []}
 use Rattle.rules.specs.Image.{profile}
 use Rattle.rules.specs.Refusals.{First, Accepted}
+use Rattle.rules.specs.declared.Fault.{Fault}
 use Rattle.rules.specs.Refresh.{refreshed, new-image, refresh-call}
-use Rattle.rules.proofs.Refusals.{Sound, first-one}
+use Rattle.rules.proofs.Refusals.{Sound, refuses-one}
 use Rattle.rules.proofs.Speed.Reading.{times-small}
 use Rattle.rules.proofs.Refresh.{NoFault, refresh-sound, refreshed-table, refreshed-times, refreshed-grounds}
 use Rattle.fields.proofs.Bytes.{Bytes}
@@ -16,11 +17,11 @@ use Rattle.refresh.specs.Refresh.{refreshing, Refreshes}
 
 -- ---- the answer is settled
 
-pub refreshes-one : {s trace before after after′ : List ℕ} {refusal refusal′ bytes bytes′ : ℕ}
+pub refreshes-one : {s trace before after after′ : List ℕ} {refusal refusal′ : Fault} {bytes bytes′ : ℕ}
     → Refreshes s trace before after refusal bytes → Refreshes s trace before after′ refusal′ bytes′
     → (refusal ≡ refusal′) × (bytes ≡ bytes′) × (after ≡ after′)
 refreshes-one {s} {trace} {before} {refusal = r} {refusal′ = r′} x y =
-    let e = first-one (refreshing s trace before) r r′ (x .given) (y .given) in
+    let e = refuses-one (refreshing s trace before) r r′ (x .given) (y .given) in
     (e, (rw e at (x .count)) ∙ sym (y .count), (rw e at (x .written)) ∙ sym (y .written))
 
 -- ---- the new image

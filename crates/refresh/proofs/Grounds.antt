@@ -6,11 +6,11 @@ use mathlib.Core.Logic.{inl, inr}
 use native.Mathlib.Omega.{arith}
 use lib.Dec.{lit<}
 use lib.ListN.{length}
-use Rattle.rules.specs.Numbers.{most-records, refused-trace, refused-room}
+use Rattle.rules.specs.Numbers.{most-actions, most-records, refused-trace, refused-room}
 use Rattle.rules.specs.Image.{Profile, profile}
-use Rattle.rules.specs.Refusals.{Ground, _when_, First, Tight, image-checks, Accepted}
+use Rattle.rules.specs.Refusals.{Ground, _when_, First, Refuses, Tight, image-checks, Accepted}
 use Rattle.rules.specs.Refresh.{records, Trace}
-use Rattle.rules.proofs.Refusals.{Numbered, first-none, first-goes-on, image-numbered}
+use Rattle.rules.proofs.Refusals.{Numbered, first-none, first-goes-on, blameless, refuses-goes-on, image-numbered}
 use Rattle.trace.specs.Trace.{faults}
 use Rattle.refresh.specs.Refresh.{refreshing, own-grounds}
 
@@ -50,7 +50,10 @@ enough F trace needed room p =
     let not-tight : room < needed → ⊥ = λ h. none .1 .1 .1 .0 (inl h) in
     omega arith
 
--- Of an accepted image the call's own grounds give.
+-- Of an accepted image the call's own grounds give, which blame no action.
 pub after-image : (s trace out : List ℕ) (k : ℕ) → Accepted s → First (own-grounds (profile s) trace (length s) (length out)) k
-    → First (refreshing s trace out) k
-after-image s trace out k a p = first-goes-on (image-checks s) (own-grounds (profile s) trace (length s) (length out)) k (image-numbered s) a p
+    → Refuses (refreshing s trace out) (record { number = k; action = most-actions })
+after-image s trace out k a p =
+    let own = own-grounds (profile s) trace (length s) (length out) in
+    refuses-goes-on (image-checks s) own _ (image-numbered s) a
+    (blameless own k ((λ a z. z), ((λ a z. z), ((λ a z. z), ((λ a z. z), tt)))) p)

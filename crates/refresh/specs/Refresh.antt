@@ -7,7 +7,8 @@ use lib.ListN.{length, getD}
 use Rattle.rules.specs.Numbers.{most-actions, most-levels, header-bytes, refused-trace, refused-room}
 use Rattle.rules.specs.Words.{cat}
 use Rattle.rules.specs.Image.{Profile, levels, record-at, worst-of, profile, record-image}
-use Rattle.rules.specs.Refusals.{Ground, _when_, First, kept, Tight}
+use Rattle.rules.specs.Refusals.{Ground, _when_, First, Refuses, kept, Tight}
+use Rattle.rules.specs.declared.Fault.{Fault}
 use Rattle.rules.specs.Refresh.{refreshed, new-image, Trace, refresh-call}
 use Rattle.fields.specs.Fields.{splice}
 use Rattle.trace.specs.Trace.{cells, cell-of, Ceilings, faults, Weighs}
@@ -16,11 +17,11 @@ use Rattle.trace.specs.Trace.{cells, cell-of, Ceilings, faults, Weighs}
 abbrev pub refreshing : List ℕ → List ℕ → List ℕ → List Ground
 refreshing s trace out = refresh-call s trace ((length out, length s) ∷ [])
 
--- The number of the refusal, the new image in the lent slice, whose tail is kept, and its bytes; with a refusal all of the slice is kept.
-pub record Refreshes (s trace before after : List ℕ) (refusal bytes : ℕ) : Type 0 where
-  pub given : First (refreshing s trace before) refusal
-  pub written : after ≡ kept refusal (splice before 0 (new-image s trace)) before
-  pub count : bytes ≡ kept refusal (length s) 0
+-- The refusal, the new image in the lent slice, whose tail is kept, and its bytes; with a refusal all of the slice is kept.
+pub record Refreshes (s trace before after : List ℕ) (refusal : Fault) (bytes : ℕ) : Type 0 where
+  pub given : Refuses (refreshing s trace before) refusal
+  pub written : after ≡ kept (refusal .number) (splice before 0 (new-image s trace)) before
+  pub count : bytes ≡ kept (refusal .number) (length s) 0
 
 -- ---- asked between the functions of this crate
 

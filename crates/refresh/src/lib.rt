@@ -1,5 +1,6 @@
 // Refreshing averages: the new image of an image and a trace, which differs in averages only.
 use image_fields::read;
+use rules::Fault;
 use rules::Refusal;
 ghost use mathlib.Core.Path.{_≡_};
 ghost use Prim.Native.Nat.{_+_, _*_, _≤_};
@@ -13,10 +14,10 @@ ghost use Rattle.image_fields.specs.Reading.{HasRecord, HasRecords};
 ghost use Rattle.trace.specs.Trace.{cells, Tallied};
 ghost use Rattle.refresh.specs.Refresh.{Refreshes, Weighed, Ceiled, Renews, AllRenewed};
 
-// The answer of a refresh: the refusal, 0 for none, and the bytes of the new image.
+// The answer of a refresh: the refusal, and the bytes of the new image.
 #[repr(C)]
 pub struct Refreshed {
-    pub refusal: Refusal,
+    pub refusal: Fault,
     pub bytes: usize,
 }
 
@@ -115,30 +116,28 @@ fn refresh_accepted(
     out: &mut [u8],
 ) -> Refreshed
     requires { ⌜ Accepted (now image) × (n ≡ profile (now image) .n) × (levels ≡ profile (now image) .levels) ⌝ }
-    ensures { λ r. ⌜ Refreshes (now (image .entry)) (now (trace .entry)) (now (out .entry)) (now (out .exit)) (r .refusal .number) (r .bytes) ⌝ }
+    ensures { λ r. ⌜ Refreshes (now (image .entry)) (now (trace .entry)) (now (out .entry)) (now (out .exit)) (r .refusal) (r .bytes) ⌝ }
 {
     let mut ceilings = [0u32; trace::CELLS];
     take_ceilings(image, n, levels, &mut ceilings);
     let mut tallies = [0u64; trace::CELLS];
     let bytes = image.len();
     let own = own_refusal(trace, &ceilings, &mut tallies, bytes, out.len());
-    if own.number != 0 {
-        return Refreshed {
-            refusal: own,
-            bytes: 0,
-        };
+    let refusal = Fault {
+        number: own.number,
+        action: rules::NO_ACTION,
+    };
+    if refusal.number != 0 {
+        return Refreshed { refusal, bytes: 0 };
     }
     fields::copy_front(image, bytes, out);
     renew(image, n, levels, &tallies, out);
-    Refreshed {
-        refusal: own,
-        bytes,
-    }
+    Refreshed { refusal, bytes }
 }
 
 // Writes the new image to `out`. A refusal leaves `out` untouched, and what it has beyond the new image stays.
 pub fn refresh(image: &[u8], trace: &[u8], out: &mut [u8]) -> Refreshed
-    ensures { λ r. ⌜ Refreshes (now (image .entry)) (now (trace .entry)) (now (out .entry)) (now (out .exit)) (r .refusal .number) (r .bytes) ⌝ }
+    ensures { λ r. ⌜ Refreshes (now (image .entry)) (now (trace .entry)) (now (out .entry)) (now (out .exit)) (r .refusal) (r .bytes) ⌝ }
 {
     let checked = image_check::whole::checked(image);
     let refusal = checked.refusal;

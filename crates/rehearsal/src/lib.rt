@@ -106,7 +106,7 @@ pub fn rehearse(image: &[u8], recording: i32, out: &mut [u8], to: i32) -> usize
     );
     let refusal = opened.refusal;
     if refusal.number != 0 {
-        return print_lines::put_refusal(out, 0, refusal.number);
+        return print_lines::put_fault(out, 0, refusal);
     }
     rehearse_frames(opened, &limits, &worst, &bounds, recording, out, to)
 }

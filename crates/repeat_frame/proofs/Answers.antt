@@ -11,14 +11,14 @@ use Rattle.rules.specs.Numbers.{most-actions, most-levels, longest-coast, summa
 use Rattle.rules.specs.Words.{tab, one-if}
 use Rattle.rules.specs.Image.{Profile, profile}
 use Rattle.rules.specs.Order.{Order, TheOrder}
-use Rattle.rules.specs.Refusals.{Ground, _when_, First, Unfit, Tight, loop-checks}
+use Rattle.rules.specs.Refusals.{Ground, _when_, First, AtFault, Refuses, Unfit, Tight, loop-checks}
 use Rattle.rules.specs.Run.{Run, decides}
 use Rattle.rules.specs.Dry.{before, cell, LongEntry}
 use Rattle.rules.specs.Repeat.{unrolled, Repeats, LentBody, body-of, lent-each, lent-plan, PlannedBody, action-at, body-checks, body-frame-call}
 use Rattle.rules.specs.declared.Body.{Body}
-use Rattle.rules.specs.declared.Refusal.{Refusal}
+use Rattle.rules.specs.declared.Fault.{Fault}
 use Rattle.rules.proofs.Differences.{not-above}
-use Rattle.rules.proofs.Refusals.{first-stops, first-goes-on, first-parts, loop-numbered}
+use Rattle.rules.proofs.Refusals.{Blameless, blameless, first-parts, handed-on, handed-back, refuses-stops, refuses-goes-on, loop-numbered}
 use Rattle.rules.proofs.Accepted.{not-unfit}
 use Rattle.fields.specs.Fields.{splice}
 use Rattle.fields.proofs.Tabs.{tab-ext}
@@ -43,7 +43,7 @@ use Rattle.repeat_frame.proofs.Rooms.{Room, room}
 
 -- ---- what a refused call answers
 
-abbrev pub refused : Refusal → BodyFramed
+abbrev pub refused : Fault → BodyFramed
 refused f = record { refusal = f; decisions = 0; end = 0; positions = 0; overrun = false; late = false }
 
 module _ (s : List ℕ) (N : ℕ) (durations : List ℕ) (before : FrameLists) where
@@ -54,9 +54,14 @@ module _ (s : List ℕ) (N : ℕ) (durations : List ℕ) (before : FrameLists) w
   abbrev own : List Ground
   own = own-call (body-of (profile s) N) durations before
 
-  frames-not : {r : BodyFramed} (f : Refusal) → First whole (f .number) → f .number ≢ 0 → r ≡ refused f → BodyFrames s N durations before before r
-  frames-not f first some e = rw e (record {
-    number = first;
+  -- which blames no action
+  no-blame : Blameless own
+  no-blame = ((λ a z. z), ((λ a z. z), tt))
+
+  frames-not : {r : BodyFramed} (f : Fault) → Refuses whole f → f .number ≢ 0 → r ≡ refused f → BodyFrames s N durations before before r
+  frames-not f p some e = rw e (record {
+    number = p .number;
+    action = p .action;
     positions = kept-old _ _ _ some;
     o = by-number (profile s .n);
     the-order = λ none. absurd (some none);
@@ -116,6 +121,10 @@ module _ {s : List ℕ} {N : ℕ} {lent : LentBody} {p : BodyPlanned} (P : Plann
   by-body some =
       ⊎-elim (λ x. x .0) (λ x. absurd (⊎-elim (λ t. never-tight (body-sound s N (x .0)) (t .0)) (λ t. some (t .1)) (x .1))) parts
 
+  -- the body's action
+  named : AtFault (body-checks s N) (p .refusal .action)
+  named = handed-back (body-checks s N) room-only (p .refusal .action) ((λ a z. z), tt) (P .plans .action)
+
   passed : p .refusal .number ≡ 0 → First (body-checks s N) 0
   passed none = ⊎-elim (λ x. absurd (x .1 none)) (λ x. x .0) parts
 
@@ -143,17 +152,18 @@ module _ {s : List ℕ} {N : ℕ} {lent : LentBody} {p : BodyPlanned} (P : Plann
   module _ (durations : List ℕ) (before : FrameLists) where
     pub body-refused : {r : BodyFramed} → p .refusal .number ≢ 0 → r ≡ refused (p .refusal) → BodyFrames s N durations before before r
     body-refused some e = frames-not s N durations before (p .refusal)
-        (first-stops (body-checks s N) (own s N durations before) (p .refusal .number) (by-body some) some) some e
+        (refuses-stops (body-checks s N) (own s N durations before) (p .refusal) (record { number = by-body some; action = named }) some) some e
 
     module _ (none : p .refusal .number ≡ 0) {k : ℕ} (judged : First (own-call (p .body) durations before) k) where
       own-is : First (own s N durations before) k
       own-is = rw (body-is none) at judged
 
-      whole-is : First (whole s N durations before) k
-      whole-is = first-goes-on (body-checks s N) (own s N durations before) k (body-numbered s N) (passed none) own-is
+      whole-is : Refuses (whole s N durations before) (record { number = k; action = most-actions })
+      whole-is = refuses-goes-on (body-checks s N) (own s N durations before) _ (body-numbered s N) (passed none)
+          (blameless (own s N durations before) k (no-blame s N durations before) own-is)
 
-      pub own-refused : {r : BodyFramed} → k ≢ 0 → r ≡ refused (record { number = k }) → BodyFrames s N durations before before r
-      own-refused some e = frames-not s N durations before (record { number = k }) whole-is some e
+      pub own-refused : {r : BodyFramed} → k ≢ 0 → r ≡ refused (record { number = k; action = most-actions }) → BodyFrames s N durations before before r
+      own-refused some e = frames-not s N durations before _ whole-is some e
 
       -- not refused: what the walk needs
       module _ (clear-own : k ≡ 0) where
@@ -246,9 +256,13 @@ module _ {s : List ℕ} {N : ℕ} {lent : LentBody} {p : BodyPlanned} (P : Plann
               ∙ ap (λ (a : ℕ). x / F .n * F .n + a)
               (sym (tab-written (P .plans .o .at) (before .order) (F .n) 0 order-is (x % F .n) (place-lt (repeats-it .some) x)))
 
+          given : First (whole s N durations before) (p .refusal .number)
+          given = rw none (rw clear-own at (whole-is .number))
+
           pub framed : BodyFrames s N durations before after answer
           framed = record {
-            number = rw none (rw clear-own at whole-is);
+            number = given;
+            action = handed-on (body-checks s N) (own s N durations before) _ _ (no-blame s N durations before) named given;
             positions = kept-new _ _ _ none (ap (λ (b : Body). b .repeats * b .n) (body-is none));
             o = P .plans .o;
             the-order = P .plans .the-order;

@@ -15,7 +15,7 @@ use Rattle.rules.specs.Refusals.{Ground, _when_, First, Unfit, Tight, loop-chec
 use Rattle.rules.specs.Run.{Run, decides}
 use Rattle.rules.specs.Dry.{cell, LongEntry}
 use Rattle.rules.specs.Repeat.{unrolled, Repeats}
-use Rattle.rules.proofs.Refusals.{first-one, first-parts, loop-numbered}
+use Rattle.rules.proofs.Refusals.{first-one, first-parts, at-fault-one, handed-back, loop-numbered}
 use Rattle.rules.proofs.Order.OfProfile.{the-order-is, order-settled}
 use Rattle.rules.proofs.Differences.{not-above}
 use Rattle.fields.specs.Fields.{splice}
@@ -97,10 +97,18 @@ module _ {s durations : List ℕ} {before after after′ : FrameLists} {r : Fram
       by (inr a) (inl b) = absurd (b .1 (first-one (loop-checks s) k′ 0 (b .0) (a .0)))
       by (inr a) (inr b) = first-one rest k k′ (a .1) (same-rest (sound s (a .0)) k′ (after-19 k′ (b .1)))
 
+  pub action-is : r .refusal .action ≡ t .refusal .action
+  action-is =
+      at-fault-one (loop-checks s) (r .refusal .action) (t .refusal .action)
+      (handed-back (loop-checks s) rest (r .refusal .action) ((λ a z. z), ((λ a z. z), ((λ a z. z), tt))) (x .action))
+      (handed-back (loop-checks s) (refused-repeats when Repeats (profile s) 1 ∷ body-rest) (t .refusal .action)
+      ((λ a z. z), ((λ a z. z), ((λ a z. z), ((λ a z. z), tt)))) (y .action))
+
   -- ---- what is written and answered
 
   pub record SameFrame : Type 0 where
     pub number : r .refusal .number ≡ t .refusal .number
+    pub action : r .refusal .action ≡ t .refusal .action
     pub order : after .order ≡ after′ .order
     pub levels : after .levels ≡ after′ .levels
     pub decided : after .decided ≡ after′ .decided
@@ -136,6 +144,7 @@ module _ {s durations : List ℕ} {before after after′ : FrameLists} {r : Fram
     same-accepted : SameFrame
     same-accepted = record {
       number = number-is;
+      action = action-is;
       order = rw none at (x .order-is)
           ∙ ap (splice (before .order) 0) (tab-ext _ _ (profile s .n) (order-settled (x .the-order none) (y .the-order none′)))
           ∙ sym (rw none′ at (y .order-is));
@@ -156,6 +165,7 @@ module _ {s durations : List ℕ} {before after after′ : FrameLists} {r : Fram
       let some′ : t .refusal .number ≢ 0 = λ z. some (number-is ∙ z) in
       record {
         number = number-is;
+        action = action-is;
         order = x .order-is ∙ sym (kept-old _ _ _ some) ∙ kept-old _ _ _ some′ ∙ sym (y .order-is);
         levels = x .levels ∙ sym (kept-old _ _ _ some) ∙ kept-old _ _ _ some′ ∙ sym (y .levels);
         decided = x .decided ∙ sym (kept-old _ _ _ some) ∙ kept-old _ _ _ some′ ∙ sym (y .decided);

@@ -13,8 +13,9 @@ use Rattle.rules.specs.Refusals.{Ground, _when_, First, Unfit, Tight, loop-chec
 use Rattle.rules.specs.Run.{Run, decides}
 use Rattle.rules.specs.Dry.{cell, LongEntry}
 use Rattle.rules.specs.Repeat.{unrolled, Repeats, body-frame-call}
+use Rattle.rules.specs.declared.Fault.{Fault}
 use Rattle.rules.proofs.Differences.{not-above}
-use Rattle.rules.proofs.Refusals.{first-one, first-parts, loop-numbered}
+use Rattle.rules.proofs.Refusals.{refuses-one, first-parts, loop-numbered}
 use Rattle.rules.proofs.Order.OfProfile.{order-settled}
 use Rattle.fields.specs.Fields.{splice}
 use Rattle.fields.proofs.Tabs.{tab-ext}
@@ -28,11 +29,11 @@ use Rattle.repeat_frame.specs.declared.BodyFramed.{BodyFramed}
 use Rattle.repeat_frame.specs.BodyFrame.{body-frame-rooms, unrolled-run, BodyFrames}
 
 -- answers that are equal part by part
-abbrev made : ℕ → ℕ → ℕ → ℕ → Bool → Bool → BodyFramed
-made number decisions end positions overrun late =
-    record { refusal = record { number = number }; decisions = decisions; end = end; positions = positions; overrun = overrun; late = late }
+abbrev made : Fault → ℕ → ℕ → ℕ → Bool → Bool → BodyFramed
+made refusal decisions end positions overrun late =
+    record { refusal = refusal; decisions = decisions; end = end; positions = positions; overrun = overrun; late = late }
 
-made-one : {a a′ b b′ c c′ d d′ : ℕ} {e e′ f f′ : Bool} → a ≡ a′ → b ≡ b′ → c ≡ c′ → d ≡ d′ → e ≡ e′ → f ≡ f′
+made-one : {a a′ : Fault} {b b′ c c′ d d′ : ℕ} {e e′ f f′ : Bool} → a ≡ a′ → b ≡ b′ → c ≡ c′ → d ≡ d′ → e ≡ e′ → f ≡ f′
     → made a b c d e f ≡ made a′ b′ c′ d′ e′ f′
 made-one p q r s t u = cc
 
@@ -41,8 +42,14 @@ module _ {s : List ℕ} {N : ℕ} {durations : List ℕ} {before after₁ after�
   abbrev rooms : List (ℕ × ℕ)
   rooms = body-frame-rooms (profile s .n) (profile s .levels) N durations before
 
+  refusal : r .refusal ≡ t .refusal
+  refusal =
+      refuses-one (body-frame-call s N durations rooms) (r .refusal) (t .refusal)
+      (record { number = x .number; action = x .action })
+      (record { number = y .number; action = y .action })
+
   number : r .refusal .number ≡ t .refusal .number
-  number = first-one (body-frame-call s N durations rooms) (r .refusal .number) (t .refusal .number) (x .number) (y .number)
+  number = ap (λ (f : Fault). f .number) refusal
 
   -- without a refusal the body is sound, and may be repeated
   abbrev rest : List Ground
@@ -77,7 +84,7 @@ module _ {s : List ℕ} {N : ℕ} {durations : List ℕ} {before after₁ after�
 
   answer : r ≡ t
   answer =
-      made-one number
+      made-one refusal
       (kept-one _ _ _ _ 0 number (last-one (λ (z : Run). z .decisions)) (x .decisions) (y .decisions))
       (kept-one _ _ _ _ 0 number (last-one (λ (z : Run). z .clock)) (x .end) (y .end))
       (kept-one _ _ (N * profile s .n) (N * profile s .n) 0 number (λ _. refl) (x .positions) (y .positions))

@@ -10,7 +10,7 @@ use Rattle.rules.specs.Words.{sum, tab, one-if}
 use Rattle.rules.specs.Image.{profile}
 use Rattle.rules.specs.Order.{Order, TheOrder}
 use Rattle.rules.specs.Limits.{tables, planned}
-use Rattle.rules.specs.Refusals.{First, kept}
+use Rattle.rules.specs.Refusals.{First, AtFault, kept}
 use Rattle.rules.specs.Run.{Run, decides}
 use Rattle.rules.specs.Dry.{before, cell}
 use Rattle.rules.specs.Repeat.{unrolled, action-at, body-frame-call}
@@ -41,6 +41,7 @@ framed-of r = record { refusal = r .refusal; n = r .positions; decisions = r .de
 -- tails kept, and with a refusal all of it. Without one the orders are the body's and the unrolled system's; with one they count for nothing.
 pub record BodyFrames (s : List ℕ) (N : ℕ) (durations : List ℕ) (before after : FrameLists) (r : BodyFramed) : Type 0 where
   pub number : First (body-frame-call s N durations (body-frame-rooms (profile s .n) (profile s .levels) N durations before)) (r .refusal .number)
+  pub action : AtFault (body-frame-call s N durations (body-frame-rooms (profile s .n) (profile s .levels) N durations before)) (r .refusal .action)
   pub positions : r .positions ≡ kept (r .refusal .number) (N * profile s .n) 0
   pub o : Order (profile s .n)
   pub the-order : r .refusal .number ≡ 0 → TheOrder (profile s) o

@@ -4,7 +4,7 @@ use repeat_decision::choose;
 use repeat_limits::spot_of;
 use repeat_run::BodyRun;
 use rules::Body;
-use rules::Refusal;
+use rules::Fault;
 ghost use mathlib.Core.Path.{_≡_};
 ghost use mathlib.Core.Bool.{false};
 ghost use mathlib.Core.List.{[]};
@@ -23,7 +23,7 @@ ghost use Rattle.repeat_frame.specs.Walk.{own-call, MayPass, MayWalk, Wa
 // marks, else 0 and no.
 #[repr(C)]
 pub struct BodyFramed {
-    pub refusal: Refusal,
+    pub refusal: Fault,
     pub decisions: u32,
     pub end: u64,
     pub positions: u32,
@@ -32,7 +32,7 @@ pub struct BodyFramed {
 }
 
 // What a refused call answers.
-fn refused(refusal: Refusal) -> BodyFramed
+fn refused(refusal: Fault) -> BodyFramed
     ensures { λ r. ⌜ r ≡ record { refusal = refusal; decisions = 0; end = 0; positions = 0; overrun = false; late = false } ⌝ }
 {
     BodyFramed {
@@ -148,7 +148,10 @@ pub fn dry_frame(
     let body = planned.body;
     let number = own_refusal(body, durations, order, given, marks);
     if number != 0 {
-        return refused(Refusal { number });
+        return refused(Fault {
+            number,
+            action: rules::NO_ACTION,
+        });
     }
     let last = walk(body, &summaries, &worst, durations, given, marks);
     fields::copy_front(&actions, body.n as usize, order);

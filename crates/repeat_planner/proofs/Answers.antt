@@ -13,9 +13,8 @@ use Rattle.rules.specs.Image.{Profile, profile}
 use Rattle.rules.specs.Order.{Order}
 use Rattle.rules.specs.Refusals.{Ground, _when_, First, Count, Range, Table, Looped, Unfit, Length, Tight, loop-checks}
 use Rattle.rules.specs.Repeat.{unrolled, OwnDeadline, Repeats, LentBody, no-body, body-checks, body-call}
-use Rattle.rules.specs.declared.Refusal.{Refusal}
 use Rattle.rules.proofs.Differences.{not-above}
-use Rattle.rules.proofs.Refusals.{Numbered, first-stops, first-goes-on, first-parts, first-none, loop-numbered}
+use Rattle.rules.proofs.Refusals.{Numbered, Blameless, first-stops, first-goes-on, first-parts, first-none, handed-on, loop-numbered}
 use Rattle.image_fields.specs.Reading.{HasRecords}
 use Rattle.image_fields.proofs.Reading.{has-records}
 use Rattle.image_check.specs.declared.Checked.{Checked}
@@ -91,25 +90,34 @@ clear s N rooms p = elim (first-parts (loop-checks s) rest 0 (loop-numbered s) p
 
 -- ---- by what a check answers: refused, or what comes after it
 
-module _ {row : List Ground} {s : List ℕ} {r : Checked} (a : Admits row s r) (rest : List Ground) where
+-- What comes after it blames no action, so the action is its own.
+module _ {row : List Ground} {s : List ℕ} {r : Checked} (a : Admits row s r) (rest : List Ground) (no-blame : Blameless rest) where
   pub admits-stops : r .refusal .number ≢ 0 → Admits (row ++ rest) s r
-  admits-stops some = record {
-    number = first-stops row rest (r .refusal .number) (a .number) some;
-    found = λ none. absurd (some none);
-  }
+  admits-stops some =
+      let number = first-stops row rest (r .refusal .number) (a .number) some in
+      record { number = number; action = handed-on row rest _ _ no-blame (a .action) number; found = λ none. absurd (some none) }
 
-  pub admits-on : {f : Refusal} → Numbered row → r .refusal .number ≡ 0 → First rest (f .number)
-      → Admits (row ++ rest) s (record { refusal = f; n = r .n; levels = r .levels; cycle = r .cycle; order = r .order; unfit = r .unfit })
-  admits-on {f} m none p =
+  pub admits-on : {k : ℕ} → Numbered row → r .refusal .number ≡ 0 → First rest k
+      → Admits (row ++ rest) s (record {
+        refusal = record { number = k; action = r .refusal .action };
+        n = r .n;
+        levels = r .levels;
+        cycle = r .cycle;
+        order = r .order;
+        unfit = r .unfit;
+      })
+  admits-on {k} m none p =
       let found = a .found none in
+      let number = first-goes-on row rest k m (rw none at (a .number)) p in
       record {
-        number = first-goes-on row rest (f .number) m (rw none at (a .number)) p;
+        number = number;
+        action = handed-on row rest _ _ no-blame (a .action) number;
         found = λ _. record { n = found .n; levels = found .levels; cycle = found .cycle; order = found .order; rest = found .rest };
       }
 
 -- the check up to 8
 pub body-admits : {s : List ℕ} {r : Checked} → BodyAnswers (loop-checks s) s r → Admits (loop-checks s) s r
-body-admits a = record { number = a .answers .number; found = a .answers .accepted }
+body-admits a = record { number = a .answers .number; action = a .answers .action; found = a .answers .accepted }
 
 pub passed : {s : List ℕ} {r : Checked} → BodyAnswers (loop-checks s) s r → r .refusal .number ≡ 0 → Passed s (r .n) (r .levels) (r .cycle)
 passed a none =
@@ -141,6 +149,7 @@ module _ {s : List ℕ} {N : ℕ} (lent : LentBody) {r : Checked} (a : Admits (b
   pub refused-plans : {p : BodyPlanned} → r .refusal .number ≢ 0 → p ≡ record { refusal = r .refusal; body = no-body } → PlansBody s N lent lent p
   refused-plans some e = rw e (record {
     number = a .number;
+    action = a .action;
     body = kept-old _ _ _ some;
     o = by-number (profile s .n);
     the-order = λ none. absurd (some none);
@@ -190,6 +199,7 @@ module _ {s : List ℕ} {N : ℕ} (lent : LentBody) {r : Checked} (a : Admits (b
         let written = filled (found .order .0) input in
         record {
           number = a .number;
+          action = a .action;
           body = kept-new _ _ _ none (λ i. record { n = found .n i; levels = found .levels i; cycle = found .cycle i; repeats = N });
           o = found .order .0;
           the-order = λ _. found .order .1;

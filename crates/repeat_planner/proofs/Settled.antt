@@ -10,7 +10,8 @@ use Rattle.rules.specs.Limits.{tables}
 use Rattle.rules.specs.Refusals.{Count}
 use Rattle.rules.specs.Repeat.{stretch, LentBody, numbers-of, rest-of, body-tables, body-of, no-body, body-call}
 use Rattle.rules.specs.declared.Body.{Body}
-use Rattle.rules.proofs.Refusals.{first-one}
+use Rattle.rules.specs.declared.Fault.{Fault}
+use Rattle.rules.proofs.Refusals.{refuses-one}
 use Rattle.rules.proofs.Order.OfProfile.{order-settled}
 use Rattle.fields.proofs.Cats.{cat-ext}
 use Rattle.fields.proofs.Tabs.{tab-ext}
@@ -41,13 +42,18 @@ module _ {F : Profile} {o p : Order (F .n)} (counts : Count F → ⊥) (x : TheO
 
 module _ {s : List ℕ} {N : ℕ} {before after₁ after₂ : LentBody} {r t : BodyPlanned}
     (x : PlansBody s N before after₁ r) (y : PlansBody s N before after₂ t) where
+  refusal : r .refusal ≡ t .refusal
+  refusal =
+      refuses-one (body-call s N (body-rooms (profile s .n) (profile s .levels) before)) (r .refusal) (t .refusal)
+      (record { number = x .number; action = x .action })
+      (record { number = y .number; action = y .action })
+
   number : r .refusal .number ≡ t .refusal .number
-  number =
-      first-one (body-call s N (body-rooms (profile s .n) (profile s .levels) before)) (r .refusal .number) (t .refusal .number) (x .number) (y .number)
+  number = ap (λ (f : Fault). f .number) refusal
 
   answer : r ≡ t
   answer =
-      ap (λ (k : ℕ). record { refusal = record { number = k }; body = r .body }) number
+      ap (λ (f : Fault). record { refusal = f; body = r .body }) refusal
       ∙ ap (λ (b : Body). record { refusal = t .refusal; body = b })
       (kept-one _ _ (body-of (profile s) N) (body-of (profile s) N) no-body number (λ _. refl) (x .body) (y .body))
 

@@ -3,7 +3,7 @@ use Prim.Native.Nat.{ℕ}
 use mathlib.Core.Path.{_≡_}
 use mathlib.Core.List.{List}
 use Rattle.rules.specs.Image.{profile}
-use Rattle.rules.specs.Refusals.{Ground, First, loop-checks}
+use Rattle.rules.specs.Refusals.{Ground, First, AtFault, loop-checks}
 use Rattle.image_check.specs.declared.Checked.{Checked}
 use Rattle.image_check.specs.Checks.{Found}
 
@@ -17,4 +17,5 @@ pub record Passed (s : List ℕ) (n L cycle : ℕ) : Type 0 where
 -- what a check by the row answers of the image s: the first that is given, and without one what s has
 pub record Admits (row : List Ground) (s : List ℕ) (r : Checked) : Type 0 where
   pub number : First row (r .refusal .number)
+  pub action : AtFault row (r .refusal .action)
   pub found : r .refusal .number ≡ 0 → Found s r

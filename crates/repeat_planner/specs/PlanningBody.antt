@@ -6,7 +6,7 @@ use lib.ListN.{length}
 use Rattle.rules.specs.Numbers.{summary-numbers}
 use Rattle.rules.specs.Image.{profile}
 use Rattle.rules.specs.Order.{Order, TheOrder}
-use Rattle.rules.specs.Refusals.{First, kept}
+use Rattle.rules.specs.Refusals.{First, AtFault, kept}
 use Rattle.rules.specs.Repeat.{LentBody, body-tables, body-of, no-body, body-call}
 use Rattle.fields.specs.Fields.{splice}
 use Rattle.repeat_planner.specs.declared.BodyPlanned.{BodyPlanned}
@@ -28,6 +28,7 @@ with-body-fronts lent new = record {
 -- was there. Without one the order is the body's; with one there need not be any, and o counts for nothing.
 pub record PlansBody (s : List ℕ) (N : ℕ) (before after : LentBody) (r : BodyPlanned) : Type 0 where
   pub number : First (body-call s N (body-rooms (profile s .n) (profile s .levels) before)) (r .refusal .number)
+  pub action : AtFault (body-call s N (body-rooms (profile s .n) (profile s .levels) before)) (r .refusal .action)
   pub body : r .body ≡ kept (r .refusal .number) (body-of (profile s) N) no-body
   pub o : Order (profile s .n)
   pub the-order : r .refusal .number ≡ 0 → TheOrder (profile s) o

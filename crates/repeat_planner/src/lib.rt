@@ -3,6 +3,7 @@
 use image_check::Checked;
 use image_check::whole;
 use rules::Body;
+use rules::Fault;
 use rules::Refusal;
 ghost use Prim.Native.Nat.{_*_, _≤_, _<_};
 ghost use mathlib.Core.Path.{_≡_};
@@ -21,7 +22,7 @@ ghost use Rattle.repeat_planner.specs.PlanningBody.{body-rooms, PlansBod
 // The answer of planning: with a refusal all else is 0; without one what the header says, and N.
 #[repr(C)]
 pub struct BodyPlanned {
-    pub refusal: Refusal,
+    pub refusal: Fault,
     pub body: Body,
 }
 
@@ -77,8 +78,8 @@ fn checked(image: &[u8], repeats: u32) -> Checked
     if found.refusal.number != 0 {
         return found;
     }
-    let refusal = repeats_refusal(image, found.n, found.levels, found.cycle, repeats);
-    found.refusal = refusal;
+    let own = repeats_refusal(image, found.n, found.levels, found.cycle, repeats);
+    found.refusal.number = own.number;
     found
 }
 
@@ -117,13 +118,13 @@ fn with_room(image: &[u8], repeats: u32, order: &[u8], summaries: &[u32], worst:
     if found.refusal.number != 0 {
         return found;
     }
-    let refusal = tight(found.n, found.levels, order, summaries, worst);
-    found.refusal = refusal;
+    let room = tight(found.n, found.levels, order, summaries, worst);
+    found.refusal.number = room.number;
     found
 }
 
 // What a refused call answers.
-fn refused(refusal: Refusal) -> BodyPlanned
+fn refused(refusal: Fault) -> BodyPlanned
     ensures { λ r. ⌜ r ≡ record { refusal = refusal; body = no-body } ⌝ }
 {
     let body = Body {

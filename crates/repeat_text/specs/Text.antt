@@ -11,8 +11,9 @@ use Rattle.rules.specs.Limits.{tables, limit}
 use Rattle.rules.specs.Refusals.{kept}
 use Rattle.rules.specs.Repeat.{unrolled, LentBody, positions, lent-plan, PlannedBody, action-at}
 use Rattle.rules.specs.declared.Body.{Body}
+use Rattle.rules.specs.declared.Fault.{Fault}
 use Rattle.text.specs.Put.{Puts}
-use Rattle.print_lines.specs.Lines.{four-line, refused-text}
+use Rattle.print_lines.specs.Lines.{four-line, fault-text}
 use Rattle.print.specs.Plan.{position-line}
 use Rattle.repeat_limits.specs.Limits.{CountsIn}
 use Rattle.repeat_planner.specs.PlanningBody.{PlansBody}
@@ -57,11 +58,11 @@ pub record TellsLines (b : Body) (order summaries out : List ℕ) (at from : ℕ
       → lent-lines b order summaries from (r .next) ≡ cat (λ k. unrolled-line (unrolled F (b .repeats)) p (from + k)) (r .next - from)
 
 -- n, L, the cycle and N; or the refusal
-abbrev pub first-text : List ℕ → ℕ → ℕ → List ℕ
-first-text s N number = kept number (four-line (profile s .n) (profile s .levels) (profile s .cycle) N) (refused-text number)
+abbrev pub first-text : List ℕ → ℕ → Fault → List ℕ
+first-text s N refusal = kept (refusal .number) (four-line (profile s .n) (profile s .levels) (profile s .cycle) N) (fault-text refusal)
 
 -- The body is planned, and that line is put into the buffer from its start on. Without a refusal the tables are lent for the lines.
 pub record TellsFirst (s : List ℕ) (N : ℕ) (before after : LentBody) (out out′ : List ℕ) (r : Begun) : Type 0 where
   pub plans : PlansBody s N before after (r .planned)
   pub lent : r .planned .refusal .number ≡ 0 → Lent (r .planned .body) (after .order) (after .summaries)
-  pub text : Puts out 0 (first-text s N (r .planned .refusal .number)) out′ (r .at)
+  pub text : Puts out 0 (first-text s N (r .planned .refusal)) out′ (r .at)

@@ -1,8 +1,8 @@
 // A body repeated as text: what the repeat_plan program does. Each line is worked out as it is put, and the text leaves whenever the lent buffer has
 // no room for a line, so that nothing grows with the repeats.
+use print_lines::put_fault;
 use print_lines::put_field;
 use print_lines::put_four;
-use print_lines::put_refusal;
 use repeat_planner::BodyPlanned;
 use rules::Body;
 use text::put_byte;
@@ -127,7 +127,7 @@ pub fn begin(
     let planned = repeat_planner::plan(image, repeats, order, summaries, worst);
     let refusal = planned.refusal;
     if refusal.number != 0 {
-        let at = put_refusal(out, 0, refusal.number);
+        let at = put_fault(out, 0, refusal);
         return Begun { planned, at };
     }
     let body = planned.body;

@@ -7,6 +7,7 @@ use native.Mathlib.Decide.{decLt}
 use native.Mathlib.Omega.{arith}
 use Rattle.rules.specs.Words.{Some}
 use Rattle.rules.specs.Image.{Profile}
+use Rattle.rules.specs.Numbers.{most-actions}
 use Rattle.rules.specs.Refusals.{LowestFault, Range, LongTime, WriteRange, Falls, RowBreaks}
 
 -- ---- the lowest action at fault
@@ -30,6 +31,32 @@ module _ {Fault : ℕ → Type 0} where
       below : (a : ℕ) → Fault a → Dec (r < n) → a < n → r < n
       below a h (yes l) m = l
       below a h (no l) m = absurd (x .before a (omega arith) h)
+
+  -- there is one lowest
+  pub lowest-one : {n r t : ℕ} → LowestFault Fault n r → LowestFault Fault n t → r ≡ t
+  lowest-one {n} {r} {t} x y = omega (arith, not-below x y, not-below y x)
+    where
+      not-below : {r t : ℕ} → LowestFault Fault n r → LowestFault Fault n t → t ≤ r
+      not-below {r} {t} x y = by (decLt r t)
+        where
+          by : Dec (r < t) → t ≤ r
+          by (yes l) = absurd (y .before r l (x .fault (omega (arith, y .most))))
+          by (no l) = omega arith
+
+  -- As a refusal names it, which knows no n: the lowest action below n at fault, 64 if none is.
+  pub named-below : {n r : ℕ} → n ≤ most-actions → LowestFault Fault n r → r < n → LowestFault (λ a. (a < n) × Fault a) most-actions r
+  named-below few x l = record { most = omega arith; fault = λ m. (l, x .fault l); before = λ a m h. x .before a m (h .1) }
+
+  pub named-none : {n r : ℕ} → LowestFault Fault n r → n ≤ r → LowestFault (λ a. (a < n) × Fault a) most-actions most-actions
+  named-none x l = record { most = le-refl _; fault = λ m. absurd (omega arith); before = λ a m h. x .before a (omega (arith, h .0)) (h .1) }
+
+-- where the same actions are at fault
+pub lowest-alike : {Fault Fault′ : ℕ → Type 0} {n r : ℕ} → ((a : ℕ) → a < n → Fault a ↔ Fault′ a) → LowestFault Fault n r → LowestFault Fault′ n r
+lowest-alike same x = record {
+  most = x .most;
+  fault = λ l. same _ l .0 (x .fault l);
+  before = λ a l h. x .before a l (same a (omega (arith, x .most)) .1 h);
+}
 
 -- what it says where the lowest one is not below n
 pub no-fault : {P : Type 0} {n r : ℕ} → (r < n) ↔ P → n ≤ r → P → ⊥

@@ -10,22 +10,53 @@ use Rattle.rules.specs.Numbers.{most-actions, most-levels, last-clock, l
 use Rattle.rules.specs.Words.{Some}
 use Rattle.rules.specs.Image.{Profile, has, version, header-spare, spare-of, image-bytes, profile}
 use Rattle.rules.specs.Order.{OnLoop, Before, Fit}
+use Rattle.rules.specs.declared.Fault.{Fault}
+
+-- ---- the action at fault
+
+-- r is the lowest action below n at fault, n if none is.
+pub record LowestFault (Faulty : ℕ → Type 0) (n r : ℕ) : Type 0 where
+  pub most : r ≤ n
+  pub fault : r < n → Faulty r
+  pub before : (a : ℕ) → a < r → Faulty a → ⊥
 
 -- ---- in which order
 
--- A number with what it is given for.
+-- A number with what it is given for, and the actions that are at fault for it.
 pub record Ground : Type 1 where
   pub number : ℕ
   pub holds : Type 0
+  pub at-fault : ℕ → Type 0
 
+-- Given for something that no action is at fault for,
 infix 70 _when_
 abbrev pub _when_ : ℕ → Type 0 → Ground
-k when A = record { number = k; holds = A }
+k when A = record { number = k; holds = A; at-fault = λ a. ⊥ }
+
+-- where some action below n is at fault,
+infix 70 _blames_below_
+abbrev pub _blames_below_ : ℕ → (ℕ → Type 0) → ℕ → Ground
+k blames Faulty below n = record { number = k; holds = Some Faulty n; at-fault = λ a. (a < n) × Faulty a }
+
+-- or for something else besides.
+infix 69 _or-when_
+abbrev pub _or-when_ : Ground → Type 0 → Ground
+g or-when A = record { number = g .number; holds = A ⊎ g .holds; at-fault = g .at-fault }
 
 -- k is the number of the first ground in the row that holds, 0 where none does.
 abbrev pub First : List Ground → ℕ → Type 0
 First [] k = k ≡ 0
 First (g ∷ row) k = (g .holds × (k ≡ g .number)) ⊎ ((g .holds → ⊥) × First row k)
+
+-- a is the lowest action at fault for it, 64 where none is: with a ground that no action is at fault for, and where none holds.
+abbrev pub AtFault : List Ground → ℕ → Type 0
+AtFault [] a = a ≡ most-actions
+AtFault (g ∷ row) a = (g .holds × LowestFault (g .at-fault) most-actions a) ⊎ ((g .holds → ⊥) × AtFault row a)
+
+-- What a call on an image, and writing, answer of a refusal: both.
+pub record Refuses (row : List Ground) (f : Fault) : Type 0 where
+  pub number : First row (f .number)
+  pub action : AtFault row (f .action)
 
 -- The same where each ground is a test.
 pub record Test : Type 0 where
@@ -39,14 +70,6 @@ k if b = record { number = k; fails = b }
 unfoldable pub first : List Test → ℕ
 first [] = 0
 first (t ∷ row) = cond (t .fails) (t .number) (first row)
-
--- ---- the action at fault
-
--- r is the lowest action below n at fault, n if none is.
-pub record LowestFault (Fault : ℕ → Type 0) (n r : ℕ) : Type 0 where
-  pub most : r ≤ n
-  pub fault : r < n → Fault r
-  pub before : (a : ℕ) → a < r → Fault a → ⊥
 
 -- ---- given exactly when, of a profile: of an action, and so of the profile where some action is at fault
 
@@ -130,10 +153,10 @@ loop-checks s =
     ∷ refused-version when Version s
     ∷ refused-count when Count (profile s)
     ∷ refused-length when Length s
-    ∷ refused-spare when Spare s
-    ∷ refused-range when Range (profile s)
-    ∷ refused-table when Table (profile s)
-    ∷ refused-loop when Looped (profile s)
+    ∷ refused-spare blames SpareFault s below profile s .n or-when (header-spare s ≢ 0)
+    ∷ refused-range blames RangeFault (profile s) below profile s .n
+    ∷ refused-table blames TableFault (profile s) below profile s .n
+    ∷ refused-loop blames LoopFault (profile s) below profile s .n
     ∷ []
 
 abbrev pub image-checks : List ℕ → List Ground
@@ -167,8 +190,8 @@ abbrev pub write-call : Profile → List (ℕ × ℕ) → List Ground
 write-call F rooms =
     refused-count when Count F
     ∷ refused-room when Tight rooms
-    ∷ refused-range when WriteRange F
-    ∷ refused-table when Table F
-    ∷ refused-loop when Looped F
+    ∷ refused-range blames WriteFault F below F .n
+    ∷ refused-table blames TableFault F below F .n
+    ∷ refused-loop blames LoopFault F below F .n
     ∷ refused-unfit when Unfit F
     ∷ []

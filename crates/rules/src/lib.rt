@@ -85,11 +85,21 @@ pub struct Body {
 
 // ---- refusals
 
-// What every call answers of a refusal: its number, 0 for none.
+// What a call answers of a refusal: its number, 0 for none.
 #[repr(C)]
 pub struct Refusal {
     pub number: u32,
 }
+
+// What a call that takes an image, or writes one, answers of it: with 5 to 8 also the lowest action at fault.
+#[repr(C)]
+pub struct Fault {
+    pub number: u32,
+    pub action: u32,
+}
+
+// The action where none is at fault: the number after the last that an action can have.
+pub const NO_ACTION: u32 = 64;
 
 pub const REFUSED_SHORT: u32 = 1;
 

@@ -9,14 +9,14 @@ use native.Mathlib.Omega.{arith}
 use lib.Dec.{lit<}
 use lib.IntN.{pos, _-ℤ_}
 use lib.ListN.{getD}
-use Rattle.rules.specs.Numbers.{last-clock}
+use Rattle.rules.specs.Numbers.{most-actions, last-clock}
 use Rattle.rules.specs.Image.{due, profile}
-use Rattle.rules.specs.Refusals.{First, image-checks}
+use Rattle.rules.specs.Refusals.{First, Refuses, image-checks}
 use Rattle.rules.specs.Speed.{reading-by, speed-call}
 use Rattle.rules.proofs.Differences.{not-above}
-use Rattle.rules.proofs.Refusals.{Sound, first-one, first-none, first-stops, first-goes-on, image-numbered, accepted-parts}
+use Rattle.rules.proofs.Refusals.{Sound, first-none, blameless, refuses-one, refuses-stops, refuses-goes-on, image-numbered, accepted-parts}
 use Rattle.rules.proofs.Order.OfProfile.{order-settled}
-use Rattle.rules.specs.declared.Refusal.{Refusal}
+use Rattle.rules.specs.declared.Fault.{Fault}
 use Rattle.image_check.specs.declared.Checked.{Checked}
 use Rattle.image_check.specs.Checks.{Judged}
 use Rattle.image_fields.proofs.Reading.{has-record}
@@ -59,20 +59,24 @@ read-range s i k q t none = elim (accepted-parts s (own-checks (profile s .n) (p
 
 -- ---- a refusal
 
-pub refused-reads : {s : List ℕ} {i k q t : ℕ} {f : Refusal} → First (speed-call s i k q t) (f .number) → f .number ≢ 0 → ReadsSpeed s i k q t (Refused f)
-refused-reads {f = f} p some = record { number = f .number; given = p; refused = λ _. refl; read = λ e. absurd (some e) }
+pub refused-reads : {s : List ℕ} {i k q t : ℕ} {f : Fault} → Refuses (speed-call s i k q t) f → f .number ≢ 0 → ReadsSpeed s i k q t (Refused f)
+refused-reads {f = f} p some = record { refusal = f; given = p; refused = λ _. refl; read = λ e. absurd (some e) }
 
-pub image-refused : (s : List ℕ) (i k q t : ℕ) {f : Refusal} → First (image-checks s) (f .number) → f .number ≢ 0 → ReadsSpeed s i k q t (Refused f)
-image-refused s i k q t p some = refused-reads (first-stops (image-checks s) (own-checks (profile s .n) (profile s .levels) i k q t) _ p some) some
+pub image-refused : (s : List ℕ) (i k q t : ℕ) {f : Fault} → Refuses (image-checks s) f → f .number ≢ 0 → ReadsSpeed s i k q t (Refused f)
+image-refused s i k q t {f} p some =
+    refused-reads (refuses-stops (image-checks s) (own-checks (profile s .n) (profile s .levels) i k q t) f p some) some
 
 -- ---- an accepted image
 
 module _ {s : List ℕ} {c : Checked} (judged : Judged s c) (none : c .refusal .number ≡ 0) where
-  pub own-given : (i k q t m : ℕ) → First (own-checks (c .n) (c .levels) i k q t) m → First (speed-call s i k q t) m
+  -- 18 and 13 blame no action
+  pub own-given : (i k q t m : ℕ) → First (own-checks (c .n) (c .levels) i k q t) m
+      → Refuses (speed-call s i k q t) (record { number = m; action = most-actions })
   own-given i k q t m p =
       let found = judged .accepted none in
-      first-goes-on (image-checks s) (own-checks (profile s .n) (profile s .levels) i k q t) m (image-numbered s)
-      (rw none at (judged .number)) (rw (found .n, found .levels) at p)
+      let own = own-checks (profile s .n) (profile s .levels) i k q t in
+      refuses-goes-on (image-checks s) own _ (image-numbered s) (rw none at (judged .number))
+      (blameless own m ((λ a z. z), ((λ a z. z), tt)) (rw (found .n, found .levels) at p))
 
   module _ {i k q t : ℕ} (own : First (own-checks (c .n) (c .levels) i k q t) 0) where
     pub range : InRange (c .n) (c .levels) i k q t
@@ -100,7 +104,7 @@ module _ {s : List ℕ} {c : Checked} (judged : Judged s c) (none : c .refusal .
         let (o, the, lists) = found .order in
         let same = same-actions (profile s) (λ p. getD (c .order) p 0) (o .at) k q (λ p l. lists p (omega (arith, range .position, found .n))) in
         record {
-          number = 0;
+          refusal = record { number = 0; action = most-actions };
           given = own-given i k q t 0 own;
           refused = λ some. absurd (some refl);
           read = λ _. (
@@ -114,16 +118,19 @@ module _ {s : List ℕ} {c : Checked} (judged : Judged s c) (none : c .refusal .
 
 -- The contract settles the answer.
 pub reads-settled : {s : List ℕ} {i k q t : ℕ} (r r′ : Reading) → ReadsSpeed s i k q t r → ReadsSpeed s i k q t r′ → r ≡ r′
-reads-settled {s} {i} {k} {q} {t} r r′ x y = reading-one r r′ (go (ℕ-discrete (x .number) 0))
+reads-settled {s} {i} {k} {q} {t} r r′ x y = reading-one r r′ (go (ℕ-discrete (x .refusal .number) 0))
   where
-    one : x .number ≡ y .number
-    one = first-one (speed-call s i k q t) (x .number) (y .number) (x .given) (y .given)
+    one : x .refusal ≡ y .refusal
+    one = refuses-one (speed-call s i k q t) (x .refusal) (y .refusal) (x .given) (y .given)
 
-    go : Dec (x .number ≡ 0) → reading-of r ≡ reading-of r′
-    go (no some) = x .refused some ∙ ap refuses one ∙ sym (y .refused (λ e. some (one ∙ e)))
+    number : x .refusal .number ≡ y .refusal .number
+    number = ap (λ (f : Fault). f .number) one
+
+    go : Dec (x .refusal .number ≡ 0) → reading-of r ≡ reading-of r′
+    go (no some) = x .refused some ∙ ap refuses one ∙ sym (y .refused (λ e. some (number ∙ e)))
     go (yes none) =
-        let range = read-range s i k q t (rw none at (x .given)) .1 in
+        let range = read-range s i k q t (rw none at (x .given .number)) .1 in
         let (o, the, is) = x .read none in
-        let (p, the′, is′) = y .read (sym one ∙ none) in
+        let (p, the′, is′) = y .read (sym number ∙ none) in
         let same = same-actions (profile s) (o .at) (p .at) k q (λ j l. order-settled the the′ j (omega (arith, range .position))) in
         is ∙ ap gives (reading-same same i t (range .ordered)) ∙ sym is′

@@ -17,7 +17,7 @@ use Rattle.rules.proofs.Refusals.{first-one}
 use Rattle.rules.proofs.Order.OfProfile.{order-settled}
 use Rattle.rules.proofs.Tests.{passed, pass, true-or-false}
 use Rattle.rules.proofs.Speed.Reading.{Exact, reading-spent, image-exact}
-use Rattle.rules.specs.declared.Refusal.{Refusal}
+use Rattle.rules.specs.declared.Fault.{Fault}
 use Rattle.speed_stretch.specs.declared.Reading.the-variants.{Ratio, Spent, Refused}
 use Rattle.speed_stretch.specs.Answer.{gives, refuses}
 use Rattle.speed.specs.Speed.{ReadsSpeed, Tells}
@@ -26,7 +26,7 @@ use Rattle.speed.proofs.Listed.{Bytes}
 use Rattle.speed.proofs.Answers.{read-range}
 
 -- a reading is not a refusal
-gives-not : {x : _} {m : ℕ} → gives x ≡ refuses m → ⊥
+gives-not : {x : _} {f : Fault} → gives x ≡ refuses f → ⊥
 gives-not e = let z : _≡_ {A = ℕ} 0 1 = cc in omega arith
 
 above? : (z : ℤ) → (pos 0 <ℤ z) ⊎ (z ≤ℤ pos 0)
@@ -46,11 +46,11 @@ pub record ExactRatio (s : List ℕ) (i k q t : ℕ) (x : Float) : Type 0 where
 
 module _ {s : List ℕ} {i k q t : ℕ} where
   -- what is answered without a refusal is so by its number
-  ratio-none : {v : Float} (x : ReadsSpeed s i k q t (Ratio v)) → x .number ≡ 0
-  ratio-none x = elim (ℕ-discrete (x .number) 0) [ yes e ↦ e | no some ↦ absurd (gives-not (x .refused some)) ]
+  ratio-none : {v : Float} (x : ReadsSpeed s i k q t (Ratio v)) → x .refusal .number ≡ 0
+  ratio-none x = elim (ℕ-discrete (x .refusal .number) 0) [ yes e ↦ e | no some ↦ absurd (gives-not (x .refused some)) ]
 
-  spent-none : (x : ReadsSpeed s i k q t Spent) → x .number ≡ 0
-  spent-none x = elim (ℕ-discrete (x .number) 0) [ yes e ↦ e | no some ↦ absurd (gives-not (x .refused some)) ]
+  spent-none : (x : ReadsSpeed s i k q t Spent) → x .refusal .number ≡ 0
+  spent-none x = elim (ℕ-discrete (x .refusal .number) 0) [ yes e ↦ e | no some ↦ absurd (gives-not (x .refused some)) ]
 
   -- Of a ratio that the call answers: the theorem of the rules, for the image's own tables.
   pub reads-exact : {v : Float} → Bytes s → ReadsSpeed s i k q t (Ratio v) → ExactRatio s i k q t v
@@ -69,7 +69,7 @@ module _ {s : List ℕ} {i k q t : ℕ} where
 
       by : (pos 0 <ℤ room (tables (profile s) o) i k q t) ⊎ (room (tables (profile s) o) i k q t ≤ℤ pos 0) → ExactRatio s i k q t v
       by (inl above) =
-          let (sound, range) = read-range s i k q t (rw (ratio-none x) at (x .given)) in
+          let (sound, range) = read-range s i k q t (rw (ratio-none x) at (x .given .number)) in
           exact (image-exact s byte sound o i k q t (range .position) (range .level) above) above
       by (inr below) =
           let none = reading-spent (tables (profile s) o) i k q t .1 below in
@@ -91,8 +91,8 @@ module _ {s : List ℕ} {i k q t : ℕ} where
       let r = reads-exact byte x in
       let test = e ∙ r .exact in
       record {
-        number = x .number;
-        given = x .given;
+        number = x .refusal .number;
+        given = x .given .number;
         refused = λ some. absurd (some (ratio-none x));
         read = λ _. (r .o, r .the-order, ((λ y. (r .above, leZ-yes (pass _ (sym test ∙ y)))), (λ w. test ∙ passed _ (w .1 .le))));
       }
@@ -101,16 +101,16 @@ module _ {s : List ℕ} {i k q t : ℕ} where
   spent-tells x =
       let (o, the, below) = reads-spent x in
       record {
-        number = x .number;
-        given = x .given;
+        number = x .refusal .number;
+        given = x .given .number;
         refused = λ _. refl;
         read = λ _. (o, the, ((λ e. absurd (false≢true e)), (λ w. clashℤ (w .0) below)));
       }
 
-  pub refused-tells : {f : Refusal} → ReadsSpeed s i k q t (Refused f) → Tells s i k q t false
+  pub refused-tells : {f : Fault} → ReadsSpeed s i k q t (Refused f) → Tells s i k q t false
   refused-tells x = record {
-    number = x .number;
-    given = x .given;
+    number = x .refusal .number;
+    given = x .given .number;
     refused = λ _. refl;
     read = λ none. absurd (gives-not (sym (x .read none .2)));
   }

@@ -11,19 +11,20 @@ use Rattle.rules.specs.Numbers.{most-actions, last-clock, refused-clock, refuse
 use Rattle.rules.specs.Image.{Profile, due, profile}
 use Rattle.rules.specs.Order.{Order, TheOrder}
 use Rattle.rules.specs.Limits.{Tables, tables, mixed}
-use Rattle.rules.specs.Refusals.{Ground, _when_, First}
+use Rattle.rules.specs.Refusals.{Ground, _when_, First, Refuses}
+use Rattle.rules.specs.declared.Fault.{Fault}
 use Rattle.rules.specs.Speed.{room, reading, speed-call}
 use Rattle.speed_stretch.specs.declared.Reading.{Reading}
 use Rattle.speed_stretch.specs.Answer.{gives, refuses, reading-of}
 use Rattle.image_fields.specs.Reading.{HasRecord}
 
--- r answers the speed reading of positions first to last at the level and time t: the first number of refusal that is given, or the reading
--- by the profile's order.
+-- r answers the speed reading of positions first to last at the level and time t: the first refusal that is given, or the reading by the
+-- profile's order.
 pub record ReadsSpeed (s : List ℕ) (first last level t : ℕ) (r : Reading) : Type 0 where
-  pub number : ℕ
-  pub given : First (speed-call s first last level t) number
-  pub refused : number ≢ 0 → reading-of r ≡ refuses number
-  pub read : number ≡ 0
+  pub refusal : Fault
+  pub given : Refuses (speed-call s first last level t) refusal
+  pub refused : refusal .number ≢ 0 → reading-of r ≡ refuses refusal
+  pub read : refusal .number ≡ 0
       → (o : Order (profile s .n)) × TheOrder (profile s) o × (reading-of r ≡ gives (reading (tables (profile s) o) first last level t))
 
 -- room is above 0, and t is at most deadline (k) - mixed (i, k, q)

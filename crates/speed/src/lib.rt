@@ -1,6 +1,7 @@
 // The speed reading of an image: how fast positions in a row must run at a level to end in time.
 use image_check::whole;
 use image_fields::read;
+use rules::Fault;
 use rules::Refusal;
 use speed_stretch::Reading;
 use speed_stretch::Stretch;
@@ -82,7 +83,10 @@ pub fn speed_reading(image: &[u8], first: usize, last: usize, level: usize, t: u
     let levels = checked.levels;
     let own = own_refusal(checked.n, levels, first, last, level, t);
     if own.number != 0 {
-        return Reading::Refused(own);
+        return Reading::Refused(Fault {
+            number: own.number,
+            action: rules::NO_ACTION,
+        });
     }
     let actions = checked.order;
     let s = stretch(image, levels, &actions, first, last, level);

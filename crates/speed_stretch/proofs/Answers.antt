@@ -1,5 +1,4 @@
 -- What is answered settles the answer. Assumes nothing.
-use Prim.Native.Nat.{ℕ}
 use mathlib.Core.Path.{_≡_, refl, ap}
 use Rattle.speed_stretch.specs.Answer.{reading-of}
 use Rattle.speed_stretch.specs.declared.Reading.{Reading}
@@ -14,4 +13,4 @@ reading-one Spent Spent h = refl
 reading-one Spent (Refused m) h = cc
 reading-one (Refused k) (Ratio y) h = cc
 reading-one (Refused k) Spent h = cc
-reading-one (Refused k) (Refused m) h = let same : k .number ≡ m .number = cc in ap (λ (number : ℕ). Refused (record { number = number })) same
+reading-one (Refused k) (Refused m) h = let same : k ≡ m = cc in ap Refused same

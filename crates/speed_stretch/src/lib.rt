@@ -1,5 +1,5 @@
 // The speed reading's arithmetic: average and margin of a stretch of positions, and the ratio of average and room.
-use rules::Refusal;
+use rules::Fault;
 ghost use mathlib.Core.Path.{_≡_};
 ghost use Prim.Native.Nat.{_+_, _≤_, _<_};
 ghost use lib.IntN.{pos, _-ℤ_};
@@ -11,7 +11,7 @@ ghost use Rattle.speed_stretch.specs.Stretch.{NoStretch, Lengthens, Smal
 pub enum Reading {
     Ratio(f64),
     Spent,
-    Refused(Refusal),
+    Refused(Fault),
 }
 
 // Of some positions in a row, at one level: the sum of their averages, the sum of their worst times at level 0, and their margin.

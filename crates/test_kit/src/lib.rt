@@ -1,6 +1,7 @@
 // What the programs that run under the gate share: sample images, the files and the numbers of a case, and lines on standard output. A case is
 // files of one number, or a line of text, told again with what came of it. No contract of `io` can say which bytes a write takes, so what only
 // writes promises only that it ends: what a program wrote is compared with its file `stdout`.
+use rules::Fault;
 use text::put_bytes;
 ghost use Prim.Native.Nat.{ℕ, _+_, _≤_, _<_, min};
 ghost use mathlib.Core.Path.{_≡_};
@@ -115,6 +116,14 @@ pub fn say(words: &[u8], row: &[u32]) {
 pub fn say_number(words: &[u8], n: u32) {
     io::write_all(1, words);
     io::print_decimal(1, n as u64);
+}
+
+// The words, and the refusal of an image: its number, with 5 to 8 the action at fault too.
+pub fn say_fault(words: &[u8], fault: Fault) {
+    say_number(words, fault.number);
+    if (rules::REFUSED_SPARE <= fault.number) & (fault.number <= rules::REFUSED_LOOP) {
+        say_number(b" ", fault.action);
+    }
 }
 
 pub fn say_count(words: &[u8], n: usize) {

@@ -4,7 +4,7 @@ use profile::Unpacked;
 use test_kit::count;
 use test_kit::part;
 use test_kit::say;
-use test_kit::say_number;
+use test_kit::say_fault;
 
 // A case begins with the letter of its call; what begins with none is a heading.
 pub fn tell(line: &[u8]) {
@@ -26,7 +26,7 @@ pub fn tell(line: &[u8]) {
 fn tell_check(row: [u32; 24]) {
     let image = one_but(row[1], row[2]);
     let bytes = part(row[0], 24);
-    say_number(b": ", profile::check(&image[0..bytes]).number);
+    say_fault(b": ", profile::check(&image[0..bytes]));
 }
 
 fn one_but(at: u32, byte: u32) -> [u8; 24] {
@@ -43,7 +43,7 @@ fn one_but(at: u32, byte: u32) -> [u8; 24] {
 fn tell_lookup(row: [u32; 24]) {
     let image = test_kit::samples::one();
     let action = count(row[0]);
-    say_number(b": ", profile::lookup_refusal(&image, action).number);
+    say_fault(b": ", profile::lookup_refusal(&image, action));
     test_kit::say_count(b", bytes ", profile::lookup(&image, action).len());
 }
 
@@ -67,7 +67,7 @@ fn tell_read(row: [u32; 24]) {
         &mut averages[0..c],
         &mut worst[0..d],
     );
-    say_number(b": ", read.refusal.number);
+    say_fault(b": ", read.refusal);
     say_tables(masks, deadlines, averages, worst);
     say_back(read, &masks, &deadlines, &averages, &worst);
 }
@@ -105,7 +105,7 @@ fn say_back(
         worst,
         &mut image,
     );
-    say_number(b", back ", written.refusal.number);
+    say_fault(b", back ", written.refusal);
     let same = check::same(&image, &test_kit::samples::three());
     test_kit::say_whether(same, b", the same", b", another");
 }
@@ -127,7 +127,7 @@ fn tell_write(row: [u32; 24]) {
         &[row[6]],
         &mut image[0..room],
     );
-    say_number(b": ", written.refusal.number);
+    say_fault(b": ", written.refusal);
     say_written(image, written.bytes);
 }
 

@@ -7,6 +7,7 @@ use test_kit::count;
 use test_kit::part;
 use test_kit::say;
 use test_kit::say_count;
+use test_kit::say_fault;
 use test_kit::say_number;
 ghost use Prim.Native.Nat.{_<_};
 ghost use mathlib.Core.Path.{_≡_};
@@ -63,7 +64,7 @@ fn open(image: &[u8], row: [u32; 24]) {
 }
 
 fn say_opened(opened: Opened) {
-    say_number(b": refusal ", opened.refusal.number);
+    say_fault(b": refusal ", opened.refusal);
     say_count(b", n ", opened.n);
     say_count(b", levels ", opened.levels);
     say_count(b", a frame of ", opened.frame_bytes);

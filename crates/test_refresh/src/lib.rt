@@ -62,7 +62,7 @@ fn refreshed(image: &[u8], trace: &[u8], room: u32) {
     let mut out = [0xa5u8; 80];
     let lent = part(room, 80);
     let answer = refresh::refresh(image, trace, &mut out[0..lent]);
-    test_kit::say_number(b": refusal ", answer.refusal.number);
+    test_kit::say_fault(b": refusal ", answer.refusal);
     say_written(image, out, answer.bytes);
 }
 

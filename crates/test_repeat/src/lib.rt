@@ -6,6 +6,7 @@ use rules::Body;
 use test_kit::count;
 use test_kit::part;
 use test_kit::say;
+use test_kit::say_fault;
 use test_kit::say_number;
 
 // What begins with `limit` or `bound` asks for one; any other case begins with the name of its profile, and is planned.
@@ -78,9 +79,8 @@ fn say_tables(order: &[u8; 4], summaries: &[u32; 25], worst: &[u32; 7]) {
 }
 
 fn say_planned(planned: BodyPlanned) {
-    let refusal = planned.refusal;
     let body = planned.body;
-    say_number(b": refusal ", refusal.number);
+    say_fault(b": refusal ", planned.refusal);
     say(
         b", n _, levels _, cycle _, repeats _",
         &[body.n, body.levels, body.cycle, body.repeats],

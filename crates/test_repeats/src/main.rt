@@ -174,7 +174,7 @@ fn dry_text(image: &[u8], repeats: u32, bytes: &[u8], out: &mut [u8]) -> usize
     );
     let refusal = framed.refusal;
     if refusal.number != 0 {
-        return print_lines::put_refusal(out, 0, refusal.number);
+        return print_lines::put_fault(out, 0, refusal);
     }
     let positions = framed.positions as usize;
     if repeats < 1 {

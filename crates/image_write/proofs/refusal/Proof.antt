@@ -1,15 +1,17 @@
 -- Each test settles a ground of the row, in the row's order. Assumes nothing.
 use Prim.Native.Nat.{ℕ, _^_, _≤_, _<_}
-use mathlib.Core.Path.{refl}
-use mathlib.Core.List.{List, [], _∷_}
+use mathlib.Core.List.{List, _∷_}
 use mathlib.Core.Logic.{_⊎_, inl, inr, ⊎-elim, _↔_}
 use native.Mathlib.Omega.{arith}
 use borrow.Author.Needs.{needs}
 use borrow.Author.Tests.{leb-true}
-use Rattle.rules.specs.Numbers.{refused-range, refused-table, refused-loop, refused-unfit}
+use Rattle.rules.specs.Numbers.{most-actions, refused-count, refused-range, refused-table, refused-room}
 use Rattle.rules.specs.Image.{Profile, ProfileTables, image-bytes, of-tables}
-use Rattle.rules.specs.Refusals.{_when_, First, Count, WriteFault, WriteRange, Table, Looped, Unfit, Tight, write-call}
+use Rattle.rules.specs.Refusals.{LowestFault, Ground, _blames_below_, Refuses, Count, WriteFault, WriteRange, TableFault, Table, Tight, write-call}
+use Rattle.rules.specs.declared.Fault.{Fault}
 use Rattle.rules.proofs.Faults.{some-fault, no-fault}
+use Rattle.rules.proofs.Refusals.{refuses-when, refuses-on, refuses-blamed}
+use Rattle.order.specs.Judged.{order-checks}
 use Rattle.image_fields.proofs.Faults.{denied}
 use Rattle.image_pack.specs.Packing.{Roomy}
 use Rattle.image_write.specs.Writing.{table-rooms, write-rooms}
@@ -42,8 +44,12 @@ Rooms s =
     let x = s .args in
     write-rooms (x .n) (x .levels) (T s) (x .room)
 
-abbrev Rest : tie.Start → ℕ → Type 0
-Rest s k = First (refused-range when WriteRange (F s) ∷ refused-table when Table (F s) ∷ refused-loop when Looped (F s) ∷ refused-unfit when Unfit (F s) ∷ []) k
+abbrev rest-row : tie.Start → List Ground
+rest-row s =
+    let G = F s in
+    refused-range blames WriteFault G below G .n
+    ∷ refused-table blames TableFault G below G .n
+    ∷ order-checks G
 
 -- a table is too short, or the image
 tight-says : (s : tie.Start) → (Tight (Tables s) ⊎ Short s) ↔ Tight (Rooms s)
@@ -84,8 +90,8 @@ not-7 : (c : tie.Else5) → Table (F (past-6 (c .before))) → ⊥
 unfolding of-tables
 not-7 c = no-fault (some-fault (c .before .before .before .table .ensures)) (c .if5 .left)
 
-rest : (c : tie.Else3) (k : ℕ) → Rest (past-17 c) k → First (write-call (F (past-17 c)) (Rooms (past-17 c))) k
-rest c k p = inr (not-3 (c .before .before .before .before), inr (not-17 c, p))
+rest : (c : tie.Else3) (f : Fault) → Refuses (rest-row (past-17 c)) f → Refuses (write-call (F (past-17 c)) (Rooms (past-17 c))) f
+rest c f p = refuses-on (not-3 (c .before .before .before .before)) (refuses-on (not-17 c) p)
 
 counts : (c : tie.Else1) → let x = past-3 c .args in (x .n ≤ 64) × (1 ≤ x .levels) × (x .levels ≤ 8) × (x .cycle < 2 ^ 30)
 unfolding of-tables
@@ -100,13 +106,15 @@ room c =
 
 returns : tie.Need-returns
 unfolding of-tables
-returns c = inl (c .before .count-out .ensures .0 (c .if1 .taken), refl)
+returns c = refuses-when refused-count (c .before .count-out .ensures .0 (c .if1 .taken))
 
 tight-requires : tie.Need-tight-requires
 tight-requires c κs = (counts c .0, counts c .2)
 
 returns-2 : tie.Need-returns-2
-returns-2 c = inr (not-3 (c .before .before), inl (tight-says (past-3 (c .before .before)) .0 (inl (c .before .tight .ensures .0 (c .if2 .taken))), refl))
+returns-2 c =
+    let e = c .before .before in
+    refuses-on (not-3 e) (refuses-when refused-room (tight-says (past-3 e) .0 (inl (c .before .tight .ensures .0 (c .if2 .taken)))))
 
 image-bytes-requires : tie.Need-image-bytes-requires
 image-bytes-requires c κs =
@@ -117,7 +125,7 @@ returns-3 : tie.Need-returns-3
 returns-3 c =
     let e = c .before .before .before .before in
     let short : Short (past-3 e) = omega (arith, c .before .image-bytes .ensures) in
-    inr (not-3 e, inl (tight-says (past-3 e) .0 (inr short), refl))
+    refuses-on (not-3 e) (refuses-when refused-room (tight-says (past-3 e) .0 (inr short)))
 
 table-requires : tie.Need-table-requires
 table-requires c κs =
@@ -129,17 +137,42 @@ range-requires c κs =
     let k = counts (c .before .before .before .before .before) in
     ((room (c .before), k .1), λ e a h f. no-fault (some-fault (c .table .ensures)) (leb-true _ _ e) (a, h, f))
 
+-- the lowest action at fault for 6, and for 7
+range-low : (c : tie.After-range) → let G = F (past-17 (c .before .before)) in LowestFault (WriteFault G) (G .n) (c .range .result)
+unfolding of-tables
+range-low c = c .range .ensures
+
+table-low : (c : tie.After-table) → let G = F (past-17 (c .before)) in LowestFault (TableFault G) (G .n) (c .table .result)
+unfolding of-tables
+table-low c = c .table .ensures
+
+few : (c : tie.Else3) → F (past-17 c) .n ≤ most-actions
+unfolding of-tables
+few c = counts (c .before .before .before .before) .0
+
+-- an action is below 64
+cast-out : tie.Need-cast-t16
+cast-out c =
+    let found = c .before in
+    let tables = found .before in
+    omega (arith, counts (tables .before .before .before .before .before) .0, found .range .ensures .most, tables .table .ensures .most)
+
+cast-fallen : tie.Need-cast-t17
+cast-fallen c = omega (arith, counts (c .before .before .before .before .before .before .before .before) .0, c .if5 .taken)
+
 returns-4 : tie.Need-returns-4
 unfolding of-tables
 returns-4 c =
     let e = c .before .before .before in
-    rest e 6 (inl (some-fault (c .before .range .ensures) .0 (c .if4 .taken), refl))
+    rest e _ (refuses-blamed refused-range (range-low (c .before)) (few e) (c .if4 .taken))
 
 returns-5 : tie.Need-returns-5
 unfolding of-tables
 returns-5 c =
-    rest (c .before .before .before .before) 7
-    (inr (not-6 (c .before), inl (some-fault (c .before .before .before .table .ensures) .0 (c .if5 .taken), refl)))
+    let six = c .before in
+    let e = six .before .before .before in
+    let seven = refuses-blamed refused-table (table-low (six .before .before)) (few e) (c .if5 .taken) in
+    rest e _ (refuses-on (not-6 six) seven)
 
 judge-requires : tie.Need-judge-requires
 judge-requires c κs =
@@ -150,10 +183,11 @@ judge-requires c κs =
 returns-6 : tie.Need-returns-6
 unfolding of-tables
 returns-6 c =
-    let e = c .before .before .before .before .before in
+    let seven = c .before .before in
+    let e = seven .before .before .before .before in
     let x = past-17 e .args in
-    let verdict = judged (x .n) (x .levels) (x .cycle) (T (past-17 e)) (c .judge .ensures) in
-    rest e _ (inr (not-6 (c .before .before), inr (not-7 (c .before), verdict .number)))
+    let verdict = judged (x .n) (x .levels) (x .cycle) (T (past-17 e)) (c .before .judge .ensures) in
+    rest e _ (refuses-on (not-6 (seven .before)) (refuses-on (not-7 seven) (verdict .given)))
 
 pub refusal-spec : {M : Type 1} → statement M
 refusal-spec =
@@ -167,7 +201,9 @@ refusal-spec =
     returns-3
     table-requires
     range-requires
+    cast-out
     returns-4
+    cast-fallen
     returns-5
     judge-requires
     returns-6)

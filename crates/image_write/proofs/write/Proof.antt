@@ -24,7 +24,7 @@ given : (c : tie.Else1)
     First (writing (x .n) (x .levels) (x .cycle) (T (past c)) (length (x .image .now))) 0
 given c =
     let none : c .before .before .refusal .result .number ≡ 0 = c .if1 .left in
-    rw none at (c .before .before .refusal .ensures)
+    rw none at (c .before .before .refusal .ensures .number)
 
 ready : (c : tie.Else1)
     → let x = past c .args in
@@ -53,7 +53,7 @@ returns-2 : tie.Need-returns-2
 returns-2 c =
     let one = c .before .before .before .before .before in
     let none = one .if1 .left in record {
-      given = rw none (given one);
+      given = one .before .before .refusal .ensures;
       written = rw none (c .before .before .before .put-image .ensures);
       count = rw none (c .image-bytes .ensures);
     }

@@ -15,8 +15,14 @@ known c =
     let s = c .before .before .before .before .args in
     ordered-timed (s .n) (s .cycle) (s .masks .now) (s .deadlines .now) (s .worst .now) (s .stride) (c .ordered .ensures)
 
+first-looped-requires : tie.Need-first-looped-requires
+first-looped-requires c κs = let pre = c .before .before .before .before .before .before .before .pre .0 in (pre .few, pre .long)
+
 returns : tie.Need-returns
-returns c = verdict-loop (known (c .before .before .before)) (c .if1 .taken)
+returns c =
+    let placed = c .before .before .before .before in
+    let few = placed .before .before .before .before .pre .0 .few in
+    verdict-loop (known placed) (c .before .if1 .taken) few (c .first-looped .ensures)
 
 fit-requires : tie.Need-fit-requires
 fit-requires c κs =
@@ -38,4 +44,13 @@ returns-3 c =
     verdict-unfit (known placed) (at .if1 .left) (c .before .fit .ensures masks) (c .if2 .left)
 
 pub judge-spec : {M : Type 1} → statement M
-judge-spec = tie.close (tie.spec (λ c κs. search needs) returns fit-requires returns-2 returns-3)
+judge-spec =
+    tie.close
+    (tie.spec
+    (λ c κs. search needs)
+    first-looped-requires
+    (λ c. search needs)
+    returns
+    fit-requires
+    returns-2
+    returns-3)

@@ -15,8 +15,8 @@ tight-requires c κs =
 
 returns-2 : tie.Need-returns-2
 returns-2 c =
-    let else1 = c .before in
-    room-judged (else1 .before .before .checked .ensures) _ (else1 .if1 .left) (c .tight .ensures)
+    let else1 = c .before .before in
+    room-judged (else1 .before .before .checked .ensures) _ (else1 .if1 .left) (c .before .tight .ensures)
 
 pub with-room-spec : {M : Type 1} → statement M
 with-room-spec = tie.close (tie.spec (λ c κs. search needs) returns tight-requires returns-2)

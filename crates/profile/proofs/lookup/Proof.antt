@@ -33,7 +33,7 @@ returns c =
     let whole = ptr (c .before .before .before .before .args .image) in
     let size : at .result .start + at .result .length - at .result .start ≡ at .result .length = omega arith in record {
       refusal = at .result .refusal .number;
-      given = at .ensures .given;
+      given = at .ensures .given .number;
       is = rw size (placed-part _ _ (at .ensures));
       lies = ap (λ (offset : ℕ). (whole .0, offset)) (add-comm _ _ ∙ ap (λ (from : ℕ). whole .1 + from) (at .ensures .start));
     }

@@ -21,7 +21,7 @@ given : (c : tie.Else1) → First (lookup-call (now (past c .args .image)) (past
 given c =
     let r = c .before .before .lookup-refusal in
     let none : r .result .number ≡ 0 = c .if1 .left in
-    rw none at (r .ensures)
+    rw none at (r .ensures .number)
 
 there : (c : tie.Else1) → Named (now (past c .args .image)) (past c .args .action)
 there c = named _ _ (given c)

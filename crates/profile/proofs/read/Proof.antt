@@ -5,15 +5,15 @@ use Prim.Native.Nat.{ℕ}
 use native.Mathlib.Omega.{arith}
 use denote.Ref.{now}
 use borrow.Author.Needs.{needs}
-use Rattle.rules.specs.Numbers.{refused-room}
+use Rattle.rules.specs.Numbers.{most-actions, refused-room}
 use Rattle.rules.specs.Image.{ProfileTables, profile}
-use Rattle.rules.specs.Refusals.{Ground, _when_, First, Tight, Accepted, image-call}
+use Rattle.rules.specs.Refusals.{Refuses, Tight, Accepted, image-call}
 use Rattle.image_check.specs.Checks.{Found}
 use Rattle.image_fields.specs.Reading.{HasRecords}
-use Rattle.image_check.proofs.Answers.{accepted-records}
+use Rattle.image_check.proofs.Answers.{judged-refusal, accepted-records}
 use Rattle.image_fields.proofs.Faults.{denied}
 use Rattle.image_write.specs.Writing.{table-rooms}
-use Rattle.profile.proofs.Answers.{image-refusal, own-refusal, no-refusal, judged-accepted, found-rooms, has-room, refused-reads, accepted-reads}
+use Rattle.profile.proofs.Answers.{image-refusal, own-refusal, none-refused, judged-accepted, found-rooms, has-room, refused-reads, accepted-reads}
 use Rattle.profile.proofs.read.Statement.{statement}
 use Rattle.profile.proofs.read.Tie as tie
 
@@ -32,8 +32,8 @@ abbrev Short : tie.After-checked → ℕ → ℕ → Type 0
 Short c n L =
     Tight (table-rooms n L (T (start c)))
 
-abbrev room : tie.After-checked → Ground
-room c = refused-room when Short c (profile (image c) .n) (profile (image c) .levels)
+abbrev Room : tie.After-checked → Type 0
+Room c = Short c (profile (image c) .n) (profile (image c) .levels)
 
 -- ---- past the test for the image's refusals
 
@@ -50,7 +50,7 @@ records : (c : tie.Else1) → HasRecords (image (past c)) (past c .checked .resu
 records c = accepted-records (past c .checked .ensures) (c .if1 .left)
 
 -- a slice is too short by the counts that the check answered exactly if it is by the profile's
-says : (c : tie.Else1) → let x = past c .checked .result in Short (past c) (x .n) (x .levels) ↔ room (past c) .holds
+says : (c : tie.Else1) → let x = past c .checked .result in Short (past c) (x .n) (x .levels) ↔ Room (past c)
 says c =
     found-rooms (T (start (past c))) (found c)
 
@@ -62,13 +62,15 @@ one c = c .before .before .before .before .before
 not-tight : (c : tie.Else2) → let p = past (one (c .before)) in Short p (p .checked .result .n) (p .checked .result .levels) → ⊥
 not-tight c = denied (c .before .tight .ensures) (c .if2 .left)
 
+-- neither the image's nor 17: the refusal is the check's, and names no action
 given : (c : tie.Else2)
     → let p = past (one (c .before)) in
     let F = profile (image p) in
-    First (image-call (image p) (table-rooms (F .n) (F .levels) (T (start p)))) 0
+    Refuses (image-call (image p) (table-rooms (F .n) (F .levels) (T (start p)))) (p .checked .result .refusal)
 given c =
     let e = one (c .before) in
-    no-refusal (image (past e)) (room (past e)) (accepted e) (λ h. not-tight c (says e .1 h))
+    let p = past e in
+    none-refused refused-room (Room p) (p .checked .ensures) (e .if1 .left) (λ h. not-tight c (says e .1 h))
 
 -- ---- the needs
 
@@ -76,7 +78,7 @@ returns : tie.Need-returns
 returns c =
     let p = c .before .before .before .before in
     let some = c .before .if1 .taken in
-    refused-reads (p .checked .result .refusal) (image-refusal (image p) (room p) _ (p .checked .ensures .number) some) some (c .refused .ensures)
+    refused-reads (p .checked .result .refusal) (image-refusal (image p) refused-room (Room p) _ (judged-refusal (p .checked .ensures)) some) some (c .refused .ensures)
 
 tight-requires : tie.Need-tight-requires
 tight-requires c κs =
@@ -88,7 +90,8 @@ returns-2 c =
     let t = c .before .before in
     let e = one t in
     let short = says e .0 (t .tight .ensures .0 (c .before .if2 .taken)) in
-    refused-reads (record { number = 17 }) (own-refusal (image (past e)) (room (past e)) (accepted e) short) (λ z. omega arith) (c .refused2 .ensures)
+    refused-reads (record { number = refused-room; action = most-actions }) (own-refusal (image (past e)) refused-room (Room (past e)) (accepted e) short)
+    (λ z. omega arith) (c .refused2 .ensures)
 
 unpack-requires : tie.Need-unpack-requires
 unpack-requires c κs =

@@ -5,7 +5,8 @@ use borrow.Author.Needs.{needs}
 use borrow.Author.Tests.{ne-eqb}
 use Rattle.rules.specs.Image.{profile}
 use Rattle.rules.specs.Refusals.{image-checks}
-use Rattle.rules.proofs.Refusals.{first-stops}
+use Rattle.rules.proofs.Refusals.{refuses-stops}
+use Rattle.image_check.proofs.Answers.{judged-refusal}
 use Rattle.refresh.specs.Refresh.{own-grounds}
 use Rattle.refresh.proofs.refresh.Statement.{statement}
 use Rattle.refresh.proofs.refresh.Tie as tie
@@ -17,7 +18,7 @@ returns c =
     let rest = own-grounds (profile s) (now (x .trace)) (length s) (length (now (x .out))) in
     let r = c .before .before .before .checked in
     let some = ne-eqb (r .result .refusal .number) 0 (c .if1 .taken) in
-    record { given = first-stops (image-checks s) rest _ (r .ensures .number) (c .if1 .taken); written = rw some; count = rw some }
+    record { given = refuses-stops (image-checks s) rest _ (judged-refusal (r .ensures)) (c .if1 .taken); written = rw some; count = rw some }
 
 refresh-accepted-requires : tie.Need-refresh-accepted-requires
 refresh-accepted-requires c κs =

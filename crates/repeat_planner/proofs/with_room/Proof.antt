@@ -6,7 +6,7 @@ use Rattle.repeat_planner.proofs.with_room.Statement.{statement}
 use Rattle.repeat_planner.proofs.with_room.Tie as tie
 
 returns : tie.Need-returns
-returns c = admits-stops (c .before .before .checked .ensures) _ (c .if1 .taken)
+returns c = admits-stops (c .before .before .checked .ensures) _ ((λ a z. z), tt) (c .if1 .taken)
 
 tight-requires : tie.Need-tight-requires
 tight-requires c κs =
@@ -15,11 +15,12 @@ tight-requires c κs =
 
 returns-2 : tie.Need-returns-2
 returns-2 c =
-    let else1 = c .before in
-    let a = c .before .before .before .before .before .before .before .before .args in
+    let else1 = c .before .before in
+    let a = else1 .before .before .before .before .before .before .before .args in
     let admits = else1 .before .before .checked .ensures in
     let lent : LentBody = record { order = a .order .now; summaries = a .summaries .now; worst = a .worst .now } in
-    admits-on admits _ (body-numbered (a .image .now) (a .repeats)) (else1 .if1 .left) (room-said admits lent (else1 .if1 .left) (c .tight .ensures))
+    admits-on admits _ ((λ a z. z), tt) (body-numbered (a .image .now) (a .repeats)) (else1 .if1 .left)
+    (room-said admits lent (else1 .if1 .left) (c .before .tight .ensures))
 
 pub with-room-spec : {M : Type 1} → statement M
 with-room-spec = tie.close (tie.spec (λ c κs. search needs) returns tight-requires returns-2)

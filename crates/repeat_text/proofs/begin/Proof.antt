@@ -13,7 +13,7 @@ returns c =
     let refused = put .before .before in
     let planned = refused .before .before .before .before .before .before .before .before .before in
     let some = refused .if1 .taken in
-    record { plans = planned .plan .ensures; lent = λ none. absurd (some none); text = put-as (kept-old _ _ _ some) (put .put-refusal .ensures) }
+    record { plans = planned .plan .ensures; lent = λ none. absurd (some none); text = put-as (kept-old _ _ _ some) (put .put-fault .ensures) }
 
 returns-2 : tie.Need-returns-2
 returns-2 c =

@@ -4,8 +4,8 @@ use mathlib.Core.Path.{_≡_, refl, sym, subst, _∙_}
 use mathlib.Core.Logic.{_⊎_, inl, inr, _↔_}
 use native.Mathlib.Omega.{arith}
 use Rattle.rules.specs.Image.{Profile, has, due}
-use Rattle.rules.specs.Order.{Order, Permitted, MustFollow, Loop, Urgency, Ready, ByUrgency, Meets, Before, TheOrder, FitFrom}
-use Rattle.rules.specs.Refusals.{Looped}
+use Rattle.rules.specs.Order.{Order, Permitted, MustFollow, OnLoop, Urgency, Ready, ByUrgency, Meets, Before, TheOrder, FitFrom}
+use Rattle.rules.specs.Refusals.{LoopFault, Looped}
 use Rattle.rules.proofs.Sums.{sum-same}
 use Rattle.rules.proofs.Order.Best.{follower-present}
 
@@ -19,9 +19,6 @@ module _ {n : ℕ} {before before′ : ℕ → ℕ → Type 0} (to : Within n be
   pub follow-more : {a b : ℕ} → a < n → MustFollow n before a b → MustFollow n before′ a b
   follow-more {a} {b} l (MustFollow.next m h) = MustFollow.next m (to a b l m h)
   follow-more {a} l (MustFollow.through {b = c} m h f) = MustFollow.through m (to a c l m h) (follow-more m f)
-
-  pub loop-more : Loop n before → Loop n before′
-  loop-more l = (l .0, l .1, follow-more (l .1) (l .2))
 
   pub permitted-less : (o : Order n) → Permitted before′ o → Permitted before o
   permitted-less o p b a l m h = p b a l m (to b a l m h)
@@ -80,8 +77,11 @@ module _ {F G : Profile} (x : Alike F G) where
   from : Within (F .n) (Before G) (Before F)
   from b a l m h = x .masks a b m l ∙ h
 
+  on-loop-to : (a : ℕ) → (a < F .n) × LoopFault F a → (a < G .n) × LoopFault G a
+  on-loop-to a (l, h) = subst (λ (m : ℕ). (a < m) × OnLoop m (Before G) a) (x .n) (l, follow-more to l h)
+
   looped-to : Looped F → Looped G
-  looped-to l = subst (λ (m : ℕ). Loop m (Before G)) (x .n) (loop-more to l)
+  looped-to (a, l, h) = let p = on-loop-to a (l, h) in (a, p .0, p .1)
 
   fit-to : (t : ℕ) → FitFrom t F → FitFrom t G
   fit-to t f = subst (λ (m : ℕ). (o : Order m) × Permitted (Before G) o × Meets t o (λ a. G .worst a 0) (due G)) (x .n) (
@@ -104,6 +104,10 @@ module _ {F G : Profile} (x : Alike F G) where
       ) in
       let s = subst (λ (m : ℕ). (p : Order m) × By m p × ((k : ℕ) → p .at k ≡ o .at k)) (x .n) (o, by, λ k. refl) in
       (s .0, record { urgency = s .1 .0; urgent = s .1 .1; by-urgency = s .1 .2 }, s .2)
+
+-- the same actions are on a loop
+pub on-loop-alike : {F G : Profile} → Alike F G → (a : ℕ) → ((a < F .n) × LoopFault F a) ↔ ((a < G .n) × LoopFault G a)
+on-loop-alike x a = (on-loop-to x a, on-loop-to (alike-back x) a)
 
 pub looped-alike : {F G : Profile} → Alike F G → Looped F ↔ Looped G
 looped-alike x = (looped-to x, looped-to (alike-back x))

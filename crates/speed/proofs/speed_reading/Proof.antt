@@ -1,15 +1,17 @@
 -- Assumes nothing.
+use native.Mathlib.Nat.{le-refl}
 use native.Mathlib.Omega.{arith}
 use borrow.Author.Needs.{needs}
 use denote.Ref.{now}
 use Rattle.rules.specs.Refusals.{First}
+use Rattle.image_check.proofs.Answers.{judged-refusal}
 use Rattle.speed.specs.Speed.{own-checks, Readable}
 use Rattle.speed.proofs.Answers.{image-refused, refused-reads, own-given, range, readable, read-reads}
 use Rattle.speed.proofs.speed_reading.Statement.{statement}
 use Rattle.speed.proofs.speed_reading.Tie as tie
 
 returns : tie.Need-returns
-returns c = image-refused _ _ _ _ _ (c .before .before .before .checked .ensures .number) (c .if1 .taken)
+returns c = image-refused _ _ _ _ _ (judged-refusal (c .before .before .before .checked .ensures)) (c .if1 .taken)
 
 returns-2 : tie.Need-returns-2
 returns-2 c =
@@ -30,6 +32,9 @@ stretch-requires c κs = can-read (c .before .before)
 
 array-read-due-at : tie.Need-array-read-due-at
 array-read-due-at c = let r = can-read (c .before .before .before) in omega (arith, r .few, r .ordered)
+
+cast-due-at : tie.Need-cast-due-at
+cast-due-at c = let h = can-read (c .before .before .before) .present (c .before .before .before .before .before .before .before .before .before .before .before .args .last) (le-refl _) in omega arith
 
 due-at-requires : tie.Need-due-at-requires
 due-at-requires c κs =
@@ -60,7 +65,7 @@ speed-reading-spec =
     returns-2
     stretch-requires
     array-read-due-at
-    (λ c. search needs)
+    cast-due-at
     due-at-requires
     read-requires
     returns-3)

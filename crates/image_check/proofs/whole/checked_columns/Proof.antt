@@ -1,4 +1,3 @@
-use Prim.Native.Nat.{ℕ}
 use mathlib.Core.Path.{refl}
 use denote.Ref.{now}
 use native.Mathlib.Omega.{arith}
@@ -6,11 +5,11 @@ use borrow.Author.Needs.{needs}
 use borrow.Author.Tests.{eq-eqb, eqb-true}
 use Rattle.rules.specs.Image.{profile}
 use Rattle.rules.specs.Refusals.{First}
-use Rattle.rules.proofs.Refusals.{first-stops, first-goes-on}
+use Rattle.rules.proofs.Refusals.{first-goes-on, none-named, refuses-stops, refuses-goes-on}
 use Rattle.fields.proofs.Bytes.{Bytes}
 use Rattle.order.specs.Judged.{Verdict}
-use Rattle.image_check.specs.Checks.{record-checks, order-checks, rest-checks}
-use Rattle.image_check.proofs.Checks.{record-numbered}
+use Rattle.image_check.specs.Checks.{record-checks, loop-check}
+use Rattle.image_check.proofs.Checks.{record-numbered, rest-numbered}
 use Rattle.image_check.proofs.Ordering.{masked, timed, verdict, found, loop-given, none-given, unfit-told}
 use Rattle.image_check.proofs.Answers.{refused-body, accepted-answers}
 use Rattle.image_check.proofs.whole.checked_columns.Statement.{statement}
@@ -21,12 +20,12 @@ returns c =
     let p = c .before .before .before in
     let s = now (p .before .before .before .before .before .args .image) in
     refused-body (p .record-refusal .result)
-    (first-stops (record-checks s) (order-checks s) _ (p .record-refusal .ensures) (c .before .if1 .taken))
+    (refuses-stops (record-checks s) (loop-check s) (p .record-refusal .result) (p .record-refusal .ensures) (c .before .if1 .taken))
     (c .before .if1 .taken) (c .refused .ensures)
 
 -- none of 5 to 7 is given
 none : (c : tie.Else1) → First (record-checks (now (c .before .before .before .before .before .before .before .args .image))) 0
-none c = rw (c .if1 .left) at (c .before .before .record-refusal .ensures)
+none c = rw (c .if1 .left) at (c .before .before .record-refusal .ensures .number)
 
 judge-requires : tie.Need-judge-requires
 judge-requires c κs =
@@ -40,28 +39,28 @@ judged : (c : tie.After-judge)
     Verdict (profile s) (c .judge .result .refusal) (c .judge .result .order)
 judged c = let pre = c .before .before .before .before .before .before .before .before .pre in verdict (pre .0) (pre .1) (c .judge .ensures)
 
--- so the number of 5 to 8, by that of 8
-number : (c : tie.After-judge) {k : ℕ}
-    → let s = now (c .before .before .before .before .before .before .before .before .args .image) in
-    First (order-checks s) k → First (rest-checks s) k
-number c {k} =
-    let s = now (c .before .before .before .before .before .before .before .before .args .image) in
-    first-goes-on (record-checks s) (order-checks s) k (record-numbered s) (none (c .before))
-
 returns-2 : tie.Need-returns-2
 returns-2 c =
-    let p = c .before .before in
-    refused-body (record { number = p .judge .result .refusal }) (number p (loop-given (judged p) (c .before .if2 .taken)))
-    (λ z. omega (arith, c .before .if2 .taken)) (c .refused2 .ensures)
+    let eight = c .before .if2 .taken in
+    let p = c .before .before .before .before in
+    let s = now (p .before .before .before .before .before .before .before .before .args .image) in
+    let f = p .judge .result .refusal in
+    refused-body f (refuses-goes-on (record-checks s) (loop-check s) f (record-numbered s) (none (p .before)) (loop-given (judged p) eight))
+    (λ z. omega (arith, eight)) (c .refused2 .ensures)
 
 returns-3 : tie.Need-returns-3
 returns-3 c =
-    let p = c .before .before in
-    let header = p .before .before .before .before .before .before .before .before .pre .0 .header in
-    let told = unfit-told (judged p) (c .before .if2 .left) in
+    let two = c .before .before in
+    let p = two .before .before .before in
+    let record-refusal = p .before .before .before .record-refusal in
+    let start = p .before .before .before .before .before .before .before .before in
+    let s = now (start .args .image) in
+    let told = unfit-told (judged p) (two .if2 .left) in
+    let passed = first-goes-on (record-checks s) (loop-check s) 0 (record-numbered s) (none (p .before)) (none-given (judged p) (two .if2 .left)) in
+    let nobody = none-named (record-checks s) (record-refusal .result) (record-numbered s) (record-refusal .ensures) (p .before .if1 .left) in
     record {
-      answers = accepted-answers (number p (none-given (judged p) (c .before .if2 .left))) (p .before .if1 .left)
-          (found header (judged p) (c .before .if2 .left) refl refl refl);
+      answers = accepted-answers (rest-numbered s) passed (p .before .if1 .left) nobody
+          (found (start .pre .0 .header) (judged p) (two .if2 .left) refl refl refl);
       unfit = λ _. ((λ e. told .0 (eqb-true _ _ e)), (λ u. eq-eqb _ _ (told .1 u)));
     }
 

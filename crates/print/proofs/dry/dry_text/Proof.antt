@@ -17,7 +17,7 @@ returns c =
     let said = framed .before .before .before .before .before .before in
     let frames = rw (tab-taken _ _ _ (said .take-durations .ensures .1) (said .take-durations .ensures .0 .0)) at (framed .dry-frame .ensures) in
     dry-refused frames (record { order-room = lit≤ tt; levels-room = lit≤ tt; decided-room = lit≤ tt })
-    (refused .if1 .taken) (put .put-refusal .ensures)
+    (refused .if1 .taken) (put .put-fault .ensures)
 
 put-steps-requires : tie.Need-put-steps-requires
 put-steps-requires c κs =

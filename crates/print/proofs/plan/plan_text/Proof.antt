@@ -15,7 +15,7 @@ returns c =
     let planned = refused .before .before .before .before .before .before .before in
     plan-refused (planned .plan .ensures)
     (record { order-room = lit≤ tt; limits-room = lit≤ tt; worst-room = lit≤ tt; bounds-room = lit≤ tt })
-    (refused .if1 .taken) (put .put-refusal .ensures)
+    (refused .if1 .taken) (put .put-fault .ensures)
 
 put-counts-requires : tie.Need-put-counts-requires
 put-counts-requires c κs =

@@ -40,9 +40,8 @@ returns-2 c =
 returns-3 : tie.Need-returns-3
 unfolding reading-text
 returns-3 c =
-    let number = c .before .before in
-    let word = number .before .before .before .before in
-    rw (word .before .before .before .before .reading2 .given .1) (put-then zero-le (word .put-bytes3 .ensures) (number .put-number .ensures))
+    let put = c .before .before in
+    rw (put .before .before .before .reading2 .given .1) (put .put-said .ensures)
 
 pub put-reading-spec : {M : Type 1} → statement M
 put-reading-spec =
@@ -58,8 +57,6 @@ put-reading-spec =
     (λ c. search needs)
     (λ c κs. search needs)
     (λ c. search needs)
-    (λ c. search needs)
-    (λ c κs. search needs)
     (λ c κs. search needs)
     (λ c. search needs)
     returns
