@@ -1,5 +1,5 @@
 -- The worked cases hold. Each is computed from the definitions, the order by the tests below. Assumes nothing.
-use Prim.Native.Nat.{ℕ, suc, _-_, _/_, _%_, _^_, _≤_, _<_}
+use Prim.Native.Nat.{ℕ, suc, _-_, _/_, _%_, _^_, _≤_, _<_, zero-le}
 use mathlib.Core.Path.{_≡_, refl, ap, sym, subst, _∙_}
 use mathlib.Core.Bool.{Bool, true, false, not, cond, _&&_, _||_, true≢false}
 use mathlib.Core.List.{List, [], _∷_}
@@ -13,19 +13,20 @@ use lib.IntN.{pos}
 use lib.ListN.{length, getD}
 use lib.Pow.{pow-mono}
 use lib.Signed.{leZ, _≤ℤ_}
-use Rattle.rules.specs.Numbers.{last-clock, refused-unfit}
+use Rattle.rules.specs.Numbers.{last-clock, refused-loop, refused-unfit}
 use Rattle.rules.specs.Words.{all-pass, last-passing, sum, greatest-of, least-of, cat}
 use Rattle.rules.specs.Image.{Profile, has, due, header, version, actions, levels, cycle, header-spare, record-bytes, record-at, image-bytes, mask-of, deadline-of, spare-of, average-of, worst-of, profile, header-of, level-image, record-image, image}
-use Rattle.rules.specs.Order.{Order, TheOrder, Fit}
+use Rattle.rules.specs.Order.{Order, TheOrder, Fit, Before, MustFollow}
 use Rattle.rules.specs.Limits.{tables, margin, mixed, limit, coast-bound, Plan, Gives, Late}
-use Rattle.rules.specs.Refusals.{_when_, First, Unfit, image-checks, Count, Falls, Table, Short, Version, Length, Spare, Range}
+use Rattle.rules.specs.Refusals.{LowestFault, _when_, First, LoopFault, Unfit, image-checks, Count, Falls, Table, Short, Version, Length, Spare, Range}
 use Rattle.rules.specs.Run.{level-given, fits, qualifies, left-granted, begun, decides, given, ended, lent}
 use Rattle.rules.specs.Dry.{step, before, dry-end}
 use Rattle.rules.specs.Recording.{frame-bytes, frames, lowest-of, lowest-given, ran-of, long-entry, line-of, with-frame, with-line, totals-from}
 use Rattle.rules.specs.Repeat.{unrolled}
 use Rattle.rules.specs.Speed.{quotient, room, reading-by, reading}
-use Rattle.rules.specs.Cases.{three, eight, cases, AllHold}
+use Rattle.rules.specs.Cases.{three, eight, around, cases, AllHold, AroundRefused}
 use Rattle.rules.proofs.Tests.{pass, passed, failed, and-true, or-true, not-true, all-pass-each}
+use Rattle.rules.proofs.Refusals.{refuses-blamed}
 use Rattle.rules.proofs.Order.Loops.{no-loop}
 use Rattle.rules.proofs.Order.OfProfile.{action-at, as-computed, order-loopless}
 use Rattle.rules.proofs.Demand.Asked.{level-given-gives, fits-exact}
@@ -277,3 +278,24 @@ every-case = (
     ),
   ),
 )
+
+-- ---- the action at fault
+
+pub around-refused : AroundRefused
+unfolding has
+around-refused = refuses-blamed refused-loop low (omega arith) (omega arith)
+  where
+    -- nothing comes before 0
+    unled : (a : ℕ) → MustFollow 4 (Before around) a 0 → ⊥
+    unled a (MustFollow.next l h) = none-named 0 0 a (omega arith) zero-le h
+    unled a (MustFollow.through {b = b} l h f) = unled b f
+
+    low : LowestFault (LoopFault around) 4 1
+    low = record {
+      most = omega arith;
+      fault = λ l. MustFollow.through {b = 2} (omega arith) refl (MustFollow.next {b = 1} (omega arith) refl);
+      before = λ a l h. unled a (subst (MustFollow 4 (Before around) a) (only a l) h);
+    }
+      where
+        only : (a : ℕ) → a < 1 → a ≡ 0
+        only a l = omega arith

@@ -6,12 +6,12 @@ use mathlib.Core.List.{List, [], _∷_, _++_}
 use mathlib.Core.Logic.{_↔_}
 use lib.IntN.{ℤ, pos}
 use lib.ListN.{length, getD}
-use Rattle.rules.specs.Numbers.{longest-coast, duration-bytes}
+use Rattle.rules.specs.Numbers.{longest-coast, duration-bytes, refused-loop}
 use Rattle.rules.specs.Words.{cat, tab, rows}
 use Rattle.rules.specs.Image.{Profile, bytes, image}
 use Rattle.rules.specs.Order.{Order, TheOrder}
 use Rattle.rules.specs.Limits.{tables, limit, planned, planner-tables, Gives, Late}
-use Rattle.rules.specs.Refusals.{First, image-checks}
+use Rattle.rules.specs.Refusals.{_blames_below_, First, Refuses, LoopFault, image-checks}
 use Rattle.rules.specs.Run.{Run}
 use Rattle.rules.specs.Dry.{before, level-of}
 use Rattle.rules.specs.Recording.{Line, refused, ran, lines, Totals, totals}
@@ -46,6 +46,18 @@ eight = record {
   mask = λ a. getD (0 ∷ 0 ∷ 1 ∷ []) a 0;
   deadline = λ a. getD (9 ∷ 6 ∷ 5 ∷ []) a 0;
   average = λ a q. 2;
+  worst = λ a q. 2;
+}
+
+-- Around: 1 and 2 each come before the other; 0 leads into this loop, 3 comes after it.
+abbrev pub around : Profile
+around = record {
+  n = 4;
+  levels = 1;
+  cycle = 9;
+  mask = λ a. getD (0 ∷ 5 ∷ 2 ∷ 4 ∷ []) a 0;
+  deadline = λ a. 0;
+  average = λ a q. 1;
   worst = λ a q. 2;
 }
 
@@ -162,3 +174,7 @@ cases =
 abbrev pub AllHold : List Case → Type 0
 AllHold [] = Unit {0}
 AllHold (c ∷ cs) = Answers (c .profile) (c .question) (c .reply) × AllHold cs
+
+-- Around is refused with 8, and of the actions on its loop 1 is the lowest.
+abbrev pub AroundRefused : Type 0
+AroundRefused = Refuses (refused-loop blames LoopFault around below around .n ∷ []) (record { number = 8; action = 1 })
