@@ -8,6 +8,7 @@
 
 /* The record is laid out as other hosts have it. */
 _Static_assert(sizeof(struct nyokazerubi_refusal) == 4, "refusal");
+_Static_assert(sizeof(struct nyokazerubi_fault) == 8, "fault");
 _Static_assert(sizeof(struct nyokazerubi_run) == 32, "run");
 _Static_assert(sizeof(struct nyokazerubi_given) == 16, "given");
 _Static_assert(sizeof(struct nyokazerubi_dried) == 16, "dried");
@@ -15,11 +16,11 @@ _Static_assert(sizeof(struct nyokazerubi_opened) == 40, "opened");
 _Static_assert(sizeof(struct nyokazerubi_totals) == 16, "totals");
 _Static_assert(sizeof(struct nyokazerubi_line) == 20, "line");
 _Static_assert(sizeof(struct nyokazerubi_body) == 16, "body");
-_Static_assert(sizeof(struct nyokazerubi_body_planned) == 20, "body planned");
+_Static_assert(sizeof(struct nyokazerubi_body_planned) == 24, "body planned");
 _Static_assert(sizeof(struct nyokazerubi_limited) == 16, "limited");
 _Static_assert(sizeof(struct nyokazerubi_body_run) == 40, "body run");
-_Static_assert(sizeof(struct nyokazerubi_body_framed) == 24, "body framed");
-_Static_assert(sizeof(struct nyokazerubi_reading) == 16, "reading");
+_Static_assert(sizeof(struct nyokazerubi_body_framed) == 32, "body framed");
+_Static_assert(sizeof(struct nyokazerubi_reading) == 24, "reading");
 
 enum { ROUNDS = 5, FRAME = NYOKAZERUBI_FRAME_BYTES(9, 8), BLOCKS = 180, POSITIONS = 9 * BLOCKS };
 
@@ -82,6 +83,44 @@ static void profile(struct camera *camera) {
     hold(nyokazerubi_lookup(camera->image, camera->bytes, 9).refusal.number == NYOKAZERUBI_REFUSED_NAME, "no tenth action");
     hold(nyokazerubi_lookup_refusal(camera->image, camera->bytes, 9).number == NYOKAZERUBI_REFUSED_NAME, "nor here");
     free(masks), free(deadlines), free(averages), free(worst), free(again);
+}
+
+/* How a host says what is wrong with a profile. */
+static void say(struct nyokazerubi_fault refusal) {
+    if (refusal.action == NYOKAZERUBI_NO_ACTION)
+        printf("refused %u\n", refusal.number);
+    else
+        printf("refused %u at action %u\n", refusal.number, refusal.action);
+}
+
+static int is(struct nyokazerubi_fault refusal, uint32_t number, uint32_t action) {
+    return refusal.number == number && refusal.action == action;
+}
+
+/* An image damaged at actions 5 and 7, whose averages are above their worst times, is refused at the lower by every call on it; nothing is written.
+ * Whole again but for a spare bit, it is refused at no action. */
+static void damaged(const struct camera *camera) {
+    size_t record = NYOKAZERUBI_IMAGE_BYTES(1, 8) - NYOKAZERUBI_IMAGE_BYTES(0, 8);
+    uint8_t *image = lend(camera->bytes), *order = lend(9);
+    int32_t *limits = lend(72 * sizeof *limits), *bounds = lend(NYOKAZERUBI_BOUNDS_ENTRIES(9, 8) * sizeof *bounds);
+    uint32_t *worst = lend(72 * sizeof *worst);
+    memcpy(image, camera->image, camera->bytes);
+    for (size_t action = 5; action <= 7; action += 2) memset(image + 6 + action * record + 12, 0xff, 3);
+    struct nyokazerubi_fault refusal = nyokazerubi_check(image, camera->bytes);
+    say(refusal);
+    hold(is(refusal, NYOKAZERUBI_REFUSED_TABLE, 5), "the lower of two is named");
+    struct nyokazerubi_planned planned =
+        nyokazerubi_plan(image, camera->bytes, order, 9, limits, 72, worst, 72, bounds, NYOKAZERUBI_BOUNDS_ENTRIES(9, 8));
+    hold(is(planned.refusal, NYOKAZERUBI_REFUSED_TABLE, 5) && planned.n == 0 && order[0] == 0xa5, "by the planner too");
+    hold(is(nyokazerubi_lookup(image, camera->bytes, 1).refusal, NYOKAZERUBI_REFUSED_TABLE, 5), "by a lookup of another");
+    hold(is(nyokazerubi_refresh(image, camera->bytes, camera->image, 0, order, 9).refusal, NYOKAZERUBI_REFUSED_TABLE, 5), "by a refresh");
+    memcpy(image, camera->image, camera->bytes);
+    hold(is(nyokazerubi_check(image, camera->bytes), NYOKAZERUBI_ACCEPTED, NYOKAZERUBI_NO_ACTION), "accepted, none is at fault");
+    image[5] |= 1;
+    refusal = nyokazerubi_check(image, camera->bytes);
+    say(refusal);
+    hold(is(refusal, NYOKAZERUBI_REFUSED_SPARE, NYOKAZERUBI_NO_ACTION), "the header alone is at fault");
+    free(image), free(order), free(limits), free(bounds), free(worst);
 }
 
 static void plan(struct camera *camera) {
@@ -323,6 +362,7 @@ int main(void) {
     struct camera camera = {.seed = 1};
     hold(nyokazerubi_boundary() == NYOKAZERUBI_BOUNDARY, "the archive is of this header");
     profile(&camera);
+    damaged(&camera);
     plan(&camera);
     uint32_t *durations = lend(camera.cells * sizeof *durations);
     uint8_t *trace = lend(5 * camera.n), *recording = lend(ROUNDS * FRAME);

@@ -37,6 +37,9 @@ enum {
 #error "bytes are swapped on every read and write of an image"
 #endif
 
+/* A refusal that no action is at fault for; 0 is none. */
+static inline fast_fault alone(uint32_t number) { return (fast_fault){number, FAST_NO_ACTION}; }
+
 /* ---- Bytes, high byte first ---- */
 
 static inline uint64_t get64(const uint8_t *at) {
@@ -169,6 +172,18 @@ static void rank_actions(const actions *of, uint32_t n, bool same_deadlines, uin
     }
 }
 
+/* The lowest action that must follow itself, where there is one: by all that comes before each, at any remove. */
+static __attribute__((cold, noinline)) uint32_t lowest_on_a_loop(const actions *of, uint32_t n) {
+    uint64_t before[64];
+    memcpy(before, of->masks, n * sizeof *before);
+    for (uint32_t through = 0; through < n; through++)
+        for (uint32_t a = 0; a < n; a++)
+            if (before[a] >> through & 1) before[a] |= before[through];
+    uint32_t lowest = 0;
+    while (!(before[lowest] >> lowest & 1)) lowest++;
+    return lowest;
+}
+
 /* The order by urgency. An action that is not ready waits with one of its predecessors still to be done. */
 static uint32_t by_urgency(const actions *of, uint32_t n, bool same_deadlines, uint8_t *order) {
     uint8_t by_rank[64], rank[64];
@@ -208,7 +223,7 @@ static uint32_t by_urgency(const actions *of, uint32_t n, bool same_deadlines, u
 }
 
 /* Refusals 8 and 9. With one deadline and predecessors of lower numbers only, the order is that of the numbers. */
-static uint32_t arrange(const actions *of, uint32_t n, uint8_t *order) {
+static fast_fault arrange(const actions *of, uint32_t n, uint8_t *order) {
     uint32_t differ = 0, end = 0;
     uint64_t later = 0;
     for (uint32_t a = 0; a < n; a++) {
@@ -216,9 +231,12 @@ static uint32_t arrange(const actions *of, uint32_t n, uint8_t *order) {
         later |= of->masks[a] >> a;
         end += of->worst[a];
     }
-    if (differ || later) return by_urgency(of, n, !differ, order);
+    if (differ || later) {
+        uint32_t number = by_urgency(of, n, !differ, order);
+        return number == LOOP ? (fast_fault){LOOP, lowest_on_a_loop(of, n)} : alone(number);
+    }
     for (uint32_t a = 0; a < n; a++) order[a] = (uint8_t)a;
-    return end > of->deadlines[0] ? UNFIT : 0;
+    return alone(end > of->deadlines[0] ? UNFIT : 0);
 }
 
 /* ---- Image ---- */
@@ -233,60 +251,89 @@ static uint32_t image_shape(const uint8_t *image, size_t length, shape *s) {
     return length == shape_bytes(s) ? 0 : LENGTH;
 }
 
+/* What a pass over all actions gathers, or over one. */
+typedef struct {
+    uint64_t strangers, table; /* table loses a guard bit where the table rule is broken */
+    uint32_t spare, times;     /* times are those of a writing: those of an image fit their fields */
+    bool range;
+} faults;
+
+static const faults none = {.table = GUARD};
+
+/* Joins those of an action's record. */
+static inline void add_record(faults *f, const shape *s, const uint8_t *record) {
+    uint64_t before = 0;
+    uint32_t word = get32(record + 8);
+    f->strangers |= get64(record) & ~present(s->n);
+    f->spare |= word & 3;
+    f->range |= word >> 2 > s->cycle;
+    for (const uint8_t *at = record + 10, *end = record + s->stride - 2; at < end; at += 6) {
+        uint64_t pair = get_pair(at);
+        f->table &= kept(pair, before);
+        before = pair;
+    }
+}
+
+/* The first of 5, 6, 7. */
+static inline uint32_t first_of(const faults *f) {
+    if (f->spare) return SPARE;
+    if (f->range || f->strangers || f->times > LAST_TIME) return RANGE;
+    return (f->table & GUARD) == GUARD ? 0 : TABLE;
+}
+
+/* The first refusal of all records with the lowest that has it: none before it has a lesser number, so it is the first
+ * of that record too. */
+static __attribute__((cold, noinline)) fast_fault fault_of_image(uint32_t number, const shape *s,
+                                                                 const uint8_t *image) {
+    for (uint32_t a = 0; a < s->n; a++) {
+        faults own = none;
+        add_record(&own, s, record_of(s, image, a));
+        if (first_of(&own) == number) return (fast_fault){number, a};
+    }
+    return alone(number);
+}
+
 /* Refusals 1 to 7; the shape, and what the order reads. */
-static inline uint32_t gather(const uint8_t *image, size_t length, shape *s, actions *of) {
-    uint32_t refusal = image_shape(image, length, s);
-    if (refusal) return refusal;
-    uint64_t absent = ~present(s->n), strangers = 0;
-    uint32_t spare = image[5] & 7;
-    uint64_t table = GUARD;
-    bool range = false;
+static inline fast_fault gather(const uint8_t *image, size_t length, shape *s, actions *of) {
+    uint32_t number = image_shape(image, length, s);
+    if (number) return alone(number);
+    faults all = none;
+    all.spare = image[5] & 7;
     const uint8_t *record = image + 6;
     for (uint32_t a = 0; a < s->n; a++, record += s->stride) {
-        uint64_t mask = get64(record), before = 0;
-        uint32_t word = get32(record + 8);
-        strangers |= mask & absent;
-        spare |= word & 3;
-        range |= word >> 2 > s->cycle;
-        of->masks[a] = mask;
-        of->deadlines[a] = deadline_of(s, word);
+        of->masks[a] = get64(record);
+        of->deadlines[a] = deadline_of(s, get32(record + 8));
         of->worst[a] = worst_in(pair_of(record, 0));
-        for (const uint8_t *at = record + 10, *end = record + s->stride - 2; at < end; at += 6) {
-            uint64_t pair = get_pair(at);
-            table &= kept(pair, before);
-            before = pair;
-        }
+        add_record(&all, s, record);
     }
-    if (spare) return SPARE;
-    if (range || strangers) return RANGE;
-    if ((table & GUARD) != GUARD) return TABLE;
-    return 0;
+    number = first_of(&all);
+    return number ? fault_of_image(number, s, image) : alone(0);
 }
 
 /* Refusals 1 to 9; the shape and the order (room for 64) of an accepted image. */
-static uint32_t examine(const uint8_t *image, size_t length, shape *s, uint8_t *order) {
+static fast_fault examine(const uint8_t *image, size_t length, shape *s, uint8_t *order) {
     actions of;
-    uint32_t refusal = gather(image, length, s, &of);
-    return refusal ? refusal : arrange(&of, s->n, order);
+    fast_fault refusal = gather(image, length, s, &of);
+    return refusal.number ? refusal : arrange(&of, s->n, order);
 }
 
-uint32_t fast_check(const uint8_t *image, size_t length, fast_counts *counts) {
+fast_fault fast_check(const uint8_t *image, size_t length, fast_counts *counts) {
     shape s;
     uint8_t order[64];
-    uint32_t refusal = examine(image, length, &s, order);
-    if (!refusal) *counts = (fast_counts){s.n, s.levels, s.cycle};
+    fast_fault refusal = examine(image, length, &s, order);
+    if (!refusal.number) *counts = (fast_counts){s.n, s.levels, s.cycle};
     return refusal;
 }
 
-uint32_t fast_read(const uint8_t *image, size_t length, uint64_t *restrict masks, size_t masks_room,
-                   uint32_t *restrict deadlines, size_t deadlines_room, uint32_t *restrict averages,
-                   size_t averages_room, uint32_t *restrict worst, size_t worst_room, fast_counts *counts) {
+fast_fault fast_read(const uint8_t *image, size_t length, uint64_t *restrict masks, size_t masks_room,
+                     uint32_t *restrict deadlines, size_t deadlines_room, uint32_t *restrict averages,
+                     size_t averages_room, uint32_t *restrict worst, size_t worst_room, fast_counts *counts) {
     shape s;
     uint8_t order[64];
-    uint32_t refusal = examine(image, length, &s, order);
-    if (refusal) return refusal;
+    fast_fault refusal = examine(image, length, &s, order);
+    if (refusal.number) return refusal;
     size_t cells = (size_t)s.n * s.levels;
-    if (masks_room < s.n || deadlines_room < s.n || averages_room < cells || worst_room < cells) return ROOM;
+    if (masks_room < s.n || deadlines_room < s.n || averages_room < cells || worst_room < cells) return alone(ROOM);
     const uint8_t *record = image + 6;
     for (uint32_t a = 0; a < s.n; a++, record += s.stride) {
         masks[a] = get64(record);
@@ -298,48 +345,64 @@ uint32_t fast_read(const uint8_t *image, size_t length, uint64_t *restrict masks
         }
     }
     *counts = (fast_counts){s.n, s.levels, s.cycle};
-    return 0;
+    return alone(0);
+}
+
+/* The tables of a writing. */
+typedef struct {
+    const uint64_t *masks;
+    const uint32_t *deadlines, *averages, *worst;
+} tables;
+
+/* Joins those of an action's rows. */
+static inline void add_rows(faults *f, const shape *s, const tables *of, uint32_t a) {
+    uint64_t before = 0;
+    f->strangers |= of->masks[a] & ~present(s->n);
+    f->range |= of->deadlines[a] > s->cycle;
+    for (size_t cell = (size_t)a * s->levels, end = cell + s->levels; cell < end; cell++) {
+        uint64_t pair = make_pair(of->averages[cell], of->worst[cell]);
+        f->times |= of->averages[cell] | of->worst[cell];
+        f->table &= kept(pair, before);
+        before = pair;
+    }
+}
+
+/* As of an image. */
+static __attribute__((cold, noinline)) fast_fault fault_of_tables(uint32_t number, const shape *s, const tables *of) {
+    for (uint32_t a = 0; a < s->n; a++) {
+        faults own = none;
+        add_rows(&own, s, of, a);
+        if (first_of(&own) == number) return (fast_fault){number, a};
+    }
+    return alone(number);
 }
 
 /* Refusals 6 to 9 of a writing. */
-static uint32_t judge(const shape *s, const uint64_t *masks, const uint32_t *deadlines, const uint32_t *averages,
-                      const uint32_t *worst) {
+static fast_fault judge(const shape *s, const tables *from) {
     actions of;
     uint8_t order[64];
-    uint64_t absent = ~present(s->n), strangers = 0;
-    uint64_t table = GUARD;
-    uint32_t times = 0;
-    bool range = false;
+    faults all = none;
     for (uint32_t a = 0; a < s->n; a++) {
-        strangers |= masks[a] & absent;
-        range |= deadlines[a] > s->cycle;
-        of.masks[a] = masks[a];
-        of.deadlines[a] = deadlines[a] ? deadlines[a] : s->cycle;
-        of.worst[a] = *worst;
-        uint64_t before = 0;
-        for (uint32_t q = 0; q < s->levels; q++) {
-            uint64_t pair = make_pair(*averages, *worst);
-            times |= *averages++ | *worst++;
-            table &= kept(pair, before);
-            before = pair;
-        }
+        of.masks[a] = from->masks[a];
+        of.deadlines[a] = from->deadlines[a] ? from->deadlines[a] : s->cycle;
+        of.worst[a] = from->worst[(size_t)a * s->levels];
+        add_rows(&all, s, from, a);
     }
-    if (range || strangers || times > LAST_TIME) return RANGE;
-    if ((table & GUARD) != GUARD) return TABLE;
-    return arrange(&of, s->n, order);
+    uint32_t number = first_of(&all);
+    return number ? fault_of_tables(number, s, from) : arrange(&of, s->n, order);
 }
 
-uint32_t fast_write(size_t n, size_t levels, uint32_t cycle, const uint64_t *restrict masks, size_t masks_room,
-                    const uint32_t *restrict deadlines, size_t deadlines_room, const uint32_t *restrict averages,
-                    size_t averages_room, const uint32_t *restrict worst, size_t worst_room, uint8_t *restrict image,
-                    size_t room, size_t *written) {
+fast_fault fast_write(size_t n, size_t levels, uint32_t cycle, const uint64_t *restrict masks, size_t masks_room,
+                      const uint32_t *restrict deadlines, size_t deadlines_room, const uint32_t *restrict averages,
+                      size_t averages_room, const uint32_t *restrict worst, size_t worst_room, uint8_t *restrict image,
+                      size_t room, size_t *written) {
     shape s;
-    if (!make_shape(&s, n, levels, cycle)) return COUNT;
+    if (!make_shape(&s, n, levels, cycle)) return alone(COUNT);
     size_t cells = n * levels, bytes = shape_bytes(&s);
     if (masks_room < n || deadlines_room < n || averages_room < cells || worst_room < cells || room < bytes)
-        return ROOM;
-    uint32_t refusal = judge(&s, masks, deadlines, averages, worst);
-    if (refusal) return refusal;
+        return alone(ROOM);
+    fast_fault refusal = judge(&s, &(tables){masks, deadlines, averages, worst});
+    if (refusal.number) return refusal;
     put32(image, UINT32_C(1) << 28 | s.n << 21 | s.levels << 17 | cycle >> 13);
     image[4] = (uint8_t)(cycle >> 5);
     image[5] = (uint8_t)(cycle << 3);
@@ -356,16 +419,16 @@ uint32_t fast_write(size_t n, size_t levels, uint32_t cycle, const uint64_t *res
         }
     }
     *written = bytes;
-    return 0;
+    return alone(0);
 }
 
-uint32_t fast_lookup(const uint8_t *image, size_t length, size_t action, const uint8_t **part, size_t *part_length) {
+fast_fault fast_lookup(const uint8_t *image, size_t length, size_t action, const uint8_t **part, size_t *part_length) {
     shape s;
     uint8_t order[64];
-    uint32_t refusal = examine(image, length, &s, order);
-    if (!refusal && action >= s.n) refusal = NAME;
-    *part = refusal ? image : record_of(&s, image, (uint32_t)action);
-    *part_length = refusal ? 0 : s.stride;
+    fast_fault refusal = examine(image, length, &s, order);
+    if (!refusal.number && action >= s.n) refusal = alone(NAME);
+    *part = refusal.number ? image : record_of(&s, image, (uint32_t)action);
+    *part_length = refusal.number ? 0 : s.stride;
     return refusal;
 }
 
@@ -400,13 +463,13 @@ static void last_coast_row(int32_t limit, int32_t *bounds) {
     for (uint32_t r = 1; r < COAST; r++) bounds[r] = ABSENT;
 }
 
-/* The tables of an accepted image, or 17. */
-static inline uint32_t fill(const uint8_t *image, const shape *s, const uint8_t *arranged, uint8_t *restrict order,
-                            size_t order_room, int32_t *restrict limits, size_t limits_room, uint32_t *restrict worst,
-                            size_t worst_room, int32_t *restrict bounds, size_t bounds_room) {
+/* The tables of an accepted image, if there is room for them. */
+static inline bool fill(const uint8_t *image, const shape *s, const uint8_t *arranged, uint8_t *restrict order,
+                        size_t order_room, int32_t *restrict limits, size_t limits_room, uint32_t *restrict worst,
+                        size_t worst_room, int32_t *restrict bounds, size_t bounds_room) {
     uint32_t n = s->n, levels = s->levels;
     size_t cells = (size_t)n * levels;
-    if (order_room < n || limits_room < cells || worst_room < cells || bounds_room < cells * COAST) return ROOM;
+    if (order_room < n || limits_room < cells || worst_room < cells || bounds_room < cells * COAST) return false;
     memcpy(order, arranged, n);
 
     /* limit(i,q) = min(min(deadline(i), limit(i+1,0)) - worst(i,q), limit(i+1,q) - average(i,q)); none past the end. */
@@ -433,19 +496,20 @@ static inline uint32_t fill(const uint8_t *image, const shape *s, const uint8_t 
                 last_coast_row(limit, cell);
         }
     }
-    return 0;
+    return true;
 }
 
-uint32_t fast_plan(const uint8_t *image, size_t length, uint8_t *restrict order, size_t order_room,
-                   int32_t *restrict limits, size_t limits_room, uint32_t *restrict worst, size_t worst_room,
-                   int32_t *restrict bounds, size_t bounds_room, fast_counts *counts) {
+fast_fault fast_plan(const uint8_t *image, size_t length, uint8_t *restrict order, size_t order_room,
+                     int32_t *restrict limits, size_t limits_room, uint32_t *restrict worst, size_t worst_room,
+                     int32_t *restrict bounds, size_t bounds_room, fast_counts *counts) {
     shape s;
     uint8_t arranged[64];
-    uint32_t refusal = examine(image, length, &s, arranged);
-    if (refusal) return refusal;
-    refusal = fill(image, &s, arranged, order, order_room, limits, limits_room, worst, worst_room, bounds, bounds_room);
-    if (!refusal) *counts = (fast_counts){s.n, s.levels, s.cycle};
-    return refusal;
+    fast_fault refusal = examine(image, length, &s, arranged);
+    if (refusal.number) return refusal;
+    if (!fill(image, &s, arranged, order, order_room, limits, limits_room, worst, worst_room, bounds, bounds_room))
+        return alone(ROOM);
+    *counts = (fast_counts){s.n, s.levels, s.cycle};
+    return alone(0);
 }
 
 /* ---- Run ---- */
@@ -571,18 +635,20 @@ uint32_t fast_dry_run(size_t n, size_t levels, const int32_t *limits, size_t lim
 
 /* ---- Recordings ---- */
 
-uint32_t fast_open_recording(const uint8_t *image, size_t length, size_t bytes, uint8_t *restrict order,
-                             size_t order_room, int32_t *restrict limits, size_t limits_room, uint32_t *restrict worst,
-                             size_t worst_room, int32_t *restrict bounds, size_t bounds_room, fast_opened *opened) {
+fast_fault fast_open_recording(const uint8_t *image, size_t length, size_t bytes, uint8_t *restrict order,
+                               size_t order_room, int32_t *restrict limits, size_t limits_room,
+                               uint32_t *restrict worst, size_t worst_room, int32_t *restrict bounds,
+                               size_t bounds_room, fast_opened *opened) {
     shape s;
     uint8_t arranged[64];
-    uint32_t refusal = examine(image, length, &s, arranged);
-    if (refusal) return refusal;
+    fast_fault refusal = examine(image, length, &s, arranged);
+    if (refusal.number) return refusal;
     size_t frame_bytes = (size_t)4 * s.n * s.levels, frames = bytes / frame_bytes;
-    if (bytes % frame_bytes != 0 || frames > FRAMES) return TRACE;
-    refusal = fill(image, &s, arranged, order, order_room, limits, limits_room, worst, worst_room, bounds, bounds_room);
-    if (!refusal) *opened = (fast_opened){s.n, s.levels, frame_bytes, frames};
-    return refusal;
+    if (bytes % frame_bytes != 0 || frames > FRAMES) return alone(TRACE);
+    if (!fill(image, &s, arranged, order, order_room, limits, limits_room, worst, worst_room, bounds, bounds_room))
+        return alone(ROOM);
+    *opened = (fast_opened){s.n, s.levels, frame_bytes, frames};
+    return alone(0);
 }
 
 /* The product stays within 32 bits where the frames are within their range. */
@@ -663,21 +729,22 @@ uint32_t fast_rehearse(fast_totals *totals, size_t n, size_t levels, const int32
 /* ---- A body repeated ---- */
 
 /* Refusals 1 to 8, 19, 9; the shape and the order (room for 64) of an accepted body. */
-static uint32_t examine_body(const uint8_t *image, size_t length, uint32_t repeats, shape *s, uint8_t *order) {
+static fast_fault examine_body(const uint8_t *image, size_t length, uint32_t repeats, shape *s, uint8_t *order) {
     actions of;
-    uint32_t refusal = gather(image, length, s, &of);
-    if (refusal) return refusal;
+    fast_fault refusal = gather(image, length, s, &of);
+    if (refusal.number) return refusal;
     /* Whether the body alone is unfit is of no account: the order is made all the same. */
-    if (arrange(&of, s->n, order) == LOOP) return LOOP;
+    refusal = arrange(&of, s->n, order);
+    if (refusal.number == LOOP) return refusal;
     uint32_t differ = 0;
     uint64_t end = 0;
     for (uint32_t a = 0; a < s->n; a++) {
         differ |= of.deadlines[a] ^ s->cycle;
         end += of.worst[a];
     }
-    if (differ || repeats - 1 >= MOST_REPEATS) return REPEATS;
+    if (differ || repeats - 1 >= MOST_REPEATS) return alone(REPEATS);
     /* Its order is the body's, repeat by repeat, and the last action ends last. */
-    return repeats * end > s->cycle ? UNFIT : 0;
+    return alone(repeats * end > s->cycle ? UNFIT : 0);
 }
 
 /* From the last position back: A, W and V add up; M is the greater of this worst time before the others at level 0, and
@@ -704,19 +771,19 @@ static inline void fill_body(const uint8_t *image, const shape *s, const uint8_t
     }
 }
 
-uint32_t fast_plan_body(const uint8_t *image, size_t length, uint32_t repeats, uint8_t *restrict order,
-                        size_t order_room, uint32_t *restrict summaries, size_t summaries_room,
-                        uint32_t *restrict worst, size_t worst_room, fast_body *body) {
+fast_fault fast_plan_body(const uint8_t *image, size_t length, uint32_t repeats, uint8_t *restrict order,
+                          size_t order_room, uint32_t *restrict summaries, size_t summaries_room,
+                          uint32_t *restrict worst, size_t worst_room, fast_body *body) {
     shape s;
     uint8_t arranged[64];
-    uint32_t refusal = examine_body(image, length, repeats, &s, arranged);
-    if (refusal) return refusal;
+    fast_fault refusal = examine_body(image, length, repeats, &s, arranged);
+    if (refusal.number) return refusal;
     size_t cells = (size_t)s.n * s.levels;
-    if (order_room < s.n || summaries_room < cells * NUMBERS || worst_room < cells) return ROOM;
+    if (order_room < s.n || summaries_room < cells * NUMBERS || worst_room < cells) return alone(ROOM);
     memcpy(order, arranged, s.n);
     fill_body(image, &s, arranged, summaries, worst);
     *body = (fast_body){s.n, s.levels, s.cycle, repeats};
-    return 0;
+    return alone(0);
 }
 
 /* 3 and 19. */
@@ -937,20 +1004,20 @@ uint32_t fast_body_report(fast_body_run *run, uint32_t clock, const uint32_t *wo
     return 0;
 }
 
-uint32_t fast_body_dry_frame(const uint8_t *image, size_t length, uint32_t repeats, const uint32_t *durations,
-                             size_t durations_room, uint8_t *restrict order, size_t order_room,
-                             uint8_t *restrict given, size_t given_room, uint8_t *restrict marks, size_t marks_room,
-                             fast_body_dried *dried) {
+fast_fault fast_body_dry_frame(const uint8_t *image, size_t length, uint32_t repeats, const uint32_t *durations,
+                               size_t durations_room, uint8_t *restrict order, size_t order_room,
+                               uint8_t *restrict given, size_t given_room, uint8_t *restrict marks, size_t marks_room,
+                               fast_body_dried *dried) {
     shape s;
     uint8_t arranged[64];
-    uint32_t refusal = examine_body(image, length, repeats, &s, arranged);
-    if (refusal) return refusal;
+    fast_fault refusal = examine_body(image, length, repeats, &s, arranged);
+    if (refusal.number) return refusal;
     uint32_t n = s.n, levels = s.levels, positions = n * repeats;
     size_t entries = (size_t)positions * levels;
-    if (order_room < n || given_room < positions || marks_room < positions || durations_room < entries) return ROOM;
+    if (order_room < n || given_room < positions || marks_room < positions || durations_room < entries) return alone(ROOM);
     uint32_t all = 0;
     for (size_t at = 0; at < entries; at++) all |= durations[at];
-    if (all > LAST_TIME) return DURATION;
+    if (all > LAST_TIME) return alone(DURATION);
     uint32_t summaries[64 * 8 * NUMBERS], worst[64 * 8];
     memcpy(order, arranged, n);
     fill_body(image, &s, arranged, summaries, worst);
@@ -981,19 +1048,19 @@ uint32_t fast_body_dry_frame(const uint8_t *image, size_t length, uint32_t repea
         }
     }
     *dried = c;
-    return 0;
+    return alone(0);
 }
 
 /* ---- Speed reading ---- */
 
-uint32_t fast_speed_reading(const uint8_t *image, size_t length, size_t first, size_t last, size_t level,
-                            uint32_t t, double *ratio) {
+fast_fault fast_speed_reading(const uint8_t *image, size_t length, size_t first, size_t last, size_t level,
+                              uint32_t t, double *ratio) {
     shape s;
     uint8_t order[64];
-    uint32_t refusal = examine(image, length, &s, order);
-    if (refusal) return refusal;
-    if (first > last || last >= s.n || level >= s.levels) return READING;
-    if (t > LAST_CLOCK) return CLOCK;
+    fast_fault refusal = examine(image, length, &s, order);
+    if (refusal.number) return refusal;
+    if (first > last || last >= s.n || level >= s.levels) return alone(READING);
+    if (t > LAST_CLOCK) return alone(CLOCK);
     /* Sums over j to k of the averages, over j+1 to k of the worst times at level 0. */
     int32_t average = 0, tail = 0, margin = INT32_MIN;
     for (size_t j = last + 1; j-- > first;) {
@@ -1006,20 +1073,20 @@ uint32_t fast_speed_reading(const uint8_t *image, size_t length, size_t first, s
     }
     uint32_t deadline = deadline_of(&s, get32(record_of(&s, image, order[last]) + 8));
     int64_t room = (int64_t)deadline - margin - t;
-    if (room <= 0) return FAST_SPENT;
+    if (room <= 0) return alone(FAST_SPENT);
     *ratio = (double)average / (double)room;
-    return 0;
+    return alone(0);
 }
 
 /* ---- Refresh ---- */
 
-uint32_t fast_refresh(const uint8_t *image, size_t length, const uint8_t *trace, size_t trace_length,
-                      uint8_t *restrict fresh, size_t room, size_t *written) {
+fast_fault fast_refresh(const uint8_t *image, size_t length, const uint8_t *trace, size_t trace_length,
+                        uint8_t *restrict fresh, size_t room, size_t *written) {
     shape s;
     uint8_t order[64];
-    uint32_t refusal = examine(image, length, &s, order);
-    if (refusal) return refusal;
-    if (trace_length % 5 != 0 || trace_length / 5 > RECORDS) return TRACE;
+    fast_fault refusal = examine(image, length, &s, order);
+    if (refusal.number) return refusal;
+    if (trace_length % 5 != 0 || trace_length / 5 > RECORDS) return alone(TRACE);
     /* By action and level as a record packs them: the first duration that is too long, 0 where absent. */
     uint32_t ceilings[512] = {0};
     for (uint32_t a = 0; a < s.n; a++) {
@@ -1031,12 +1098,12 @@ uint32_t fast_refresh(const uint8_t *image, size_t length, const uint8_t *trace,
     for (const uint8_t *record = trace, *end = trace + trace_length; record < end; record += 5) {
         uint32_t low = get32(record + 1), duration = low & LAST_CLOCK;
         uint32_t key = (uint32_t)(record[0] & 127) << 2 | low >> 30;
-        if (duration >= ceilings[key]) return ceilings[key] ? DURATION : NAME;
+        if (duration >= ceilings[key]) return alone(ceilings[key] ? DURATION : NAME);
         /* A closed record measures 0, as one of a skipped action does, and 0 is not counted. */
         uint32_t measured = record[0] >> 7 ? duration : 0;
         sums[key] += (uint64_t)(measured != 0) << 40 | measured;
     }
-    if (room < length) return ROOM;
+    if (room < length) return alone(ROOM);
     memcpy(fresh, image, length);
     for (uint32_t a = 0; a < s.n; a++) {
         uint8_t *at = fresh + 6 + (size_t)a * s.stride + 12;
@@ -1052,5 +1119,5 @@ uint32_t fast_refresh(const uint8_t *image, size_t length, const uint8_t *trace,
         }
     }
     *written = length;
-    return 0;
+    return alone(0);
 }

@@ -1,6 +1,7 @@
 /* The public calls of the quality manager in C, written for speed.
  *
- * Each call answers the number of its refusal, 0 for none. Lent slices are a pointer and a count of entries; they are
+ * Each call answers the number of its refusal, 0 for none; those that take an image, or write one, have the lowest
+ * action at fault beside it, FAST_NO_ACTION where none is. Lent slices are a pointer and a count of entries; they are
  * written only when there is no refusal and keep their tails. Slices of one call must not overlap. */
 #ifndef NYOKAZERUBI_FAST_H
 #define NYOKAZERUBI_FAST_H
@@ -8,6 +9,12 @@
 #include <stdbool.h>
 #include <stddef.h>
 #include <stdint.h>
+
+typedef struct {
+    uint32_t number, action;
+} fast_fault;
+
+#define FAST_NO_ACTION 64u
 
 typedef struct {
     size_t n, levels;
@@ -61,25 +68,25 @@ typedef struct {
     bool overrun, late;
 } fast_body_dried;
 
-/* What fast_speed_reading answers where the time is spent; no refusal has this number. */
+/* The number that fast_speed_reading answers where the time is spent; no refusal has it. */
 #define FAST_SPENT 255u
 
-uint32_t fast_check(const uint8_t *image, size_t length, fast_counts *counts);
+fast_fault fast_check(const uint8_t *image, size_t length, fast_counts *counts);
 
-uint32_t fast_read(const uint8_t *image, size_t length, uint64_t *masks, size_t masks_room, uint32_t *deadlines,
-                   size_t deadlines_room, uint32_t *averages, size_t averages_room, uint32_t *worst, size_t worst_room,
-                   fast_counts *counts);
+fast_fault fast_read(const uint8_t *image, size_t length, uint64_t *masks, size_t masks_room, uint32_t *deadlines,
+                     size_t deadlines_room, uint32_t *averages, size_t averages_room, uint32_t *worst,
+                     size_t worst_room, fast_counts *counts);
 
-uint32_t fast_write(size_t n, size_t levels, uint32_t cycle, const uint64_t *masks, size_t masks_room,
-                    const uint32_t *deadlines, size_t deadlines_room, const uint32_t *averages, size_t averages_room,
-                    const uint32_t *worst, size_t worst_room, uint8_t *image, size_t room, size_t *written);
+fast_fault fast_write(size_t n, size_t levels, uint32_t cycle, const uint64_t *masks, size_t masks_room,
+                      const uint32_t *deadlines, size_t deadlines_room, const uint32_t *averages, size_t averages_room,
+                      const uint32_t *worst, size_t worst_room, uint8_t *image, size_t room, size_t *written);
 
 /* The part begins at *part and has *part_length bytes, 0 with a refusal. */
-uint32_t fast_lookup(const uint8_t *image, size_t length, size_t action, const uint8_t **part, size_t *part_length);
+fast_fault fast_lookup(const uint8_t *image, size_t length, size_t action, const uint8_t **part, size_t *part_length);
 
-uint32_t fast_plan(const uint8_t *image, size_t length, uint8_t *order, size_t order_room, int32_t *limits,
-                   size_t limits_room, uint32_t *worst, size_t worst_room, int32_t *bounds, size_t bounds_room,
-                   fast_counts *counts);
+fast_fault fast_plan(const uint8_t *image, size_t length, uint8_t *order, size_t order_room, int32_t *limits,
+                     size_t limits_room, uint32_t *worst, size_t worst_room, int32_t *bounds, size_t bounds_room,
+                     fast_counts *counts);
 
 uint32_t fast_start(fast_run *run, size_t n, size_t levels);
 
@@ -93,17 +100,17 @@ uint32_t fast_dry_run(size_t n, size_t levels, const int32_t *limits, size_t lim
                       size_t durations_room, uint8_t *given, size_t given_room, uint8_t *marks, size_t marks_room,
                       fast_dried *dried);
 
-uint32_t fast_open_recording(const uint8_t *image, size_t length, size_t bytes, uint8_t *order, size_t order_room,
-                             int32_t *limits, size_t limits_room, uint32_t *worst, size_t worst_room, int32_t *bounds,
-                             size_t bounds_room, fast_opened *opened);
+fast_fault fast_open_recording(const uint8_t *image, size_t length, size_t bytes, uint8_t *order, size_t order_room,
+                               int32_t *limits, size_t limits_room, uint32_t *worst, size_t worst_room, int32_t *bounds,
+                               size_t bounds_room, fast_opened *opened);
 
 uint32_t fast_rehearse(fast_totals *totals, size_t n, size_t levels, const int32_t *limits, size_t limits_room,
                        const uint32_t *worst, size_t worst_room, const int32_t *bounds, size_t bounds_room,
                        const uint8_t *frame, size_t frame_room, fast_line *line);
 
-uint32_t fast_plan_body(const uint8_t *image, size_t length, uint32_t repeats, uint8_t *order, size_t order_room,
-                        uint32_t *summaries, size_t summaries_room, uint32_t *worst, size_t worst_room,
-                        fast_body *body);
+fast_fault fast_plan_body(const uint8_t *image, size_t length, uint32_t repeats, uint8_t *order, size_t order_room,
+                          uint32_t *summaries, size_t summaries_room, uint32_t *worst, size_t worst_room,
+                          fast_body *body);
 
 uint32_t fast_body_limit(fast_body body, const uint32_t *summaries, size_t summaries_room, size_t position,
                          size_t level, int64_t *limit);
@@ -118,15 +125,15 @@ uint32_t fast_body_ask(fast_body_run *run, const uint8_t *order, size_t order_ro
 
 uint32_t fast_body_report(fast_body_run *run, uint32_t clock, const uint32_t *worst, size_t worst_room);
 
-uint32_t fast_body_dry_frame(const uint8_t *image, size_t length, uint32_t repeats, const uint32_t *durations,
-                             size_t durations_room, uint8_t *order, size_t order_room, uint8_t *given,
-                             size_t given_room, uint8_t *marks, size_t marks_room, fast_body_dried *dried);
+fast_fault fast_body_dry_frame(const uint8_t *image, size_t length, uint32_t repeats, const uint32_t *durations,
+                               size_t durations_room, uint8_t *order, size_t order_room, uint8_t *given,
+                               size_t given_room, uint8_t *marks, size_t marks_room, fast_body_dried *dried);
 
 /* Answers 0 and the ratio, FAST_SPENT, or the number of the refusal. */
-uint32_t fast_speed_reading(const uint8_t *image, size_t length, size_t first, size_t last, size_t level,
-                            uint32_t t, double *ratio);
+fast_fault fast_speed_reading(const uint8_t *image, size_t length, size_t first, size_t last, size_t level,
+                              uint32_t t, double *ratio);
 
-uint32_t fast_refresh(const uint8_t *image, size_t length, const uint8_t *trace, size_t trace_length, uint8_t *fresh,
-                      size_t room, size_t *written);
+fast_fault fast_refresh(const uint8_t *image, size_t length, const uint8_t *trace, size_t trace_length, uint8_t *fresh,
+                        size_t room, size_t *written);
 
 #endif

@@ -11,7 +11,7 @@
 enum { N = 64, L = 8, TABLE = N * L, BOUNDS = 16 * TABLE, IMAGE = 6 + N * (12 + 6 * L), RECORDS = 2000, ROOM = 1 << 18 };
 enum { REPEATS = 1620, ALL = N * REPEATS };
 
-static uint8_t image[IMAGE], fresh[IMAGE], order[N], given[N], marks[N], trace[5 * RECORDS], frame[4 * TABLE];
+static uint8_t image[IMAGE], looped[IMAGE], fresh[IMAGE], order[N], given[N], marks[N], trace[5 * RECORDS], frame[4 * TABLE];
 static int32_t limits[TABLE], bounds[BOUNDS], none[BOUNDS];
 static uint32_t worst[TABLE], averages[TABLE], deadlines[N], durations[TABLE];
 static uint64_t masks[N];
@@ -37,6 +37,12 @@ static void profile(void) {
     }
     bytes = nyokazerubi_write(N, 2, 9 * 63 + 11, masks, N, deadlines, N, averages, TABLE, worst, TABLE, image, IMAGE).bytes;
     hold(bytes > 0, "a profile");
+    /* The same with a loop through all: each action comes after the one before it, the first after the last. */
+    memcpy(looped, image, bytes);
+    for (size_t a = 0; a < N; a++) {
+        size_t before = (a + N - 1) % N, record = 6 + a * (12 + 6 * 2);
+        looped[record + 7 - before / 8] = (uint8_t)(1 << before % 8);
+    }
     for (size_t at = 0; at < RECORDS; at++) trace[5 * at] = (uint8_t)(128 + 2 * (at % N));
     for (size_t cell = 0; cell < TABLE; cell++) frame[4 * cell + 3] = (uint8_t)durations[cell];
     for (size_t at = 0; at < BOUNDS; at++) none[at] = NYOKAZERUBI_ABSENT_BOUND;
@@ -50,6 +56,7 @@ static void profile(void) {
 
 static void nothing(void) {}
 static void check(void) { hold(nyokazerubi_check(image, bytes).number == 0, "check"); }
+static void check_looped(void) { hold(nyokazerubi_check(looped, bytes).number == NYOKAZERUBI_REFUSED_LOOP, "a loop"); }
 static void plan(void) { hold(nyokazerubi_plan(image, bytes, order, N, limits, TABLE, worst, TABLE, bounds, BOUNDS).n == N, "plan"); }
 static void refresh(void) { hold(nyokazerubi_refresh(image, bytes, trace, sizeof trace, fresh, IMAGE).bytes == bytes, "refresh"); }
 static void reading(void) { hold(nyokazerubi_on_time(image, bytes, 0, 63, 0, 0), "on time"); }
@@ -133,10 +140,11 @@ int main(void) {
     static const struct {
         const char *name;
         void (*job)(void);
-    } jobs[] = {{"check", check},         {"plan", plan},           {"refresh", refresh},
-                {"on_time", reading},     {"dry_frame", dry_frame}, {"open_recording", open_recording},
+    } jobs[] = {{"plan", plan},           {"refresh", refresh},     {"on_time", reading},
+                {"dry_frame", dry_frame}, {"open_recording", open_recording},
                 {"plan_body", plan_body}, {"body_dry_frame", body_dry_frame}};
     for (size_t at = 0; at < sizeof jobs / sizeof *jobs; at++) printf("nyokazerubi_%s %zu\n", jobs[at].name, again(jobs[at].job) - still);
+    printf("nyokazerubi_check %zu\n", most(check, check_looped) - still);
     printf("nyokazerubi_dry_run %zu\n", most(dry_run, dry_alone) - still);
     size_t framed = most(rehearse, rehearse_alone);
     calls = does_nothing;

@@ -4,7 +4,7 @@
 #![allow(dead_code, clippy::too_many_arguments)]
 
 /// The version of this boundary; [`nyokazerubi_boundary`] has that of the archive that is linked.
-pub const BOUNDARY: u32 = 3;
+pub const BOUNDARY: u32 = 4;
 
 pub const MOST_ACTIONS: usize = 64;
 pub const MOST_LEVELS: usize = 8;
@@ -16,6 +16,7 @@ pub const MOST_POSITIONS: usize = 103_680;
 pub const SUMMARY_NUMBERS: usize = 4;
 pub const LAST_CLOCK: u32 = 1_073_741_823;
 pub const LONGEST_TIME: u32 = 16_777_215;
+pub const NO_ACTION: u32 = 64;
 pub const ABSENT_BOUND: i32 = i32::MIN;
 pub const ABSENT_LONG: i64 = i64::MIN;
 
@@ -78,8 +79,15 @@ pub struct Refusal {
 
 #[derive(Clone, Copy, Debug, PartialEq, Eq)]
 #[repr(C)]
+pub struct Fault {
+    pub number: u32,
+    pub action: u32,
+}
+
+#[derive(Clone, Copy, Debug, PartialEq, Eq)]
+#[repr(C)]
 pub struct Unpacked {
-    pub refusal: Refusal,
+    pub refusal: Fault,
     pub n: usize,
     pub levels: usize,
     pub cycle: u32,
@@ -88,14 +96,14 @@ pub struct Unpacked {
 #[derive(Clone, Copy, Debug, PartialEq, Eq)]
 #[repr(C)]
 pub struct Written {
-    pub refusal: Refusal,
+    pub refusal: Fault,
     pub bytes: usize,
 }
 
 #[derive(Clone, Copy, Debug, PartialEq, Eq)]
 #[repr(C)]
 pub struct Place {
-    pub refusal: Refusal,
+    pub refusal: Fault,
     pub start: usize,
     pub length: usize,
 }
@@ -103,7 +111,7 @@ pub struct Place {
 #[derive(Clone, Copy, Debug, PartialEq, Eq)]
 #[repr(C)]
 pub struct Planned {
-    pub refusal: Refusal,
+    pub refusal: Fault,
     pub n: usize,
     pub levels: usize,
     pub cycle: u32,
@@ -148,7 +156,7 @@ pub struct Dried {
 #[derive(Clone, Copy, Debug, PartialEq, Eq)]
 #[repr(C)]
 pub struct Framed {
-    pub refusal: Refusal,
+    pub refusal: Fault,
     pub n: usize,
     pub decisions: u32,
     pub end: u32,
@@ -159,7 +167,7 @@ pub struct Framed {
 #[derive(Clone, Copy, Debug, PartialEq, Eq)]
 #[repr(C)]
 pub struct Opened {
-    pub refusal: Refusal,
+    pub refusal: Fault,
     pub n: usize,
     pub levels: usize,
     pub frame_bytes: usize,
@@ -200,7 +208,7 @@ pub struct Body {
 #[derive(Clone, Copy, Debug, PartialEq, Eq)]
 #[repr(C)]
 pub struct BodyPlanned {
-    pub refusal: Refusal,
+    pub refusal: Fault,
     pub body: Body,
 }
 
@@ -229,7 +237,7 @@ pub struct BodyRun {
 #[derive(Clone, Copy, Debug, PartialEq, Eq)]
 #[repr(C)]
 pub struct BodyFramed {
-    pub refusal: Refusal,
+    pub refusal: Fault,
     pub decisions: u32,
     pub end: u64,
     pub positions: u32,
@@ -240,7 +248,7 @@ pub struct BodyFramed {
 #[derive(Clone, Copy, Debug, PartialEq)]
 #[repr(C)]
 pub struct Reading {
-    pub refusal: Refusal,
+    pub refusal: Fault,
     pub spent: bool,
     pub ratio: f64,
 }
@@ -248,13 +256,13 @@ pub struct Reading {
 #[derive(Clone, Copy, Debug, PartialEq, Eq)]
 #[repr(C)]
 pub struct Refreshed {
-    pub refusal: Refusal,
+    pub refusal: Fault,
     pub bytes: usize,
 }
 
 extern "C" {
     pub fn nyokazerubi_boundary() -> u32;
-    pub fn nyokazerubi_check(image: *const u8, image_length: usize) -> Refusal;
+    pub fn nyokazerubi_check(image: *const u8, image_length: usize) -> Fault;
     pub fn nyokazerubi_read(
         image: *const u8,
         image_length: usize,
@@ -284,7 +292,7 @@ extern "C" {
     ) -> Written;
     pub fn nyokazerubi_write_encoder(image: *mut u8, image_length: usize) -> Written;
     pub fn nyokazerubi_lookup(image: *const u8, image_length: usize, action: usize) -> Place;
-    pub fn nyokazerubi_lookup_refusal(image: *const u8, image_length: usize, action: usize) -> Refusal;
+    pub fn nyokazerubi_lookup_refusal(image: *const u8, image_length: usize, action: usize) -> Fault;
     pub fn nyokazerubi_plan(
         image: *const u8,
         image_length: usize,

@@ -1,8 +1,9 @@
 //! The calls of `c/fast.c`, from a shared library that is built and opened when asked for.
 
+use crate::boundary::{Fault, ACCEPTED};
 use crate::calls::{
-    Answer, Body, BodyDried, BodyRun, BodyTables, Calls, Counts, Dried, Given, Line, Opened, Reading, Run, Tables,
-    Totals,
+    Answer, Body, BodyDried, BodyRun, BodyTables, Calls, Counts, Dried, Given, Line, Opened, Reading, Refused, Run,
+    Tables, Totals, NO_ACTION,
 };
 use std::ffi::{c_char, c_int, c_void, CStr, CString};
 use std::os::unix::ffi::OsStrExt;
@@ -16,8 +17,8 @@ extern "C" {
 
 const RTLD_NOW: c_int = 2;
 
-/// What `fast_reading` answers where the time is spent.
-const SPENT: u32 = 255;
+/// What `fast_speed_reading` answers where the time is spent.
+const SPENT: Refused = Refused::of(255);
 
 /// Declares the table of functions with their types, and how to find them in a library.
 macro_rules! functions {
@@ -58,17 +59,17 @@ fn symbol(library: *mut c_void, name: &str) -> Result<*mut c_void, String> {
 }
 
 functions! {
-    check: unsafe extern "C" fn(*const u8, usize, *mut Counts) -> u32,
+    check: unsafe extern "C" fn(*const u8, usize, *mut Counts) -> Fault,
     read: unsafe extern "C" fn(
         *const u8, usize, *mut u64, usize, *mut u32, usize, *mut u32, usize, *mut u32, usize, *mut Counts,
-    ) -> u32,
+    ) -> Fault,
     write: unsafe extern "C" fn(
         usize, usize, u32, *const u64, usize, *const u32, usize, *const u32, usize, *const u32, usize, *mut u8, usize, *mut usize,
-    ) -> u32,
-    lookup: unsafe extern "C" fn(*const u8, usize, usize, *mut *const u8, *mut usize) -> u32,
+    ) -> Fault,
+    lookup: unsafe extern "C" fn(*const u8, usize, usize, *mut *const u8, *mut usize) -> Fault,
     plan: unsafe extern "C" fn(
         *const u8, usize, *mut u8, usize, *mut i32, usize, *mut u32, usize, *mut i32, usize, *mut Counts,
-    ) -> u32,
+    ) -> Fault,
     start: unsafe extern "C" fn(*mut Run, usize, usize) -> u32,
     ask: unsafe extern "C" fn(*mut Run, *const u8, usize, *const i32, usize, *const i32, usize, *mut Given) -> u32,
     report: unsafe extern "C" fn(*mut Run, u32, *const u32, usize) -> u32,
@@ -78,13 +79,13 @@ functions! {
     ) -> u32,
     open_recording: unsafe extern "C" fn(
         *const u8, usize, usize, *mut u8, usize, *mut i32, usize, *mut u32, usize, *mut i32, usize, *mut Opened,
-    ) -> u32,
+    ) -> Fault,
     rehearse: unsafe extern "C" fn(
         *mut Totals, usize, usize, *const i32, usize, *const u32, usize, *const i32, usize, *const u8, usize, *mut Line,
     ) -> u32,
     plan_body: unsafe extern "C" fn(
         *const u8, usize, u32, *mut u8, usize, *mut u32, usize, *mut u32, usize, *mut Body,
-    ) -> u32,
+    ) -> Fault,
     body_limit: unsafe extern "C" fn(Body, *const u32, usize, usize, usize, *mut i64) -> u32,
     body_bound: unsafe extern "C" fn(
         Body, *const u32, usize, *const u32, usize, usize, usize, usize, *mut i64,
@@ -96,15 +97,22 @@ functions! {
     body_report: unsafe extern "C" fn(*mut BodyRun, u32, *const u32, usize) -> u32,
     body_dry_frame: unsafe extern "C" fn(
         *const u8, usize, u32, *const u32, usize, *mut u8, usize, *mut u8, usize, *mut u8, usize, *mut BodyDried,
-    ) -> u32,
-    speed_reading: unsafe extern "C" fn(*const u8, usize, usize, usize, usize, u32, *mut f64) -> u32,
-    refresh: unsafe extern "C" fn(*const u8, usize, *const u8, usize, *mut u8, usize, *mut usize) -> u32,
+    ) -> Fault,
+    speed_reading: unsafe extern "C" fn(*const u8, usize, usize, usize, usize, u32, *mut f64) -> Fault,
+    refresh: unsafe extern "C" fn(*const u8, usize, *const u8, usize, *mut u8, usize, *mut usize) -> Fault,
 }
 
-fn answer<T>(number: u32, value: T) -> Answer<T> {
-    match number {
-        0 => Ok(value),
-        number => Err(number as u8),
+/// A refusal of the run is its number alone.
+impl From<u32> for Fault {
+    fn from(number: u32) -> Fault {
+        Fault { number, action: NO_ACTION }
+    }
+}
+
+fn answer<T>(refusal: impl Into<Fault>, value: T) -> Answer<T> {
+    match refusal.into() {
+        Fault { number: ACCEPTED, action: NO_ACTION } => Ok(value),
+        Fault { number, action } => Err(Refused::of(number).at(action as usize)),
     }
 }
 
@@ -133,8 +141,8 @@ impl C {
 impl Calls for C {
     fn check(&self, image: &[u8]) -> Answer<Counts> {
         let mut counts = Counts::default();
-        let number = unsafe { (self.check)(image.as_ptr(), image.len(), &mut counts) };
-        answer(number, counts)
+        let fault = unsafe { (self.check)(image.as_ptr(), image.len(), &mut counts) };
+        answer(fault, counts)
     }
 
     fn read(
@@ -146,7 +154,7 @@ impl Calls for C {
         worst_by_action: &mut [u32],
     ) -> Answer<Counts> {
         let mut counts = Counts::default();
-        let number = unsafe {
+        let fault = unsafe {
             (self.read)(
                 image.as_ptr(),
                 image.len(),
@@ -161,7 +169,7 @@ impl Calls for C {
                 &mut counts,
             )
         };
-        answer(number, counts)
+        answer(fault, counts)
     }
 
     fn write(
@@ -174,7 +182,7 @@ impl Calls for C {
         image: &mut [u8],
     ) -> Answer<usize> {
         let mut written = 0;
-        let number = unsafe {
+        let fault = unsafe {
             (self.write)(
                 counts.n,
                 counts.levels,
@@ -192,7 +200,7 @@ impl Calls for C {
                 &mut written,
             )
         };
-        answer(number, written)
+        answer(fault, written)
     }
 
     fn lookup<'a>(&self, image: &'a [u8], action: usize) -> &'a [u8] {
@@ -203,9 +211,9 @@ impl Calls for C {
         }
     }
 
-    fn lookup_refusal(&self, image: &[u8], action: usize) -> u8 {
+    fn lookup_refusal(&self, image: &[u8], action: usize) -> Answer<()> {
         let (mut part, mut length) = (image.as_ptr(), 0);
-        unsafe { (self.lookup)(image.as_ptr(), image.len(), action, &mut part, &mut length) as u8 }
+        answer(unsafe { (self.lookup)(image.as_ptr(), image.len(), action, &mut part, &mut length) }, ())
     }
 
     fn plan(
@@ -217,7 +225,7 @@ impl Calls for C {
         bounds: &mut [i32],
     ) -> Answer<Counts> {
         let mut counts = Counts::default();
-        let number = unsafe {
+        let fault = unsafe {
             (self.plan)(
                 image.as_ptr(),
                 image.len(),
@@ -232,7 +240,7 @@ impl Calls for C {
                 &mut counts,
             )
         };
-        answer(number, counts)
+        answer(fault, counts)
     }
 
     fn start(&self, n: usize, levels: usize) -> (Run, u8) {
@@ -320,7 +328,7 @@ impl Calls for C {
         bounds: &mut [i32],
     ) -> Answer<Opened> {
         let mut opened = Opened::default();
-        let number = unsafe {
+        let fault = unsafe {
             (self.open_recording)(
                 image.as_ptr(),
                 image.len(),
@@ -336,7 +344,7 @@ impl Calls for C {
                 &mut opened,
             )
         };
-        answer(number, opened)
+        answer(fault, opened)
     }
 
     fn rehearse(&self, totals: &mut Totals, n: usize, levels: usize, tables: Tables, frame: &[u8]) -> Answer<Line> {
@@ -369,7 +377,7 @@ impl Calls for C {
         worst_by_position: &mut [u32],
     ) -> Answer<Body> {
         let mut body = Body::default();
-        let number = unsafe {
+        let fault = unsafe {
             (self.plan_body)(
                 image.as_ptr(),
                 image.len(),
@@ -383,7 +391,7 @@ impl Calls for C {
                 &mut body,
             )
         };
-        answer(number, body)
+        answer(fault, body)
     }
 
     fn body_limit(&self, body: Body, summaries: &[u32], position: usize, level: usize) -> Answer<i64> {
@@ -456,7 +464,7 @@ impl Calls for C {
         marks: &mut [u8],
     ) -> Answer<BodyDried> {
         let mut cycle = BodyDried::default();
-        let number = unsafe {
+        let fault = unsafe {
             (self.body_dry_frame)(
                 image.as_ptr(),
                 image.len(),
@@ -472,21 +480,22 @@ impl Calls for C {
                 &mut cycle,
             )
         };
-        answer(number, cycle)
+        answer(fault, cycle)
     }
 
     fn speed_reading(&self, image: &[u8], first: usize, last: usize, level: usize, t: u32) -> Reading {
         let mut ratio = 0.0;
-        match unsafe { (self.speed_reading)(image.as_ptr(), image.len(), first, last, level, t, &mut ratio) } {
-            0 => Reading::Ratio(ratio),
-            SPENT => Reading::Spent,
-            number => Reading::Refused(number as u8),
+        let fault = unsafe { (self.speed_reading)(image.as_ptr(), image.len(), first, last, level, t, &mut ratio) };
+        match answer(fault, ratio) {
+            Ok(ratio) => Reading::Ratio(ratio),
+            Err(SPENT) => Reading::Spent,
+            Err(refused) => Reading::Refused(refused),
         }
     }
 
     fn refresh(&self, image: &[u8], trace: &[u8], fresh: &mut [u8]) -> Answer<usize> {
         let mut written = 0;
-        let number = unsafe {
+        let fault = unsafe {
             (self.refresh)(
                 image.as_ptr(),
                 image.len(),
@@ -497,6 +506,6 @@ impl Calls for C {
                 &mut written,
             )
         };
-        answer(number, written)
+        answer(fault, written)
     }
 }

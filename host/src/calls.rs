@@ -1,36 +1,68 @@
 //! The public calls as a trait, so that implementations can be laid side by side, and the values that they hand over.
 
-/// Either the values of a call or the number of its refusal.
-pub type Answer<T> = Result<T, u8>;
+use std::fmt::{self, Display};
+
+/// Either the values of a call or its refusal.
+pub type Answer<T> = Result<T, Refused>;
+
+/// A refusal: its number, and the lowest action at fault, [`NO_ACTION`] where none is.
+#[derive(Clone, Copy, Debug, PartialEq, Eq, PartialOrd, Ord)]
+pub struct Refused {
+    pub number: u8,
+    pub action: u8,
+}
+
+impl Refused {
+    /// One that no action is at fault for.
+    pub const fn of(number: u32) -> Refused {
+        Refused { number: number as u8, action: NO_ACTION as u8 }
+    }
+
+    /// The same with an action at fault.
+    pub const fn at(self, action: usize) -> Refused {
+        Refused { action: action as u8, ..self }
+    }
+}
+
+/// As the programs print it: with 5 to 8 the action too, with the others the number alone.
+impl Display for Refused {
+    fn fmt(&self, out: &mut fmt::Formatter) -> fmt::Result {
+        match self.number {
+            5..=8 => write!(out, "refused {} {}", self.number, self.action),
+            number => write!(out, "refused {number}"),
+        }
+    }
+}
 
 pub use crate::boundary::{
     Body, BodyRun, Run, Totals, ABSENT_BOUND, ABSENT_LONG, LAST_CLOCK, LONGEST_COAST, LONGEST_TIME, MOST_ACTIONS,
-    MOST_FRAMES, MOST_LEVELS, MOST_POSITIONS, MOST_RECORDS, MOST_REPEATS, SUMMARY_NUMBERS,
+    MOST_FRAMES, MOST_LEVELS, MOST_POSITIONS, MOST_RECORDS, MOST_REPEATS, NO_ACTION, SUMMARY_NUMBERS,
 };
 
-/// The numbers of refusal, those of the boundary by their last word.
+/// The refusals by the last word of their number in the boundary, each of no action.
 pub mod refused {
+    use super::Refused;
     use crate::boundary as of;
 
-    pub const SHORT: u8 = of::REFUSED_SHORT as u8;
-    pub const VERSION: u8 = of::REFUSED_VERSION as u8;
-    pub const COUNT: u8 = of::REFUSED_COUNT as u8;
-    pub const LENGTH: u8 = of::REFUSED_LENGTH as u8;
-    pub const SPARE: u8 = of::REFUSED_SPARE as u8;
-    pub const RANGE: u8 = of::REFUSED_RANGE as u8;
-    pub const TABLE: u8 = of::REFUSED_TABLE as u8;
-    pub const LOOP: u8 = of::REFUSED_LOOP as u8;
-    pub const UNFIT: u8 = of::REFUSED_UNFIT as u8;
-    pub const FINISHED: u8 = of::REFUSED_FINISHED as u8;
-    pub const TURN: u8 = of::REFUSED_TURN as u8;
-    pub const BACK: u8 = of::REFUSED_BACK as u8;
-    pub const CLOCK: u8 = of::REFUSED_CLOCK as u8;
-    pub const TRACE: u8 = of::REFUSED_TRACE as u8;
-    pub const NAME: u8 = of::REFUSED_NAME as u8;
-    pub const DURATION: u8 = of::REFUSED_DURATION as u8;
-    pub const ROOM: u8 = of::REFUSED_ROOM as u8;
-    pub const READING: u8 = of::REFUSED_READING as u8;
-    pub const REPEATS: u8 = of::REFUSED_REPEATS as u8;
+    pub const SHORT: Refused = Refused::of(of::REFUSED_SHORT);
+    pub const VERSION: Refused = Refused::of(of::REFUSED_VERSION);
+    pub const COUNT: Refused = Refused::of(of::REFUSED_COUNT);
+    pub const LENGTH: Refused = Refused::of(of::REFUSED_LENGTH);
+    pub const SPARE: Refused = Refused::of(of::REFUSED_SPARE);
+    pub const RANGE: Refused = Refused::of(of::REFUSED_RANGE);
+    pub const TABLE: Refused = Refused::of(of::REFUSED_TABLE);
+    pub const LOOP: Refused = Refused::of(of::REFUSED_LOOP);
+    pub const UNFIT: Refused = Refused::of(of::REFUSED_UNFIT);
+    pub const FINISHED: Refused = Refused::of(of::REFUSED_FINISHED);
+    pub const TURN: Refused = Refused::of(of::REFUSED_TURN);
+    pub const BACK: Refused = Refused::of(of::REFUSED_BACK);
+    pub const CLOCK: Refused = Refused::of(of::REFUSED_CLOCK);
+    pub const TRACE: Refused = Refused::of(of::REFUSED_TRACE);
+    pub const NAME: Refused = Refused::of(of::REFUSED_NAME);
+    pub const DURATION: Refused = Refused::of(of::REFUSED_DURATION);
+    pub const ROOM: Refused = Refused::of(of::REFUSED_ROOM);
+    pub const READING: Refused = Refused::of(of::REFUSED_READING);
+    pub const REPEATS: Refused = Refused::of(of::REFUSED_REPEATS);
 }
 
 /// Actions, levels and cycle of a profile.
@@ -99,7 +131,7 @@ pub struct BodyDried {
 pub enum Reading {
     Ratio(f64),
     Spent,
-    Refused(u8),
+    Refused(Refused),
 }
 
 /// Readings are equal to the bit.
@@ -161,8 +193,8 @@ pub trait Calls {
     /// The action's own part of the image, empty with a refusal.
     fn lookup<'a>(&self, image: &'a [u8], action: usize) -> &'a [u8];
 
-    /// The number of refusal of that lookup, 0 for none.
-    fn lookup_refusal(&self, image: &[u8], action: usize) -> u8;
+    /// The refusal of that lookup alone.
+    fn lookup_refusal(&self, image: &[u8], action: usize) -> Answer<()>;
 
     /// Order, limits, worst times by position and coast bounds.
     fn plan(
@@ -340,7 +372,7 @@ macro_rules! calls_of_module {
             fn lookup<'a>(&self, image: &'a [u8], action: usize) -> &'a [u8] {
                 $module::lookup(image, action)
             }
-            fn lookup_refusal(&self, image: &[u8], action: usize) -> u8 {
+            fn lookup_refusal(&self, image: &[u8], action: usize) -> Answer<()> {
                 $module::lookup_refusal(image, action)
             }
             fn plan(

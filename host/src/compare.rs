@@ -3,18 +3,19 @@
 mod bodies;
 
 use crate::calls::{
-    Answer, Calls, Counts, Given, Line, Reading, Run, Tables, Totals, LAST_CLOCK, LONGEST_COAST, MOST_ACTIONS,
-    MOST_LEVELS,
+    Answer, Calls, Counts, Given, Line, Reading, Refused, Run, Tables, Totals, LAST_CLOCK, LONGEST_COAST, MOST_ACTIONS,
+    MOST_LEVELS, NO_ACTION,
 };
-use crate::draw::{Draw, Size, PACES};
-use crate::reference::{fields_out, totals_out};
+use crate::draw::{Draw, Size, Sketch, PACES};
+use crate::reference::{fields_out, from_tables, spare_bit_set, totals_out, unpack, Follows, Profile};
 use std::collections::BTreeMap;
 use std::fmt::{self, Debug, Display};
 
-/// How often each call gave each number, 0 for none, and how often some events were seen.
+/// How often each call gave each number, 0 for none, at which action, and how often some events were seen.
 #[derive(Clone, Debug, Default)]
 pub struct Tally {
     numbers: BTreeMap<(&'static str, u8), u64>,
+    actions: BTreeMap<(&'static str, Refused), u64>,
     events: BTreeMap<String, u64>,
 }
 
@@ -45,7 +46,7 @@ pub const NUMBERS: [(&str, &[u8]); 22] = [
 ];
 
 /// The events that a good set of inputs meets, beside every grant from 1 to 16, of a body repeated too, and every level as the lowest of a frame.
-pub const EVENTS: [&str; 59] = [
+pub const EVENTS: [&str; 71] = [
     "on time",
     "not on time",
     "spent",
@@ -105,11 +106,35 @@ pub const EVENTS: [&str; 59] = [
     "body level out",
     "body coast left out",
     "body decisions out",
+    "check: 5 at several",
+    "check: 5 in the header too",
+    "check: 6 at several",
+    "check: 7 at several",
+    "check: 8 at several",
+    "check: 8 above one that comes before it",
+    "check: 8 above one that comes after it",
+    "write: 6 at several",
+    "write: 7 at several",
+    "write: 8 at several",
+    "write: 8 above one that comes before it",
+    "write: 8 above one that comes after it",
 ];
+
+/// The numbers that an action is at fault for, and how many different actions are met with each, of every call that gives it, at the least.
+const AT_FAULT: std::ops::RangeInclusive<u8> = 5..=8;
+const SEVERAL: usize = 8;
 
 impl Tally {
     fn number(&mut self, call: &'static str, number: u8) {
         *self.numbers.entry((call, number)).or_default() += 1;
+    }
+
+    /// The number and the action of a refusal, or 0.
+    fn answer<T>(&mut self, call: &'static str, answer: &Answer<T>) {
+        self.number(call, answer.as_ref().err().map_or(0, |refused| refused.number));
+        if let Err(refused) = answer {
+            *self.actions.entry((call, *refused)).or_default() += 1;
+        }
     }
 
     fn event(&mut self, event: impl Into<String>) {
@@ -126,6 +151,25 @@ impl Tally {
         self.numbers.iter().filter(|((_, no), _)| *no == number).map(|(_, count)| count).sum()
     }
 
+    /// The actions that a call gave with a number, each once, [`NO_ACTION`] among them.
+    fn named(&self, call: &str, number: u8) -> Vec<u32> {
+        let its = self.actions.keys().filter(|(name, refused)| *name == call && refused.number == number);
+        its.map(|(_, refused)| u32::from(refused.action)).collect()
+    }
+
+    /// What is amiss with them: with 5 to 8 too few are different; with 5 the header is never alone at fault, or with 6 to 8 none is; with any other
+    /// number one is.
+    fn named_amiss(&self, call: &str, number: u8) -> Option<String> {
+        let named = self.named(call, number);
+        let none = named.contains(&NO_ACTION);
+        let different = named.len() - usize::from(none);
+        let amiss = match AT_FAULT.contains(&number) {
+            true => different < SEVERAL || none != (number == 5),
+            false => different > 0,
+        };
+        amiss.then(|| format!("{call}: {number} at {named:?}"))
+    }
+
     /// The inputs that were compared, one to a call.
     pub fn inputs(&self) -> u64 {
         self.numbers.values().sum()
@@ -138,6 +182,7 @@ impl Tally {
             gaps.extend(
                 numbers.iter().filter(|&&no| self.met(call, no) == 0).map(|no| format!("{call}: {no} not met")),
             );
+            gaps.extend(numbers.iter().filter_map(|&no| self.named_amiss(call, no)));
         }
         for &(call, no) in self.numbers.keys() {
             if !NUMBERS.iter().any(|(name, numbers)| *name == call && numbers.contains(&no)) {
@@ -166,6 +211,14 @@ impl Display for Tally {
         }
         let events: Vec<String> = self.events.iter().map(|(event, count)| format!("{event} {count}")).collect();
         writeln!(out, "{}", events.join(", "))?;
+        for number in AT_FAULT {
+            let mut named = BTreeMap::<u8, u64>::new();
+            for ((_, refused), count) in self.actions.iter().filter(|((_, refused), _)| refused.number == number) {
+                *named.entry(refused.action).or_default() += count;
+            }
+            let named: Vec<String> = named.iter().map(|(action, count)| format!("{action}\u{d7}{count}")).collect();
+            writeln!(out, "{number} at action {}", named.join(" "))?;
+        }
         let numbers: Vec<String> = (0..=19).map(|no| format!("{no}\u{d7}{}", self.met_at_all(no))).collect();
         writeln!(out, "{} inputs: {}", self.inputs(), numbers.join(" "))
     }
@@ -191,10 +244,6 @@ struct Pair<'a> {
     right: &'a dyn Calls,
     draw: Draw,
     tally: Tally,
-}
-
-fn number_of<T>(answer: &Answer<T>) -> u8 {
-    answer.as_ref().err().copied().unwrap_or(0)
 }
 
 fn hex(bytes: &[u8]) -> String {
@@ -259,8 +308,42 @@ impl Pair<'_> {
     /// The counts of an accepted image.
     fn check(&mut self, image: &[u8]) -> Result<Option<Counts>, String> {
         let answer = self.same("check", &|| hex(image), |calls| calls.check(image))?;
-        self.tally.number("check", number_of(&answer));
+        self.tally.answer("check", &answer);
+        if let Err(refused) = answer {
+            if refused.number == 5 {
+                let spare = spare_bit_set(image);
+                self.note_several("check", refused, &spare);
+                if !spare.is_empty() && image[5] & 7 != 0 {
+                    self.tally.event("check: 5 in the header too");
+                }
+            } else if AT_FAULT.contains(&refused.number) {
+                self.note_faults("check", refused, &unpack(image));
+            }
+        }
         Ok(answer.ok())
+    }
+
+    /// Whether there is more than the lowest to choose from.
+    fn note_several(&mut self, call: &str, refused: Refused, at_fault: &[usize]) {
+        if at_fault.len() > 1 {
+            self.tally.event(format!("{call}: {} at several", refused.number));
+        }
+    }
+
+    /// The actions of a profile at fault with 6, 7 or 8. Those below the lowest on a loop are on none, yet may come before it or after it.
+    fn note_faults(&mut self, call: &str, refused: Refused, profile: &Profile) {
+        self.note_several(call, refused, &profile.at_fault(refused));
+        if refused.number == 8 {
+            let (follows, a) = (Follows::of(profile), usize::from(refused.action));
+            for (event, so) in [
+                ("before", (0..a).any(|b| follows.must_follow(b, a))),
+                ("after", (0..a).any(|b| follows.must_follow(a, b))),
+            ] {
+                if so {
+                    self.tally.event(format!("{call}: 8 above one that comes {event} it"));
+                }
+            }
+        }
     }
 
     fn read(&mut self, image: &[u8], counts: Option<Counts>) -> Result<(), String> {
@@ -273,19 +356,19 @@ impl Pair<'_> {
             let answer = calls.read(image, &mut lent.0, &mut lent.1, &mut lent.2, &mut lent.3);
             (answer, lent)
         })?;
-        self.tally.number("read", number_of(&result.0));
+        self.tally.answer("read", &result.0);
         Ok(())
     }
 
     fn lookup(&mut self, image: &[u8], counts: Option<Counts>) -> Result<(), String> {
         let action = self.draw.name(counts.map_or(5, |counts| counts.n - 1));
-        let number = self.same("lookup", &|| format!("{} {action}", hex(image)), |calls| {
+        let result = self.same("lookup", &|| format!("{} {action}", hex(image)), |calls| {
             let part = calls.lookup(image, action);
             // Uncopied: the same place. An empty part has none.
             let place = (!part.is_empty()).then_some(part.as_ptr());
             (calls.lookup_refusal(image, action), place, part.len())
         })?;
-        self.tally.number("lookup", number.0);
+        self.tally.answer("lookup", &result.0);
         Ok(())
     }
 
@@ -297,7 +380,7 @@ impl Pair<'_> {
             let answer = calls.plan(image, &mut lent.0, &mut lent.1, &mut lent.2, &mut lent.3);
             (answer, lent)
         })?;
-        self.tally.number("plan", number_of(&result.0));
+        self.tally.answer("plan", &result.0);
         Ok(())
     }
 
@@ -318,7 +401,7 @@ impl Pair<'_> {
             let answer = calls.open_recording(image, bytes, &mut lent.0, &mut lent.1, &mut lent.2, &mut lent.3);
             (answer, lent)
         })?;
-        self.tally.number("open recording", number_of(&result.0));
+        self.tally.answer("open recording", &result.0);
         Ok(())
     }
 
@@ -342,8 +425,7 @@ impl Pair<'_> {
             Reading::Spent => self.tally.event("spent"),
             Reading::Refused(_) => {}
         }
-        let number = if let Reading::Refused(number) = reading { number } else { 0 };
-        self.tally.number("reading", number);
+        self.tally.answer("reading", &if let Reading::Refused(refused) = reading { Err(refused) } else { Ok(()) });
         let on_time = self.same("on time", &|| format!("{} {first} {last} {level} {time}", hex(image)), |calls| {
             calls.on_time(image, first, last, level, time)
         })?;
@@ -360,7 +442,7 @@ impl Pair<'_> {
                 let (mut averages, mut worst) = (vec![0; cells], vec![0; cells]);
                 self.left
                     .read(image, &mut masks, &mut heads, &mut averages, &mut worst)
-                    .map_err(|no| no.to_string())?;
+                    .map_err(|refused| refused.to_string())?;
                 self.draw.trace(n, levels, &worst)
             }
             None => self.draw.trace(3, 2, &[4, 8, 4, 8, 4, 8]),
@@ -372,7 +454,7 @@ impl Pair<'_> {
             let answer = calls.refresh(image, &trace, &mut lent);
             (answer, lent)
         })?;
-        self.tally.number("refresh", number_of(&result.0));
+        self.tally.answer("refresh", &result.0);
         Ok(())
     }
 
@@ -393,7 +475,7 @@ impl Pair<'_> {
             let answer = calls.dry_frame(image, &durations, &mut lent.0, &mut lent.1, &mut lent.2);
             (answer, lent)
         })?;
-        self.tally.number("dry frame", number_of(&result.0));
+        self.tally.answer("dry frame", &result.0);
         Ok(())
     }
 
@@ -415,7 +497,11 @@ impl Pair<'_> {
                 calls.write(counts, &sketch.masks, &sketch.deadlines, &sketch.averages, &sketch.worst, &mut lent);
             (answer, lent)
         })?;
-        self.tally.number("write", number_of(&result.0));
+        self.tally.answer("write", &result.0);
+        if let Err(refused @ Refused { number: 6..=8, .. }) = result.0 {
+            let Sketch { masks, deadlines, averages, worst, .. } = &sketch;
+            self.note_faults("write", refused, &from_tables(counts, masks, deadlines, averages, worst));
+        }
         Ok(())
     }
 
@@ -484,7 +570,7 @@ impl Pair<'_> {
     }
 
     fn note_asked(&mut self, asked: &(Run, Answer<Given>)) {
-        self.tally.number("ask", number_of(&asked.1));
+        self.tally.answer("ask", &asked.1);
         if let (run, Ok(answer)) = asked {
             if answer.decided {
                 self.tally.event(format!("grant {}", run.left + 1));
@@ -513,7 +599,7 @@ impl Pair<'_> {
             let answer = calls.dry_run(n, levels, tables, durations, &mut lent.0, &mut lent.1);
             (answer, lent)
         })?;
-        self.tally.number("dry run", number_of(&result.0));
+        self.tally.answer("dry run", &result.0);
         if let Ok(cycle) = result.0 {
             self.tally.event(if cycle.overrun { "overrun" } else { "no overrun" });
         }
@@ -538,7 +624,7 @@ impl Pair<'_> {
             let answer = calls.rehearse(&mut totals, n, levels, tables, frame);
             (answer, totals)
         })?;
-        self.tally.number("rehearse", number_of(&answer));
+        self.tally.answer("rehearse", &answer);
         if let Ok(line) = answer {
             self.note_line(line, frame.len() > 4 * n * levels);
         }
@@ -585,7 +671,7 @@ impl Pair<'_> {
         let (mut order, mut limits) = (vec![0; MOST_ACTIONS], vec![0; CELLS]);
         let (mut worst, mut bounds) = (vec![0; CELLS], vec![0; CELLS * LONGEST_COAST]);
         let planned = self.left.plan(image, &mut order, &mut limits, &mut worst, &mut bounds);
-        let Counts { n, levels, .. } = planned.map_err(|no| format!("the plan is refused: {no}"))?;
+        let Counts { n, levels, .. } = planned.map_err(|refused| format!("the plan is {refused}"))?;
         let cells = n * levels;
         let tables = Tables { limits: &limits, worst_by_position: &worst, bounds: &bounds };
         let mut totals = self.draw.totals();

@@ -369,13 +369,13 @@ impl Draw {
         bytes
     }
 
-    /// One fault in a field.
+    /// A fault of one number, those of actions at one or at some of them.
     fn spoil(&mut self, sketch: &mut Sketch) {
         let n = sketch.masks.len();
         let levels = sketch.averages.len() / n;
-        let a = self.index(n);
-        let cell = self.index(n * levels);
-        match self.between(2, 9) {
+        let count = self.pick(&[1, 1, 2, 3]);
+        let actions: Vec<usize> = (0..count).map(|_| self.index(n)).collect();
+        match self.pick(&[2, 3, 4, 5, 5, 6, 6, 7, 7, 8, 8, 8, 9]) {
             2 => sketch.version = self.pick(&[0, 2, 3, 5, 9, 15]),
             3 => match self.between(0, 4) {
                 0 => sketch.n = self.pick(&[0, 65, 127]),
@@ -385,30 +385,62 @@ impl Draw {
                 _ => sketch.levels = self.between(1, 8),
             },
             4 => self.resize(sketch),
-            5 if self.once_in(3) => sketch.spare = self.between(1, 7),
             5 => {
-                sketch.spares = vec![0; n];
-                sketch.spares[a] = self.between(1, 3);
-            }
-            6 if n < MOST_ACTIONS && self.once_in(2) => sketch.masks[a] |= 1 << self.between(n as u32, 63),
-            6 => sketch.deadlines[a] = self.pick(&[sketch.cycle.saturating_add(1), LAST_CLOCK]),
-            7 => match self.between(0, 3) {
-                0 | 1 => sketch.averages[cell] = sketch.worst[cell].saturating_add(1),
-                2 => sketch.worst[cell] = sketch.worst[cell].saturating_sub(1),
-                _ => sketch.averages[cell] = sketch.averages[cell].saturating_sub(1),
-            },
-            8 => {
-                let others = [a, self.index(n), self.index(n)];
-                for (place, &b) in others.iter().enumerate() {
-                    sketch.masks[b] |= 1 << others[(place + 1) % 3];
+                let header = self.once_in(3);
+                sketch.spare = if header { self.between(1, 7) } else { sketch.spare };
+                sketch.spares.resize(n, 0);
+                if !header || self.once_in(2) {
+                    actions.into_iter().for_each(|a| sketch.spares[a] = self.between(1, 3));
                 }
             }
+            6 => actions.into_iter().for_each(|a| self.put_out_of_range(sketch, a)),
+            7 => actions.into_iter().for_each(|a| {
+                let cell = a * levels + self.index(levels);
+                self.break_table_rule(sketch, cell);
+            }),
+            8 => self.close_loop(sketch, &actions),
             _ => {
                 let least = sketch.total_at_least(levels);
                 sketch.cycle = self.between(1, least.max(1));
                 for deadline in &mut sketch.deadlines {
                     *deadline = (*deadline).min(sketch.cycle);
                 }
+            }
+        }
+    }
+
+    /// A deadline above the cycle, or a mask that names an action too many.
+    fn put_out_of_range(&mut self, sketch: &mut Sketch, a: usize) {
+        let n = sketch.masks.len();
+        if n < MOST_ACTIONS && self.once_in(2) {
+            sketch.masks[a] |= 1 << self.between(n as u32, 63);
+        } else {
+            sketch.deadlines[a] = self.pick(&[sketch.cycle.saturating_add(1), LAST_CLOCK]);
+        }
+    }
+
+    /// An average above its worst time, or a time that may then fall with the level.
+    fn break_table_rule(&mut self, sketch: &mut Sketch, cell: usize) {
+        match self.between(0, 3) {
+            0 | 1 => sketch.averages[cell] = sketch.worst[cell].saturating_add(1),
+            2 => sketch.worst[cell] = sketch.worst[cell].saturating_sub(1),
+            _ => sketch.averages[cell] = sketch.averages[cell].saturating_sub(1),
+        }
+    }
+
+    /// A loop through some actions, and steps between it and others, many of them lower, that come before it or after it; now and then another loop.
+    fn close_loop(&mut self, sketch: &mut Sketch, actions: &[usize]) {
+        for (place, &a) in actions.iter().enumerate() {
+            sketch.masks[a] |= 1 << actions[(place + 1) % actions.len()];
+        }
+        for _ in 0..self.between(0, 3) {
+            let on = self.pick(actions);
+            let among = self.pick(&[sketch.masks.len(), on + 1]);
+            let other = self.index(among);
+            match self.between(0, 6) {
+                0 => sketch.masks[other] |= 1 << other,
+                1..=3 => sketch.masks[on] |= 1 << other,
+                _ => sketch.masks[other] |= 1 << on,
             }
         }
     }
@@ -444,15 +476,11 @@ impl Draw {
             return sketch;
         }
         for _ in 0..self.pick(&[1, 1, 2]) {
-            let cell = self.index(sketch.averages.len());
-            let a = self.index(sketch.masks.len());
             match self.between(0, 9) {
                 0 => sketch.n = self.pick(&[0, 65, u32::MAX]),
                 1 => sketch.levels = self.pick(&[0, 9, u32::MAX]),
                 2 => sketch.cycle = self.pick(&[0, LAST_CLOCK + 1, u32::MAX]),
-                3 => sketch.worst[cell] = self.pick(&[LONGEST_TIME + 1, u32::MAX]),
-                4 => sketch.averages[cell] = self.pick(&[LONGEST_TIME + 1, u32::MAX]),
-                5 => sketch.deadlines[a] = self.pick(&[LAST_CLOCK + 1, u32::MAX]),
+                3..=5 => (0..self.pick(&[1, 1, 2, 3])).for_each(|_| self.overflow(&mut sketch)),
                 _ => {
                     let spare = (sketch.masks.len(), sketch.averages.len());
                     self.spoil(&mut sketch);
@@ -464,6 +492,16 @@ impl Draw {
             }
         }
         sketch
+    }
+
+    /// A time or a deadline longer than its field.
+    fn overflow(&mut self, sketch: &mut Sketch) {
+        let (a, cell) = (self.index(sketch.masks.len()), self.index(sketch.averages.len()));
+        match self.between(0, 2) {
+            0 => sketch.worst[cell] = self.pick(&[LONGEST_TIME + 1, u32::MAX]),
+            1 => sketch.averages[cell] = self.pick(&[LONGEST_TIME + 1, u32::MAX]),
+            _ => sketch.deadlines[a] = self.pick(&[LAST_CLOCK + 1, u32::MAX]),
+        }
     }
 }
 

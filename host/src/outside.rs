@@ -56,9 +56,10 @@ Made from the definitions of the rules, by a seed.
 
 - NNN.profile (an image, any bytes), NNN.durations; NNN.plan is what the plan program prints for the image, NNN.dry what the dry-run program prints for both.
 - tNN.profile, tNN.trace; then either tNN.refreshed, the new image, or tNN.refused, the line of the refusal.
-- readings.txt: an image in hexadecimal, first position, last position, level, time, and the reading: `spent`, `refused` and the number, or the 64 bits of the ratio in hexadecimal.
+- readings.txt: an image in hexadecimal, first position, last position, level, time, and the reading: `spent`, the refusal, or the 64 bits of the ratio in hexadecimal.
 - rNN.profile, rNN.recording; rNN.rehearse is what the rehearsing program prints for both.
 - bNN.body (an image), bNN.repeats; bNN.limits has the lines `position action limits..` that the program for a body repeated prints after its first, all of them or some, or the line of the refusal; bNN.bounds lines `position level length bound`; bNN.durations, and in bNN.dry what the dry run over them answers.
+- The line of a refusal is `refused` and its number; with 5 to 8 the lowest action at fault comes after that, 64 where only the header is.
 ";
 
 /// Writes all vectors of a seed into a folder, which is made if it is not there.
@@ -70,7 +71,7 @@ pub fn write(folder: &Path, seed: u64) -> io::Result<Written> {
     for case in maker.cases() {
         page += &maker.case(&case)?;
     }
-    page += "\n| trace | what | number |\n|---|---|---|\n";
+    page += "\n| trace | what | answer |\n|---|---|---|\n";
     for trace in maker.traces() {
         page += &maker.trace(&trace)?;
     }
@@ -162,9 +163,9 @@ impl Maker<'_> {
                 let what = format!("{name}, durations {}", pace_name(pace));
                 Case { what, image, durations: big_endian(&durations) }
             }
-            Err(number) => {
+            Err(refused) => {
                 let count = self.draw.index(20);
-                Case { what: format!("{name}, refused {number}"), image, durations: self.draw.bytes(count) }
+                Case { what: format!("{name}, {refused}"), image, durations: self.draw.bytes(count) }
             }
         }
     }
@@ -177,9 +178,10 @@ impl Maker<'_> {
             let size = if self.draw.once_in(12) { Size::Large } else { Size::Small };
             let sketch = self.draw.profile(size);
             let image = self.draw.damaged(sketch);
-            if let Err(number) = accept(&image).map(|_| ()) {
-                if met[number as usize] < EACH {
-                    met[number as usize] += 1;
+            if let Err(refused) = accept(&image).map(|_| ()) {
+                let met = &mut met[usize::from(refused.number)];
+                if *met < EACH {
+                    *met += 1;
                     cases.push(self.with_durations("damaged", image, Pace::Within));
                 }
             }
@@ -245,10 +247,11 @@ impl Maker<'_> {
         self.file(&format!("{name}.trace"), &case.trace)?;
         match answer {
             Ok(_) => self.file(&format!("{name}.refreshed"), &fresh)?,
-            Err(number) => self.file(&format!("{name}.refused"), format!("refused {number}\n").as_bytes())?,
+            Err(refused) => self.file(&format!("{name}.refused"), format!("{refused}\n").as_bytes())?,
         }
         self.written.traces += 1;
-        Ok(format!("| {name} | {} | {} |\n", case.what, answer.err().unwrap_or(0)))
+        let result = answer.map_or_else(|refused| refused.to_string(), |_| "refreshed".to_string());
+        Ok(format!("| {name} | {} | {result} |\n", case.what))
     }
 
     fn traces(&mut self) -> Vec<Trace> {
@@ -295,13 +298,13 @@ impl Maker<'_> {
             }
             let level = self.draw.name(levels - 1);
             let time =
-                if self.draw.once_in(12) { LAST_CLOCK + self.draw.between(0, 1) } else { self.draw.between(0, cycle) };
+                if self.draw.once_in(6) { LAST_CLOCK + self.draw.between(0, 1) } else { self.draw.between(0, cycle) };
             let reading = Reference.speed_reading(&image, first, last, level, time);
             assert_eq!(reading, Fast.speed_reading(&image, first, last, level, time));
             let words = match reading {
                 Reading::Ratio(ratio) => format!("{:016x}", ratio.to_bits()),
                 Reading::Spent => "spent".to_string(),
-                Reading::Refused(number) => format!("refused {number}"),
+                Reading::Refused(refused) => refused.to_string(),
             };
             // An image of no bytes has no digits to stand in a line.
             if !image.is_empty() {
@@ -378,7 +381,7 @@ impl Maker<'_> {
         let dry = text::repeat_dry_run(&Reference, image, *repeats, durations);
         assert_eq!(dry, text::repeat_dry_run(&Fast, image, *repeats, durations), "{what}");
         let (limits, bounds) = match BodyPlan::of(&Reference, image, *repeats) {
-            Err(number) => (format!("refused {number}\n"), String::new()),
+            Err(refused) => (format!("{refused}\n"), String::new()),
             Ok(plan) => {
                 let step = plan.positions().div_ceil(ALL);
                 let told = (0..plan.positions()).step_by(step).map(|position| plan.line(&Reference, position));

@@ -2,22 +2,32 @@
 //! [`boundary`](crate::boundary); a slice crosses as a pointer and a count.
 
 use crate::boundary::*;
-use crate::calls::{self, Answer, BodyDried, BodyTables, Calls, Counts, Tables};
+use crate::calls::{self, Answer, BodyDried, BodyTables, Calls, Counts, Refused, Tables};
 
-/// The answer's values, or the number of its refusal, with which every value is the first one, 0 or no.
+/// A refusal of the run names no action.
+impl From<Refusal> for Fault {
+    #[inline(always)]
+    fn from(refusal: Refusal) -> Fault {
+        Fault { number: refusal.number, action: NO_ACTION }
+    }
+}
+
+/// The answer's values, or its refusal, with which every value is the first one, 0 or no.
 #[inline(always)]
-fn answer<T: PartialEq + std::fmt::Debug>(refusal: Refusal, values: T, none: T) -> Answer<T> {
-    if refusal.number == ACCEPTED {
+fn answer<T: PartialEq + std::fmt::Debug>(refusal: impl Into<Fault>, values: T, none: T) -> Answer<T> {
+    let fault = refusal.into();
+    if fault == (Fault { number: ACCEPTED, action: NO_ACTION }) {
         return Ok(values);
     }
-    refused(refusal.number, &values, &none)
+    refused(fault, &values, &none)
 }
 
 /// Apart, so that the values of an accepted call need not lie in memory for it.
 #[cold]
-fn refused<T: PartialEq + std::fmt::Debug>(number: u32, values: &T, none: &T) -> Answer<T> {
-    assert_eq!(values, none, "with refusal {number}");
-    Err(number as u8)
+fn refused<T: PartialEq + std::fmt::Debug>(fault: Fault, values: &T, none: &T) -> Answer<T> {
+    assert_eq!(values, none, "with {fault:?}");
+    assert!(fault.number != ACCEPTED && fault.action <= NO_ACTION, "{fault:?}");
+    Err(Refused::of(fault.number).at(fault.action as usize))
 }
 
 /// What an asking answers. The values go where they are wanted one by one: laid in memory for a refusal too and taken up whole they would cost more
@@ -34,7 +44,7 @@ fn given(answer: Given) -> Answer<calls::Given> {
 #[cold]
 fn none_given(answer: Given) -> Answer<calls::Given> {
     let Given { refusal, action, level, decided, late } = answer;
-    refused(refusal.number, &calls::Given { action, level, decided, late }, &calls::Given::default())
+    refused(refusal.into(), &calls::Given { action, level, decided, late }, &calls::Given::default())
 }
 
 /// The product.
@@ -59,19 +69,15 @@ impl Product {
 impl Calls for Product {
     fn check(&self, image: &[u8]) -> Answer<Counts> {
         let refusal = unsafe { nyokazerubi_check(image.as_ptr(), image.len()) };
-        // The check answers the number alone; the counts of an accepted image are in its header.
-        let counts = || {
+        // The check answers its refusal alone; the counts of an accepted image are in its header.
+        answer(refusal, (), ()).map(|()| {
             let bits = image[..6].iter().fold(0, |bits, &byte| bits << 8 | u64::from(byte));
             Counts {
                 n: (bits >> 37 & 127) as usize,
                 levels: (bits >> 33 & 15) as usize,
                 cycle: (bits >> 3 & 0x3fff_ffff) as u32,
             }
-        };
-        match refusal.number {
-            0 => Ok(counts()),
-            number => Err(number as u8),
-        }
+        })
     }
 
     fn read(
@@ -129,13 +135,14 @@ impl Calls for Product {
     }
 
     fn lookup<'a>(&self, image: &'a [u8], action: usize) -> &'a [u8] {
-        let place = unsafe { nyokazerubi_lookup(image.as_ptr(), image.len(), action) };
-        assert_eq!(place.refusal.number, u32::from(self.lookup_refusal(image, action)), "two answers to one lookup");
-        &image[place.start..][..place.length]
+        let Place { refusal, start, length } = unsafe { nyokazerubi_lookup(image.as_ptr(), image.len(), action) };
+        let place = answer(refusal, (start, length), (0, 0));
+        assert_eq!(place.map(|_| ()), self.lookup_refusal(image, action), "two answers to one lookup");
+        &image[start..][..length]
     }
 
-    fn lookup_refusal(&self, image: &[u8], action: usize) -> u8 {
-        unsafe { nyokazerubi_lookup_refusal(image.as_ptr(), image.len(), action).number as u8 }
+    fn lookup_refusal(&self, image: &[u8], action: usize) -> Answer<()> {
+        answer(unsafe { nyokazerubi_lookup_refusal(image.as_ptr(), image.len(), action) }, (), ())
     }
 
     fn plan(
@@ -419,7 +426,7 @@ impl Calls for Product {
         let Reading { refusal, spent, ratio } =
             unsafe { nyokazerubi_speed_reading(image.as_ptr(), image.len(), first, last, level, t) };
         match (answer(refusal, (spent, ratio), (false, 0.0)), spent) {
-            (Err(number), _) => calls::Reading::Refused(number),
+            (Err(refused), _) => calls::Reading::Refused(refused),
             (Ok(_), true) => calls::Reading::Spent,
             (Ok(_), false) => calls::Reading::Ratio(ratio),
         }

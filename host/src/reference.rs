@@ -12,7 +12,9 @@ mod repeat;
 mod run;
 mod speed;
 
-pub use image::{accept, accept_but_unfit, check, lookup, lookup_refusal, read, write};
+pub use image::{
+    accept, accept_but_unfit, check, from_tables, lookup, lookup_refusal, read, spare_bit_set, unpack, write,
+};
 pub use limits::{plan, Planned};
 pub use order::{Follows, Order};
 pub use profile::{Profile, Set};

@@ -1,7 +1,7 @@
 //! What the four programs print, and of a body repeated its dry run.
 
 use crate::calls::{
-    Answer, Body, BodyDried, Calls, Counts, Dried, Line, Opened, Tables, Totals, LONGEST_COAST, MOST_ACTIONS,
+    Answer, Body, BodyDried, Calls, Counts, Dried, Line, Opened, Refused, Tables, Totals, LONGEST_COAST, MOST_ACTIONS,
     MOST_LEVELS, SUMMARY_NUMBERS,
 };
 use std::fmt::Write;
@@ -33,14 +33,15 @@ fn planned(calls: &dyn Calls, image: &[u8]) -> Answer<(Counts, Plan)> {
     Ok((counts, plan))
 }
 
-fn refused(number: u8) -> String {
-    format!("refused {number}\n")
+/// The line of a refusal.
+fn line(refused: Refused) -> String {
+    format!("{refused}\n")
 }
 
 /// The plan program, given the image on its standard input.
 pub fn plan(calls: &dyn Calls, image: &[u8]) -> String {
     match planned(calls, image) {
-        Err(number) => refused(number),
+        Err(refused) => line(refused),
         Ok((Counts { n, levels, cycle }, plan)) => {
             let mut text = format!("{n} {levels} {cycle}\n");
             let rows = plan.limits.chunks(levels);
@@ -58,7 +59,7 @@ pub fn plan(calls: &dyn Calls, image: &[u8]) -> String {
 
 /// The dry-run program, given the contents of its two files.
 pub fn dry_run(calls: &dyn Calls, image: &[u8], durations: &[u8]) -> String {
-    cycle_lines(calls, image, durations).unwrap_or_else(refused)
+    cycle_lines(calls, image, durations).unwrap_or_else(line)
 }
 
 /// Durations, high byte first; what is left over at the end is none.
@@ -83,7 +84,7 @@ fn cycle_lines(calls: &dyn Calls, image: &[u8], durations: &[u8]) -> Answer<Stri
 
 /// The rehearsing program, given the contents of its two files.
 pub fn rehearse(calls: &dyn Calls, image: &[u8], recording: &[u8]) -> String {
-    frame_lines(calls, image, recording).unwrap_or_else(refused)
+    frame_lines(calls, image, recording).unwrap_or_else(line)
 }
 
 fn frame_lines(calls: &dyn Calls, image: &[u8], recording: &[u8]) -> Answer<String> {
@@ -95,7 +96,7 @@ fn frame_lines(calls: &dyn Calls, image: &[u8], recording: &[u8]) -> Answer<Stri
     let mut text = String::new();
     for frame in recording.chunks_exact(frame_bytes) {
         match calls.rehearse(&mut totals, n, levels, plan.tables(), frame) {
-            Err(number) => text += &refused(number),
+            Err(refused) => text += &line(refused),
             Ok(Line { decisions, lowest, end, overrun, late }) => {
                 let marks = (u8::from(overrun), u8::from(late));
                 writeln!(text, "{decisions} {lowest} {end} {} {}", marks.0, marks.1).expect("text grows");
@@ -154,7 +155,7 @@ impl BodyPlan {
 /// The program that plans a body repeated, given the image on its standard input.
 pub fn repeat_plan(calls: &dyn Calls, image: &[u8], repeats: u32) -> String {
     match BodyPlan::of(calls, image, repeats) {
-        Err(number) => refused(number),
+        Err(refused) => line(refused),
         Ok(plan) => {
             let Body { n, levels, cycle, repeats } = plan.body;
             let lines: String = (0..plan.positions()).map(|position| plan.line(calls, position)).collect();
@@ -165,7 +166,7 @@ pub fn repeat_plan(calls: &dyn Calls, image: &[u8], repeats: u32) -> String {
 
 /// The dry run of a body repeated, as the dry-run program prints one.
 pub fn repeat_dry_run(calls: &dyn Calls, image: &[u8], repeats: u32, durations: &[u8]) -> String {
-    body_lines(calls, image, repeats, durations).unwrap_or_else(refused)
+    body_lines(calls, image, repeats, durations).unwrap_or_else(line)
 }
 
 fn body_lines(calls: &dyn Calls, image: &[u8], repeats: u32, durations: &[u8]) -> Answer<String> {

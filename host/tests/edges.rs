@@ -3,8 +3,8 @@
 mod common;
 
 use nyokazerubi_host::calls::{
-    Body, BodyDried, BodyRun, BodyTables, Calls, Counts, Dried, Line, Opened, Reading, Run, Tables, Totals,
-    ABSENT_LONG, LAST_CLOCK, LONGEST_COAST, LONGEST_TIME, MOST_RECORDS, MOST_REPEATS,
+    refused, Body, BodyDried, BodyRun, BodyTables, Calls, Counts, Dried, Line, Opened, Reading, Refused, Run, Tables,
+    Totals, ABSENT_LONG, LAST_CLOCK, LONGEST_COAST, LONGEST_TIME, MOST_RECORDS, MOST_REPEATS,
 };
 use nyokazerubi_host::draw::{big_endian, Sketch};
 
@@ -35,6 +35,155 @@ fn record(open: bool, action: u64, level: u64, duration: u64) -> [u8; 5] {
     bits.to_be_bytes()[3..].try_into().expect("five bytes")
 }
 
+/// What the calls on an image answer that refuse it, all of them the same.
+fn refusal(calls: &dyn Calls, image: &[u8]) -> Refused {
+    let reading = match calls.speed_reading(image, 0, 0, 0, 0) {
+        Reading::Refused(refused) => Some(refused),
+        _ => None,
+    };
+    let refusals = [
+        calls.check(image).err(),
+        calls.read(image, &mut [], &mut [], &mut [], &mut []).err(),
+        calls.lookup_refusal(image, 0).err(),
+        calls.plan(image, &mut [], &mut [], &mut [], &mut []).err(),
+        calls.dry_frame(image, &[], &mut [], &mut [], &mut []).err(),
+        calls.open_recording(image, 1, &mut [], &mut [], &mut [], &mut []).err(),
+        calls.plan_body(image, 0, &mut [], &mut [], &mut []).err(),
+        calls.body_dry_frame(image, 0, &[], &mut [], &mut [], &mut []).err(),
+        calls.refresh(image, &[0], &mut []).err(),
+        reading,
+    ];
+    assert_eq!(refusals, [refusals[0]; 10]);
+    assert!(calls.lookup(image, 0).is_empty() && !calls.on_time(image, 0, 0, 0, 0));
+    refusals[0].expect("a refusal")
+}
+
+/// A refusal, and how an action of a profile comes to be at fault for it.
+type Fault = (Refused, fn(&mut Sketch, usize));
+
+/// Those of an image.
+const FAULTS: [Fault; 10] = [
+    (refused::SPARE, |sketch, a| sketch.spares[a] |= 1),
+    (refused::SPARE, |sketch, a| sketch.spares[a] |= 2),
+    (refused::RANGE, |sketch, a| sketch.deadlines[a] = sketch.cycle + 1),
+    (refused::RANGE, |sketch, a| sketch.masks[a] |= 1 << sketch.n),
+    (refused::RANGE, |sketch, a| sketch.masks[a] |= 1 << 63),
+    (refused::TABLE, |sketch, a| sketch.averages[3 * a] = 8),
+    (refused::TABLE, |sketch, a| sketch.averages[3 * a + 2] = 8),
+    (refused::TABLE, |sketch, a| sketch.averages[3 * a + 1] = 1),
+    (refused::TABLE, |sketch, a| sketch.worst[3 * a + 2] = 6),
+    (refused::LOOP, |sketch, a| sketch.masks[a] |= 1 << a),
+];
+
+/// A profile of so many actions and three levels, with room for a fault.
+fn sound(n: usize) -> Sketch {
+    Sketch {
+        n: n as u32,
+        levels: 3,
+        cycle: 10_000,
+        masks: vec![0; n],
+        deadlines: vec![0; n],
+        spares: vec![0; n],
+        averages: vec![2; 3 * n],
+        worst: vec![7; 3 * n],
+        ..Sketch::default()
+    }
+}
+
+/// The lowest action at fault is named, however many are and whatever their faults of that number; each number is judged over all actions before the
+/// next. In the header a spare bit has no action.
+#[test]
+fn the_action_at_fault() {
+    on_all_sides(|calls| {
+        let named = |sketch: &Sketch| refusal(calls, &sketch.image());
+        for (n, low, high) in [(2, 0, 1), (5, 0, 4), (5, 2, 3), (63, 61, 62), (63, 7, 40)] {
+            for (first, put_first) in FAULTS {
+                let mut sketch = sound(n);
+                put_first(&mut sketch, high);
+                assert_eq!(named(&sketch), first.at(high));
+                for (second, put_second) in FAULTS {
+                    let mut both = sketch.clone();
+                    put_second(&mut both, low);
+                    let wanted = if second.number <= first.number { second.at(low) } else { first.at(high) };
+                    assert_eq!(named(&both), wanted, "{both:?}");
+                }
+                sketch.spare = 4;
+                let wanted = if first == refused::SPARE { first.at(high) } else { refused::SPARE };
+                assert_eq!(named(&sketch), wanted, "{sketch:?}");
+            }
+        }
+        // The last of the most: there is no action that a mask could name too many.
+        for (number, put) in FAULTS.into_iter().filter(|(number, _)| *number != refused::RANGE) {
+            let mut sketch = sound(64);
+            put(&mut sketch, 63);
+            assert_eq!(named(&sketch), number.at(63));
+        }
+        let mut sketch = sound(64);
+        sketch.deadlines[63] = sketch.cycle + 1;
+        assert_eq!(named(&sketch), refused::RANGE.at(63));
+        for spare in 1..8 {
+            assert_eq!(named(&Sketch { spare, ..sound(3) }), refused::SPARE);
+        }
+        // No other number has one.
+        let image = sound(3).image();
+        for (damaged, refused) in [
+            (image[..5].to_vec(), refused::SHORT),
+            (Sketch { version: 2, spare: 1, ..sound(3) }.image(), refused::VERSION),
+            (Sketch { cycle: 0, spare: 1, ..sound(3) }.image(), refused::COUNT),
+            (image[..image.len() - 1].to_vec(), refused::LENGTH),
+        ] {
+            assert_eq!(refusal(calls, &damaged), refused);
+        }
+        assert_eq!(calls.check(&Sketch { cycle: 20, ..sound(3) }.image()), Err(refused::UNFIT));
+    });
+}
+
+/// Those that tables to be written have besides.
+const WRITTEN_FAULTS: [Fault; 5] = [
+    (refused::RANGE, |sketch, a| sketch.averages[3 * a] = LONGEST_TIME + 1),
+    (refused::RANGE, |sketch, a| sketch.averages[3 * a + 1] = u32::MAX),
+    (refused::RANGE, |sketch, a| sketch.worst[3 * a + 2] = LONGEST_TIME + 1),
+    (refused::RANGE, |sketch, a| sketch.worst[3 * a + 1] = u32::MAX),
+    (refused::RANGE, |sketch, a| sketch.deadlines[a] = u32::MAX),
+];
+
+/// The same of a writing, whose times may be too long too; it has no spare bits.
+#[test]
+fn the_action_at_fault_of_a_writing() {
+    on_all_sides(|calls| {
+        let named = |sketch: &Sketch| {
+            let Sketch { masks, deadlines, averages, worst, .. } = sketch;
+            let counts = Counts { n: sketch.n as usize, levels: sketch.levels as usize, cycle: sketch.cycle };
+            let mut image = vec![7; 2000];
+            let answer = calls.write(counts, masks, deadlines, averages, worst, &mut image);
+            assert!(answer.is_ok() || image == [7; 2000]);
+            answer.err()
+        };
+        let faults = || FAULTS.into_iter().filter(|(refused, _)| *refused != refused::SPARE).chain(WRITTEN_FAULTS);
+        for (n, low, high) in [(2, 0, 1), (5, 0, 4), (5, 2, 3), (50, 48, 49), (50, 7, 40)] {
+            assert_eq!(named(&sound(n)), None);
+            for (first, put_first) in faults() {
+                let mut sketch = sound(n);
+                put_first(&mut sketch, high);
+                assert_eq!(named(&sketch), Some(first.at(high)), "{sketch:?}");
+                for (second, put_second) in faults() {
+                    let mut both = sketch.clone();
+                    put_second(&mut both, low);
+                    let wanted = if second.number <= first.number { second.at(low) } else { first.at(high) };
+                    assert_eq!(named(&both), Some(wanted), "{both:?}");
+                }
+            }
+        }
+        // Before 6 comes 3, after 8 comes 9.
+        let mut sketch = sound(3);
+        WRITTEN_FAULTS[0].1(&mut sketch, 1);
+        assert_eq!(named(&Sketch { levels: 0, ..sketch.clone() }), Some(refused::COUNT));
+        sketch.worst.pop();
+        assert_eq!(named(&sketch), Some(refused::ROOM));
+        assert_eq!(named(&Sketch { cycle: 20, ..sound(3) }), Some(refused::UNFIT));
+    });
+}
+
 /// The longest trace of the longest durations sums up right.
 #[test]
 fn full_trace() {
@@ -52,7 +201,7 @@ fn full_trace() {
         sketch.averages[511] = LONGEST_TIME - 1;
         assert_eq!(fresh, sketch.image());
         trace.extend(record(true, 63, 7, 0));
-        assert_eq!(calls.refresh(&image, &trace, &mut fresh), Err(14));
+        assert_eq!(calls.refresh(&image, &trace, &mut fresh), Err(refused::TRACE));
     });
 }
 
@@ -62,7 +211,7 @@ fn first_fault_of_a_trace() {
     on_all_sides(|calls| {
         let image = common::three(20);
         let number = |records: &[[u8; 5]], room: usize| {
-            calls.refresh(&image, &records.concat(), &mut vec![0; room]).err().unwrap_or(0)
+            common::number(calls.refresh(&image, &records.concat(), &mut vec![0; room]))
         };
         let (good, long, absent) =
             (record(true, 2, 1, 8), record(false, 0, 0, 5), record(false, 3, 0, LAST_CLOCK.into()));
@@ -90,7 +239,7 @@ fn dense_orders() {
             assert_eq!(plan(&image, &mut order), Ok(Counts { n: 64, levels: 8, cycle: 64 * LONGEST_TIME }));
             assert_eq!((order[0], order[63]), (first, last));
             let image = full(masks, LONGEST_TIME, LONGEST_TIME, 64 * LONGEST_TIME - 1).image();
-            assert_eq!(plan(&image, &mut order), Err(9));
+            assert_eq!(plan(&image, &mut order), Err(refused::UNFIT));
         }
         let mut sketch = full(vec![0; 64], 0, 1, 64);
         sketch.deadlines = (1..=64).rev().collect();
@@ -130,9 +279,9 @@ fn readings_at_the_ends() {
         );
         assert_eq!(calls.speed_reading(&image, 0, 63, 7, 64 * LONGEST_TIME), Reading::Spent);
         assert_eq!(calls.speed_reading(&image, 0, 63, 7, LAST_CLOCK), Reading::Spent);
-        assert_eq!(calls.speed_reading(&image, 0, 63, 7, LAST_CLOCK + 1), Reading::Refused(13));
-        assert_eq!(calls.speed_reading(&image, 0, 64, 7, LAST_CLOCK + 1), Reading::Refused(18));
-        assert_eq!(calls.speed_reading(&image, usize::MAX, usize::MAX, 0, 0), Reading::Refused(18));
+        assert_eq!(calls.speed_reading(&image, 0, 63, 7, LAST_CLOCK + 1), Reading::Refused(refused::CLOCK));
+        assert_eq!(calls.speed_reading(&image, 0, 64, 7, LAST_CLOCK + 1), Reading::Refused(refused::READING));
+        assert_eq!(calls.speed_reading(&image, usize::MAX, usize::MAX, 0, 0), Reading::Refused(refused::READING));
         let image = full(vec![0; 64], 0, 0, LAST_CLOCK).image();
         assert_eq!(calls.speed_reading(&image, 0, 63, 0, 0), Reading::Ratio(0.0));
     });
@@ -151,7 +300,7 @@ fn run_records() {
             if number != 0 {
                 assert_eq!(reported, run);
             }
-            answer.err() == Some(11) && number == 11
+            answer.err() == Some(refused::TURN) && number == 11
         };
         let still = Run { n: 20, levels: 3, ..Run::default() };
         let runs = Run { running: true, ..still };
@@ -182,7 +331,7 @@ fn run_records() {
 #[test]
 fn refusals_of_a_run_in_order() {
     on_all_sides(|calls| {
-        let ask = |run: Run, room: usize| calls.ask(run, &[0; 2][..room], &[0; 2], &[0; 32]).1.err().unwrap_or(0);
+        let ask = |run: Run, room: usize| common::number(calls.ask(run, &[0; 2][..room], &[0; 2], &[0; 32]).1);
         let report = |run: Run, clock: u32, room: usize| calls.report(run, clock, &[0; 2][..room]).1;
         let still = Run { n: 2, levels: 1, clock: 9, ..Run::default() };
         let runs = Run { running: true, ..still };
@@ -234,7 +383,8 @@ fn lengths_of_a_recording() {
         let refused = |image: &[u8], bytes: usize, rooms: [usize; 4]| {
             let (answer, lent) = open(image, bytes, rooms);
             assert_eq!(lent, (vec![7; rooms[0]], vec![7; rooms[1]], vec![7; rooms[2]], vec![7; rooms[3]]));
-            answer.expect_err("a refusal")
+            assert!(answer.is_err());
+            common::number(answer)
         };
         for bytes in [1, 23, 25, 24 * 4096 - 1, 24 * 4096 + 12, 24 * 4097, usize::MAX, usize::MAX - 15, 24 + (1 << 32)]
         {
@@ -260,7 +410,7 @@ fn totals_at_their_edges() {
             let counted = Totals { frames: totals.frames.wrapping_add(1), ..totals };
             let decided = Totals { decisions: totals.decisions.wrapping_add(1), ..counted };
             assert_eq!(after, if answer.is_ok() { decided } else { totals });
-            answer.err().unwrap_or(0)
+            common::number(answer)
         };
         let five = Totals { frames: 5, ..Totals::default() };
         for (good, bad) in [
@@ -294,7 +444,8 @@ fn refusals_of_a_frame_in_order() {
             let mut totals = before;
             let answer = calls.rehearse(&mut totals, n, levels, tables, &frame[..rooms[3]]);
             assert_eq!(totals, before);
-            answer.expect_err("a refusal")
+            assert!(answer.is_err());
+            common::number(answer)
         };
         let (none, whole) = ([0; 4], [4, 4, 64, 16]);
         assert_eq!([number(4097, 0, 0, none), number(4096, 0, 0, none), number(4095, 0, 0, none)], [11, 14, 3]);
@@ -321,7 +472,7 @@ fn long_entries() {
         for (cell, long) in (0..6).flat_map(|cell| [LONGEST_TIME + 1, 1 << 31, u32::MAX].map(|long| (cell, long))) {
             for mut durations in [[0; 6], [6, 6, 8, 8, 4, 4]] {
                 durations[cell] = long;
-                assert_eq!(rehearse(&durations), Err(16), "{long} at {cell}");
+                assert_eq!(rehearse(&durations), Err(refused::DURATION), "{long} at {cell}");
             }
         }
         assert_eq!(rehearse(&[6, 6, 8, 8, 4, 4, u32::MAX]), Ok(18));
@@ -344,7 +495,7 @@ fn the_longest_recording() {
         }
         let full = Totals { frames: 4096, decisions: 64 * 4096, overruns: 4096, lates: 4096 };
         assert_eq!(totals, full);
-        assert_eq!(calls.rehearse(&mut totals, 64, 1, tables, &frame), Err(14));
+        assert_eq!(calls.rehearse(&mut totals, 64, 1, tables, &frame), Err(refused::TRACE));
         assert_eq!(totals, full);
     });
 }
@@ -395,7 +546,7 @@ fn refusals_of_a_body_in_order() {
             let answer = calls.plan_body(image, repeats, &mut lent.0, &mut lent.1, &mut lent.2);
             let untouched = lent == (vec![7; rooms[0]], vec![7; rooms[1]], vec![7; rooms[2]]);
             assert_eq!(answer.is_err(), untouched);
-            answer.err().unwrap_or(0)
+            common::number(answer)
         };
         let frame = |image: &[u8], repeats: u32, entries: usize, rooms: [usize; 3]| {
             let mut durations = vec![1; entries];
@@ -403,7 +554,8 @@ fn refusals_of_a_body_in_order() {
             let mut lent = (vec![7; rooms[0]], vec![7; rooms[1]], vec![7; rooms[2]]);
             let answer = calls.body_dry_frame(image, repeats, &durations, &mut lent.0, &mut lent.1, &mut lent.2);
             assert_eq!(lent, (vec![7; rooms[0]], vec![7; rooms[1]], vec![7; rooms[2]]));
-            answer.expect_err("a refusal")
+            assert!(answer.is_err());
+            common::number(answer)
         };
         let (whole, none) = ([3, 24, 6], [0; 3]);
         let same = body_of_three(24, [0, 24, 0]);
@@ -448,11 +600,11 @@ fn limits_of_a_body() {
     on_all_sides(|calls| {
         let body = Body { n: 2, levels: 3, cycle: 9, repeats: 4 };
         let limit = |body: Body, room: usize, position: usize, level: usize| {
-            calls.body_limit(body, &[1; 24][..room], position, level).err().unwrap_or(0)
+            common::number(calls.body_limit(body, &[1; 24][..room], position, level))
         };
         let bound = |body: Body, rooms: [usize; 2], position: usize, level: usize, length: usize| {
             let (summaries, worst) = (&[1; 24][..rooms[0]], &[1; 6][..rooms[1]]);
-            calls.body_bound(body, summaries, worst, position, level, length).err().unwrap_or(0)
+            common::number(calls.body_bound(body, summaries, worst, position, level, length))
         };
         let counts = [
             Body { n: 0, ..body },
@@ -608,7 +760,7 @@ fn body_run_records() {
             let number = calls.body_report(&mut reported, run.clock as u32, &[0; 512]);
             assert!(answer.is_ok() || asked == run);
             assert!(number == 0 || reported == run);
-            answer.err() == Some(11) && number == 11
+            answer.err() == Some(refused::TURN) && number == 11
         };
         let of = |body: Body| BodyRun { body, ..BodyRun::default() };
         let body = Body { n: 20, levels: 3, cycle: 9, repeats: 5 };
@@ -659,7 +811,7 @@ fn refusals_of_a_body_run_in_order() {
         let ask = |mut run: BodyRun, rooms: [usize; 3]| {
             let (order, summaries, worst) = (&[0; 2][..rooms[0]], &[0; 8][..rooms[1]], &[0; 2][..rooms[2]]);
             let tables = BodyTables { order, summaries, worst_by_position: worst };
-            calls.body_ask(&mut run, &tables).err().unwrap_or(0)
+            common::number(calls.body_ask(&mut run, &tables))
         };
         let report = |mut run: BodyRun, clock: u32, room: usize| calls.body_report(&mut run, clock, &[0; 2][..room]);
         let still = BodyRun { clock: 9, body: Body { n: 2, levels: 1, cycle: 9, repeats: 3 }, ..BodyRun::default() };
@@ -699,6 +851,6 @@ fn the_longest_body() {
         // Within worst: sixteen at a time.
         let dried = BodyDried { decisions: 6480, end: 103_680, positions: 103_680, overrun: false, late: false };
         assert_eq!(frame(&vec![1; positions]), (Ok(dried), 6480));
-        assert_eq!(frame(&vec![1; positions - 1]).0, Err(17));
+        assert_eq!(frame(&vec![1; positions - 1]).0, Err(refused::ROOM));
     }
 }

@@ -2,7 +2,8 @@
 
 use nyokazerubi_host::boundary::{
     bounds_entries, frame_bytes, image_bytes, summaries_entries, table_entries, trace_bytes, Body, BodyFramed,
-    BodyPlanned, BodyRun, Limited, MOST_ACTIONS, MOST_POSITIONS, MOST_RECORDS, MOST_REPEATS,
+    BodyPlanned, BodyRun, Fault, Framed, Limited, Opened, Place, Planned, Reading, Refreshed, Unpacked, Written,
+    MOST_ACTIONS, MOST_POSITIONS, MOST_RECORDS, MOST_REPEATS,
 };
 use std::fs;
 use std::mem::{offset_of, size_of};
@@ -77,6 +78,7 @@ fn numbers() {
         "SUMMARY_NUMBERS",
         "LAST_CLOCK",
         "LONGEST_TIME",
+        "NO_ACTION",
     ] {
         let in_header = between(&text, &format!("#define NYOKAZERUBI_{name} "), "\n")[0];
         let in_rust = between(&rust, &format!("pub const {name}: "), ";")[0].split_once("= ").expect("a number").1;
@@ -117,11 +119,21 @@ fn sizes() {
     assert_eq!([body(9, 8), body(64, 8)], [[2035, 466_560], [14_190, 3_317_760]]);
 }
 
-/// The records of a body repeated lie as other hosts have them.
+/// The answers of the calls that take an image or write one, which have the number and the action of a refusal first, and the records of a body
+/// repeated lie as other hosts have them.
 #[test]
 fn layout() {
-    assert_eq!([size_of::<Body>(), size_of::<BodyPlanned>(), size_of::<Limited>()], [16, 20, 16]);
-    assert_eq!([size_of::<BodyRun>(), size_of::<BodyFramed>()], [40, 24]);
+    assert_eq!([size_of::<Fault>(), offset_of!(Fault, number), offset_of!(Fault, action)], [8, 0, 4]);
+    assert_eq!([size_of::<Unpacked>(), offset_of!(Unpacked, n)], [32, 8]);
+    assert_eq!([size_of::<Written>(), offset_of!(Written, bytes)], [16, 8]);
+    assert_eq!([size_of::<Place>(), offset_of!(Place, start)], [24, 8]);
+    assert_eq!([size_of::<Planned>(), offset_of!(Planned, n)], [32, 8]);
+    assert_eq!([size_of::<Framed>(), offset_of!(Framed, n)], [32, 8]);
+    assert_eq!([size_of::<Opened>(), offset_of!(Opened, n)], [40, 8]);
+    assert_eq!([size_of::<Reading>(), offset_of!(Reading, spent), offset_of!(Reading, ratio)], [24, 8, 16]);
+    assert_eq!([size_of::<Refreshed>(), offset_of!(Refreshed, bytes)], [16, 8]);
+    assert_eq!([size_of::<Body>(), size_of::<BodyPlanned>(), size_of::<Limited>()], [16, 24, 16]);
+    assert_eq!([size_of::<BodyRun>(), size_of::<BodyFramed>()], [40, 32]);
     // The run record has no padding: each field begins where the one before it ends.
     assert_eq!([offset_of!(BodyRun, body), offset_of!(BodyRun, clock), offset_of!(BodyRun, level)], [0, 16, 24]);
     assert_eq!([offset_of!(BodyRun, position), offset_of!(BodyRun, decisions)], [28, 32]);
@@ -129,7 +141,7 @@ fn layout() {
     assert_eq!([offset_of!(BodyRun, overrun), offset_of!(BodyRun, late)], [38, 39]);
     assert_eq!(
         [offset_of!(Limited, limit), offset_of!(BodyFramed, end), offset_of!(BodyFramed, positions)],
-        [8, 8, 16]
+        [8, 16, 24]
     );
 }
 
@@ -158,7 +170,7 @@ fn fields() {
         .map(|part| part.split_once(" {").expect("fields"))
         .map(|(name, list)| (words(name), names(list, ',', rust_name)))
         .collect();
-    assert_eq!(of_header.len(), 19);
+    assert_eq!(of_header.len(), 20);
     assert_eq!(of_header, of_rust);
 }
 

@@ -3,7 +3,7 @@
 mod common;
 
 use common::{plan, Plan};
-use nyokazerubi_host::calls::{Answer, Calls, Counts, Dried, Line, Reading, Reference, Totals, LAST_CLOCK};
+use nyokazerubi_host::calls::{refused, Answer, Calls, Counts, Dried, Line, Reading, Reference, Totals, LAST_CLOCK};
 use nyokazerubi_host::draw::{big_endian, Draw, Size, PACES};
 use nyokazerubi_host::product::Product;
 use nyokazerubi_host::reference::{accept, Planned};
@@ -88,7 +88,7 @@ fn limits_of_level_0() {
         let planned = Planned::of(&profile);
         let limits = planned.limits();
         assert!(limits.iter().all(|row| row.windows(2).all(|pair| pair[1] <= pair[0])));
-        assert_eq!(limits[0][0] < 0, profile.refusal() == Some(9));
+        assert_eq!(limits[0][0] < 0, profile.refusal() == Some(refused::UNFIT));
         *(if limits[0][0] < 0 { &mut unfit } else { &mut fit }) += 1;
     }
     assert!(fit > 100 && unfit > 100);

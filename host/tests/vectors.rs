@@ -2,7 +2,7 @@
 
 mod common;
 
-use nyokazerubi_host::calls::{Calls, Reading};
+use nyokazerubi_host::calls::{Answer, Calls, Counts, Reading, Refused};
 use nyokazerubi_host::text::{self, BodyPlan};
 use std::fs;
 use std::path::Path;
@@ -69,7 +69,7 @@ fn bodies_in(calls: &dyn Calls, folder: &Path) -> usize {
         let repeats = text(folder, name, "repeats").trim().parse().expect("a number of repeats");
         let limits = text(folder, name, "limits");
         match BodyPlan::of(calls, &image, repeats) {
-            Err(number) => assert_eq!(limits, format!("refused {number}\n"), "plan of {name}"),
+            Err(refused) => assert_eq!(limits, format!("{refused}\n"), "plan of {name}"),
             Ok(plan) => body(calls, folder, name, &plan, &limits),
         }
         // Where all positions are told, they are what the program prints.
@@ -98,13 +98,69 @@ fn body(calls: &dyn Calls, folder: &Path, name: &str, plan: &BodyPlan, limits: &
     }
 }
 
-/// What a refresh must answer: the new image, or with a refusal its number, from its line.
-fn refreshed(folder: &Path, name: &str) -> Result<Vec<u8>, u8> {
-    if !folder.join(format!("{name}.refused")).exists() {
-        return Ok(bytes(folder, name, "refreshed"));
+/// The refusal of a line: its number, and with 5 to 8 the action.
+fn refusal(line: &str) -> Refused {
+    let numbers = line.trim_end().strip_prefix("refused ").expect("a refusal").split(' ');
+    let numbers: Vec<u32> = numbers.map(|number| number.parse().expect("a number")).collect();
+    let refused = match numbers[..] {
+        [number] => Refused::of(number),
+        [number, action] => Refused::of(number).at(action as usize),
+        _ => panic!("{line}"),
+    };
+    assert_eq!(refused.to_string(), line.trim_end(), "as it is printed");
+    refused
+}
+
+/// The image that a refresh or a writing must give, or its refusal.
+fn wanted(folder: &Path, name: &str, ending: &str) -> Answer<Vec<u8>> {
+    if folder.join(format!("{name}.refused")).exists() {
+        return Err(refusal(&text(folder, name, "refused")));
     }
-    let line = text(folder, name, "refused");
-    Err(line.trim_end().strip_prefix("refused ").expect("a refusal").parse().expect("a number"))
+    Ok(bytes(folder, name, ending))
+}
+
+/// An image in a lent slice of so many bytes, and its tail; with a refusal nothing is written.
+fn lent_image(name: &str, room: usize, wanted: Answer<Vec<u8>>, run: impl Fn(&mut [u8]) -> Answer<usize>) {
+    let mut lent = vec![0xa5; room];
+    assert_eq!(run(&mut lent), wanted.as_ref().map(Vec::len).map_err(|&refused| refused), "answer of {name}");
+    let wanted = wanted.unwrap_or_default();
+    assert_eq!(lent[..wanted.len()], wanted, "image of {name}");
+    assert!(lent[wanted.len()..].iter().all(|&byte| byte == 0xa5), "tail of {name}");
+}
+
+/// Images with actions at fault, which both programs say.
+fn faults(calls: &dyn Calls, folder: &Path) -> usize {
+    let names = cases(folder, ".plan");
+    for name in &names {
+        let (image, plan) = (bytes(folder, name, "profile"), text(folder, name, "plan"));
+        assert_eq!(text::plan(calls, &image), plan, "plan of {name}");
+        if plan.starts_with("refused") {
+            assert_eq!(text::dry_run(calls, &image, &[]), plan, "dry run of {name}");
+            assert_eq!(calls.check(&image), Err(refusal(&plan)), "check of {name}");
+        }
+    }
+    names.len()
+}
+
+/// Tables with actions at fault, to be written.
+fn writings(calls: &dyn Calls, folder: &Path) -> usize {
+    let names = cases(folder, ".tables");
+    for name in &names {
+        let text = text(folder, name, "tables");
+        let rows: Vec<Vec<u64>> = text
+            .lines()
+            .map(|line| line.split_whitespace().map(|number| number.parse().expect("a number")).collect())
+            .collect();
+        let [head, masks, deadlines, averages, worst] = &rows[..] else { panic!("{name} has five lines") };
+        let [n, levels, cycle, room] = head[..] else { panic!("{name} has four numbers first") };
+        let counts = Counts { n: n as usize, levels: levels as usize, cycle: cycle as u32 };
+        let [deadlines, averages, worst] =
+            [deadlines, averages, worst].map(|row| row.iter().map(|&time| time as u32).collect::<Vec<u32>>());
+        lent_image(name, room as usize, wanted(folder, name, "written"), |image| {
+            calls.write(counts, masks, &deadlines, &averages, &worst, image)
+        });
+    }
+    names.len()
 }
 
 /// The traces of a folder, and in it those of each request.
@@ -116,15 +172,9 @@ fn traces(calls: &dyn Calls) -> usize {
 fn traces_in(calls: &dyn Calls, folder: &Path) -> usize {
     let names = cases(folder, ".trace");
     for name in &names {
-        let image = bytes(folder, name, "profile");
-        let mut fresh = vec![0xa5; image.len() + 3];
-        let answer = calls.refresh(&image, &bytes(folder, name, "trace"), &mut fresh);
-        let wanted = refreshed(folder, name);
-        assert_eq!(answer, wanted.as_ref().map(Vec::len).map_err(|&number| number), "answer of {name}");
-        // With a refusal nothing is written.
-        let wanted = wanted.unwrap_or_default();
-        assert_eq!(fresh[..wanted.len()], wanted, "image of {name}");
-        assert!(fresh[wanted.len()..].iter().all(|&byte| byte == 0xa5), "tail of {name}");
+        let (image, trace) = (bytes(folder, name, "profile"), bytes(folder, name, "trace"));
+        let wanted = wanted(folder, name, "refreshed");
+        lent_image(name, image.len() + 3, wanted, |fresh| calls.refresh(&image, &trace, fresh));
     }
     names.len()
 }
@@ -140,7 +190,7 @@ fn readings(calls: &dyn Calls) -> usize {
         let number = |field: usize| fields[field].parse::<usize>().expect("a number");
         let wanted = match fields[5] {
             "spent" => Reading::Spent,
-            "refused" => Reading::Refused(number(6) as u8),
+            "refused" => Reading::Refused(refusal(&fields[5..].join(" "))),
             digits => Reading::Ratio(f64::from_bits(u64::from_str_radix(digits, 16).expect("64 bits"))),
         };
         let got = calls.speed_reading(&unhex(fields[0]), number(1), number(2), number(3), number(4) as u32);
@@ -153,6 +203,14 @@ fn readings(calls: &dyn Calls) -> usize {
 fn programs_agree() {
     for (name, calls) in common::sides() {
         assert!(programs(&*calls) >= 71, "{name}");
+    }
+}
+
+#[test]
+fn faults_agree() {
+    let Some(folder) = common::vectors_of_request("test_faults", "e4") else { return };
+    for (name, calls) in common::sides() {
+        assert_eq!((faults(&*calls, &folder), writings(&*calls, &folder)), (31, 16), "{name}");
     }
 }
 

@@ -3,8 +3,8 @@
 mod common;
 
 use common::plan;
-use nyokazerubi_host::boundary::{Line, Opened, Refusal, Run, Totals, BOUNDARY};
-use nyokazerubi_host::calls::{Calls, Counts, Reading};
+use nyokazerubi_host::boundary::{Fault, Line, Opened, Refusal, Run, Totals, BOUNDARY};
+use nyokazerubi_host::calls::{refused, Calls, Counts, Reading};
 use nyokazerubi_host::product::Product;
 use nyokazerubi_host::text;
 use std::fs;
@@ -55,7 +55,7 @@ fn three(calls: &dyn Calls) {
 
     // Case 7.
     assert_eq!(calls.check(&common::three(12)), Ok(Counts { n: 3, levels: 2, cycle: 12 }));
-    assert_eq!(calls.check(&common::three(11)), Err(9));
+    assert_eq!(calls.check(&common::three(11)), Err(refused::UNFIT));
 }
 
 /// Case 8.
@@ -89,7 +89,7 @@ fn refused_start(calls: &dyn Calls) {
     {
         let (run, number) = calls.start(n, levels);
         assert_eq!((run.n, number), (0, 3));
-        assert_eq!(calls.ask(run, &[0; 64], &[0; 512], &[0; 8192]), (run, Err(11)));
+        assert_eq!(calls.ask(run, &[0; 64], &[0; 512], &[0; 8192]), (run, Err(refused::TURN)));
         assert_eq!(calls.report(run, 0, &[0; 512]), (run, 11));
     }
 }
@@ -113,7 +113,7 @@ fn twice_three(calls: &dyn Calls) {
 #[test]
 fn boundary_of_the_product() {
     assert_eq!(Product.boundary(), BOUNDARY);
-    assert_eq!((size_of::<Run>(), size_of::<Refusal>()), (32, 4));
+    assert_eq!((size_of::<Run>(), size_of::<Refusal>(), size_of::<Fault>()), (32, 4, 8));
     assert_eq!((size_of::<Opened>(), size_of::<Totals>(), size_of::<Line>()), (40, 16, 20));
 }
 
@@ -144,7 +144,7 @@ fn encoder_of_the_product() {
     let image = common::encoder();
     for room in [0, 545] {
         let mut lent = vec![7; room];
-        assert_eq!(Product.write_encoder(&mut lent), Err(17));
+        assert_eq!(Product.write_encoder(&mut lent), Err(refused::ROOM));
         assert_eq!(lent, vec![7; room]);
     }
     let mut lent = vec![7; 550];

@@ -11,8 +11,12 @@ fn vectors_are_written() {
     assert!(written.cases >= 300 && written.traces >= 24 && written.readings >= 40, "{written:?}");
     assert!(written.recordings >= 27 && written.bodies >= 60 && written.bytes < 1_600_000, "{written:?}");
     let page = fs::read_to_string(folder.join("README.md")).expect("README.md");
-    for number in [1, 2, 3, 4, 5, 6, 7, 8, 9, 16, 17] {
-        assert!(page.contains(&format!("| refused {number} |\n")), "refused {number}");
+    for refusal in ["1", "2", "3", "4", "5 64", "5 0", "6 0", "7 0", "8 0", "9", "16", "17"] {
+        assert!(page.contains(&format!("| refused {refusal} |\n")), "refused {refusal}");
+    }
+    // Others than the first of all are at fault too.
+    for number in 5..=8 {
+        assert!((1..9).any(|action| page.contains(&format!("| refused {number} {action} |\n"))), "refused {number}");
     }
     for row in ["| drawn | 0 | refused 14 |", "| drawn | 0 | 0 0 0 0 |", "| 4,097 frames | 0 | refused 14 |"] {
         assert!(page.contains(row), "{row}");
@@ -23,8 +27,8 @@ fn vectors_are_written() {
     }
     let most = fs::read_to_string(folder.join("r60.rehearse")).expect("r60.rehearse");
     assert!(most.lines().count() == 4097 && most.contains("refused 16\n"), "{most}");
-    for number in [0, 14, 15, 16] {
-        assert!(page.contains(&format!("| drawn | {number} |\n")), "trace {number}");
+    for answer in ["refreshed", "refused 14", "refused 15", "refused 16"] {
+        assert!(page.contains(&format!("| drawn | {answer} |\n")), "trace: {answer}");
     }
     let readings = fs::read_to_string(folder.join("readings.txt")).expect("readings.txt");
     for end in ["spent", "refused 13", "refused 18", " 3ff0000000000000"] {

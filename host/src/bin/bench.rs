@@ -258,7 +258,7 @@ const CALLS: [Call; 13] = [
         black_box(calls.write(bench.counts, tables.0, tables.1, tables.2, tables.3, &mut room().image).is_ok());
     }),
     ("lookup", |bench, calls| {
-        black_box(calls.lookup_refusal(black_box(&bench.image), bench.counts.n - 1));
+        black_box(calls.lookup_refusal(black_box(&bench.image), bench.counts.n - 1).is_ok());
     }),
     ("plan", |bench, calls| {
         let Room { small: [order, _], limits, numbers: [worst, ..], bounds, .. } = room();

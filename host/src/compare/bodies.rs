@@ -1,6 +1,6 @@
 //! The calls on a body repeated.
 
-use super::{hex, in_header, junk, number_of, usable, Pair};
+use super::{hex, in_header, junk, usable, Pair};
 use crate::calls::{
     Answer, Body, BodyRun, BodyTables, Given, ABSENT_LONG, LAST_CLOCK, LONGEST_COAST, LONGEST_TIME, MOST_ACTIONS,
     MOST_LEVELS, MOST_REPEATS, SUMMARY_NUMBERS,
@@ -63,7 +63,7 @@ impl Pair<'_> {
             let answer = calls.plan_body(image, repeats, &mut lent.0, &mut lent.1, &mut lent.2);
             (answer, lent)
         })?;
-        self.tally.number("plan body", number_of(&result.0));
+        self.tally.answer("plan body", &result.0);
         Ok(())
     }
 
@@ -92,7 +92,7 @@ impl Pair<'_> {
             let answer = calls.body_dry_frame(image, repeats, &durations, &mut lent.0, &mut lent.1, &mut lent.2);
             (answer, lent)
         })?;
-        self.tally.number("body dry frame", number_of(&answer));
+        self.tally.answer("body dry frame", &answer);
         if let Ok(cycle) = answer {
             self.tally.event(if cycle.overrun { "body overrun" } else { "body no overrun" });
             for (event, so) in [
@@ -143,13 +143,13 @@ impl Pair<'_> {
         };
         let input = || format!("{body:?} {summaries:?} {worst:?} {position} {level} {length}");
         let limit = self.same("body limit", &input, |calls| calls.body_limit(body, summaries, position, level))?;
-        self.tally.number("body limit", number_of(&limit));
+        self.tally.answer("body limit", &limit);
         if limit.is_ok_and(|limit| limit < 0) {
             self.tally.event("limit below 0");
         }
         let bound =
             self.same("body bound", &input, |calls| calls.body_bound(body, summaries, worst, position, level, length))?;
-        self.tally.number("body bound", number_of(&bound));
+        self.tally.answer("body bound", &bound);
         if let Ok(bound) = bound {
             self.tally.event(if bound == ABSENT_LONG { "absent bound" } else { "bound" });
             let longest = Longest::of(body, summaries, worst, position);
@@ -196,7 +196,7 @@ impl Pair<'_> {
     }
 
     fn note_body_asked(&mut self, run: BodyRun, answer: &Answer<Given>) {
-        self.tally.number("body ask", number_of(answer));
+        self.tally.answer("body ask", answer);
         let Ok(answer) = answer else { return };
         if !answer.decided {
             return self.tally.event("body coasted");

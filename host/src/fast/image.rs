@@ -1,7 +1,7 @@
 //! Image check, reading, writing, lookup.
 
 use super::order::{arrange, Actions, Arranged};
-use crate::calls::{refused, Answer, Counts, LAST_CLOCK, LONGEST_TIME};
+use crate::calls::{refused, Answer, Counts, Refused, LAST_CLOCK, LONGEST_TIME};
 
 /// The sizes of an image whose length is right.
 #[derive(Clone, Copy)]
@@ -93,23 +93,60 @@ impl Pair {
     }
 }
 
-/// What a pass over all records gathers.
+/// What a pass over all records gathers, or over one.
 struct Faults {
     spare: u32,
     range: bool,
+    /// All times of a writing joined; those of an image fit their fields.
+    times: u32,
     /// Loses a guard bit where the table rule is broken.
     kept: u64,
 }
 
 impl Faults {
     fn none() -> Faults {
-        Faults { spare: 0, range: false, kept: GUARD }
+        Faults { spare: 0, range: false, times: 0, kept: GUARD }
     }
 
+    /// Joins those of an action's mask and deadline.
+    #[inline(always)]
+    fn add_head(&mut self, shape: Shape, mask: u64, deadline: u32) {
+        self.range |= (mask & !shape.present() != 0) | (deadline > shape.cycle);
+    }
+
+    /// Joins those of a record.
+    #[inline(always)]
+    fn add_record(&mut self, shape: Shape, record: &[u8]) {
+        let word = deadline_word(record);
+        self.spare |= word & 3;
+        self.add_head(shape, word64(record, 0), word >> 2);
+        let mut before = Pair::default();
+        for level in 0..shape.levels {
+            let pair = Pair::of(record, level);
+            self.kept &= pair.kept(before);
+            before = pair;
+        }
+    }
+
+    /// Joins those of a row of each table to be written.
+    #[inline(always)]
+    fn add_rows(&mut self, shape: Shape, (mask, deadline, averages, worst): Rows) {
+        self.add_head(shape, mask, deadline);
+        let mut before = Pair::default();
+        for (&average, &worst) in averages.iter().zip(worst) {
+            self.times |= average | worst;
+            let pair = Pair::new(average, worst);
+            self.kept &= pair.kept(before);
+            before = pair;
+        }
+    }
+
+    /// The first of 5, 6, 7.
+    #[inline(always)]
     fn first(&self) -> Answer<()> {
         if self.spare != 0 {
             Err(refused::SPARE)
-        } else if self.range {
+        } else if self.range || self.times > LONGEST_TIME {
             Err(refused::RANGE)
         } else if self.kept & GUARD != GUARD {
             Err(refused::TABLE)
@@ -117,6 +154,20 @@ impl Faults {
             Ok(())
         }
     }
+}
+
+/// An action's mask, deadline, averages and worst times.
+type Rows<'a> = (u64, u32, &'a [u32], &'a [u32]);
+
+/// The first refusal of all actions with the lowest that has it: none before it has a lesser number, so it is the first of that action too.
+#[cold]
+fn at_fault(refused: Refused, n: usize, add: impl Fn(&mut Faults, usize)) -> Refused {
+    let has = |&a: &usize| {
+        let mut faults = Faults::none();
+        add(&mut faults, a);
+        faults.first() == Err(refused)
+    };
+    (0..n).find(has).map_or(refused, |a| refused.at(a))
 }
 
 /// Refusals 1 to 4.
@@ -148,26 +199,18 @@ pub(super) fn examine(image: &[u8]) -> Answer<(Shape, Arranged)> {
 #[inline(always)]
 pub(super) fn gather(image: &[u8]) -> Answer<(Shape, Actions)> {
     let shape = shape(image)?;
-    let present = shape.present();
     let mut faults = Faults::none();
     faults.spare = u32::from(image[5] & 7);
     let mut actions = Actions::default();
     for (a, record) in image[6..].chunks_exact(shape.stride).enumerate().take(64) {
-        let mask = word64(record, 0);
-        let word = deadline_word(record);
-        faults.spare |= word & 3;
-        faults.range |= (mask & !present != 0) | (word >> 2 > shape.cycle);
-        actions.masks[a] = mask;
-        actions.deadlines[a] = shape.deadline(word >> 2);
+        actions.masks[a] = word64(record, 0);
+        actions.deadlines[a] = shape.deadline(deadline_word(record) >> 2);
         actions.worst[a] = Pair::of(record, 0).worst();
-        let mut before = Pair::default();
-        for level in 0..shape.levels {
-            let pair = Pair::of(record, level);
-            faults.kept &= pair.kept(before);
-            before = pair;
-        }
+        faults.add_record(shape, record);
     }
-    faults.first()?;
+    if let Err(refused) = faults.first() {
+        return Err(at_fault(refused, shape.n, |faults, a| faults.add_record(shape, shape.record(image, a))));
+    }
     Ok((shape, actions))
 }
 
@@ -241,26 +284,19 @@ pub fn write(
 
 /// Refusals 6 to 9 of a writing.
 fn judge(shape: Shape, masks: &[u64], deadlines: &[u32], averages: &[u32], worst: &[u32]) -> Answer<()> {
-    let present = shape.present();
+    let levels = shape.levels;
+    let rows = |a: usize| (masks[a], deadlines[a], &averages[a * levels..][..levels], &worst[a * levels..][..levels]);
     let mut faults = Faults::none();
     let mut actions = Actions::default();
-    let mut times = 0;
-    let rows = averages.chunks_exact(shape.levels).zip(worst.chunks_exact(shape.levels));
-    for (a, ((&mask, &deadline), (averages, worst))) in masks.iter().zip(deadlines).zip(rows).enumerate().take(64) {
-        faults.range |= (mask & !present != 0) | (deadline > shape.cycle);
-        actions.masks[a] = mask;
-        actions.deadlines[a] = shape.deadline(deadline);
-        actions.worst[a] = worst[0];
-        let mut before = Pair::default();
-        for (&average, &worst) in averages.iter().zip(worst) {
-            times |= average | worst;
-            let pair = Pair::new(average, worst);
-            faults.kept &= pair.kept(before);
-            before = pair;
-        }
+    for a in 0..shape.n.min(64) {
+        actions.masks[a] = masks[a];
+        actions.deadlines[a] = shape.deadline(deadlines[a]);
+        actions.worst[a] = worst[a * levels];
+        faults.add_rows(shape, rows(a));
     }
-    faults.range |= times > LONGEST_TIME;
-    faults.first()?;
+    if let Err(refused) = faults.first() {
+        return Err(at_fault(refused, shape.n, |faults, a| faults.add_rows(shape, rows(a))));
+    }
     arrange(&actions, shape.n).map(|_| ())
 }
 
@@ -272,11 +308,10 @@ pub fn lookup(image: &[u8], action: usize) -> &[u8] {
     }
 }
 
-/// The number of that lookup's refusal, 0 for none.
-pub fn lookup_refusal(image: &[u8], action: usize) -> u8 {
-    match examine(image) {
-        Ok((shape, _)) if action < shape.n => 0,
-        Ok(_) => refused::NAME,
-        Err(number) => number,
+/// The refusal of that lookup.
+pub fn lookup_refusal(image: &[u8], action: usize) -> Answer<()> {
+    match examine(image)? {
+        (shape, _) if action < shape.n => Ok(()),
+        _ => Err(refused::NAME),
     }
 }

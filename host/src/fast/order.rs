@@ -102,11 +102,25 @@ pub(super) fn ordered(actions: &Actions, n: usize) -> Answer<(Arranged, bool)> {
         let end: u32 = actions.worst[..n].iter().sum();
         return Ok((Arranged(BY_NUMBER), end > actions.deadlines[0]));
     }
-    by_urgency(actions, n)
+    by_urgency(actions, n).ok_or_else(|| refused::LOOP.at(lowest_on_a_loop(&actions.masks[..n])))
 }
 
-/// Each action that is not ready waits with one of its predecessors still to be done.
-fn by_urgency(actions: &Actions, n: usize) -> Answer<(Arranged, bool)> {
+/// The lowest action that must follow itself, where there is one: by all that comes before each, at any remove.
+#[cold]
+fn lowest_on_a_loop(masks: &[u64]) -> usize {
+    let mut before = [0; 64];
+    before[..masks.len()].copy_from_slice(masks);
+    for through in 0..64 {
+        let further = before[through];
+        for set in before.iter_mut().filter(|set| **set >> through & 1 == 1) {
+            *set |= further;
+        }
+    }
+    (0..64).find(|&a| before[a] >> a & 1 == 1).expect("a loop")
+}
+
+/// Each action that is not ready waits with one of its predecessors still to be done; with a loop some wait for ever.
+fn by_urgency(actions: &Actions, n: usize) -> Option<(Arranged, bool)> {
     let by_rank = ranked(actions, n);
     let mut rank = [0u8; 64];
     for (place, &a) in by_rank[..n].iter().enumerate() {
@@ -125,7 +139,7 @@ fn by_urgency(actions: &Actions, n: usize) -> Answer<(Arranged, bool)> {
     let (mut clock, mut unfit) = (0u32, false);
     for (i, place) in order[..n].iter_mut().enumerate() {
         if ready == 0 {
-            return Err(refused::LOOP);
+            return None;
         }
         let action = by_rank[take_lowest(&mut ready)] as usize & 63;
         *place = action as u8;
@@ -146,5 +160,5 @@ fn by_urgency(actions: &Actions, n: usize) -> Answer<(Arranged, bool)> {
             }
         }
     }
-    Ok((Arranged(order), unfit))
+    Some((Arranged(order), unfit))
 }

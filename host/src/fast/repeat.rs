@@ -101,24 +101,21 @@ impl After {
     }
 }
 
-/// 3 and 19, 0 for none.
+/// 3 and 19.
 #[inline(always)]
-fn body_refusal(body: Body) -> u8 {
+fn body_refusal(body: Body) -> Answer<()> {
     if !shape_fits(body.n as usize, body.levels as usize) || body.cycle.wrapping_sub(1) >= LAST_CLOCK {
-        return refused::COUNT;
+        return Err(refused::COUNT);
     }
     if body.repeats.wrapping_sub(1) >= MOST_REPEATS {
-        return refused::REPEATS;
+        return Err(refused::REPEATS);
     }
-    0
+    Ok(())
 }
 
 /// The limit at a position of all repeats and a level.
 pub fn body_limit(body: Body, summaries: &[u32], position: usize, level: usize) -> Answer<i64> {
-    let number = body_refusal(body);
-    if number != 0 {
-        return Err(number);
-    }
+    body_refusal(body)?;
     let (n, levels) = (body.n as usize, body.levels as usize);
     if summaries.len() < n * levels * SUMMARY_NUMBERS {
         return Err(refused::ROOM);
@@ -161,10 +158,7 @@ pub fn body_bound(
     level: usize,
     length: usize,
 ) -> Answer<i64> {
-    let number = body_refusal(body);
-    if number != 0 {
-        return Err(number);
-    }
+    body_refusal(body)?;
     let (n, levels) = (body.n as usize, body.levels as usize);
     let (cells, positions) = (n * levels, n * body.repeats as usize);
     if summaries.len() < cells * SUMMARY_NUMBERS || worst.len() < cells {
@@ -315,7 +309,7 @@ fn in_range(run: &BodyRun) -> bool {
     // 64-bit sums: any field may hold any value.
     let reached = u64::from(run.position) + u64::from(run.running);
     let positions = u64::from(body.n) * u64::from(body.repeats);
-    body_refusal(body) == 0
+    body_refusal(body).is_ok()
         && run.clock <= u64::from(LAST_CLOCK)
         && run.level < body.levels
         && run.left <= 15
@@ -325,10 +319,10 @@ fn in_range(run: &BodyRun) -> bool {
 
 /// A start, of zero actions with a refusal.
 pub fn body_start(run: &mut BodyRun, body: Body) -> u8 {
-    let number = body_refusal(body);
-    let body = if number == 0 { body } else { Body::default() };
+    let refusal = body_refusal(body);
+    let body = if refusal.is_ok() { body } else { Body::default() };
     *run = BodyRun { body, ..BodyRun::default() };
-    number
+    refusal.err().map_or(0, |refused| refused.number)
 }
 
 /// The next action and its level.
@@ -367,20 +361,20 @@ pub fn body_ask(run: &mut BodyRun, tables: &BodyTables) -> Answer<Given> {
 /// The end of the running action.
 pub fn body_report(run: &mut BodyRun, clock: u32, worst: &[u32]) -> u8 {
     if !in_range(run) {
-        return refused::TURN;
+        return refused::TURN.number;
     }
     let body = run.body;
     if worst.len() < body.n as usize * body.levels as usize {
-        return refused::ROOM;
+        return refused::ROOM.number;
     }
     if !run.running {
-        return refused::TURN;
+        return refused::TURN.number;
     }
     if u64::from(clock) < run.clock {
-        return refused::BACK;
+        return refused::BACK.number;
     }
     if clock > LAST_CLOCK {
-        return refused::CLOCK;
+        return refused::CLOCK.number;
     }
     let cell = run.position % body.n * body.levels + run.level;
     if clock - run.clock as u32 > worst[cell as usize] {

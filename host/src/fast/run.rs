@@ -55,7 +55,7 @@ pub fn start(n: usize, levels: usize) -> (Run, u8) {
     if shape_fits(n, levels) {
         (Run { n: n as u32, levels: levels as u32, ..Run::default() }, 0)
     } else {
-        (Run::default(), refused::COUNT)
+        (Run::default(), refused::COUNT.number)
     }
 }
 
@@ -105,20 +105,20 @@ pub fn report(mut run: Run, clock: u32, worst: &[u32]) -> (Run, u8) {
 /// The same on the host's own record.
 pub fn report_lent(run: &mut Run, clock: u32, worst: &[u32]) -> u8 {
     if !in_range(run) {
-        return refused::TURN;
+        return refused::TURN.number;
     }
     let levels = run.levels as usize;
     if worst.len() < run.n as usize * levels {
-        return refused::ROOM;
+        return refused::ROOM.number;
     }
     if !run.running {
-        return refused::TURN;
+        return refused::TURN.number;
     }
     if clock < run.clock {
-        return refused::BACK;
+        return refused::BACK.number;
     }
     if clock > LAST_CLOCK {
-        return refused::CLOCK;
+        return refused::CLOCK.number;
     }
     if clock - run.clock > worst[run.position as usize * levels + run.level as usize] {
         run.overrun = true;

@@ -2,7 +2,7 @@
 
 use super::bits::{get, put};
 use super::profile::{counts_in_range, Profile};
-use crate::calls::{refused, Answer, Counts};
+use crate::calls::{refused, Answer, Counts, Refused};
 
 const HEADER: usize = 48;
 
@@ -31,7 +31,7 @@ fn header(image: &[u8]) -> Counts {
 }
 
 /// The numbers of an image whose length is right.
-fn unpack(image: &[u8]) -> Profile {
+pub fn unpack(image: &[u8]) -> Profile {
     let counts = header(image);
     let (n, levels) = (counts.n, counts.levels);
     let times = |offset: usize| {
@@ -69,8 +69,18 @@ fn pack(profile: &Profile) -> Vec<u8> {
     image
 }
 
-fn spare_bit_set(image: &[u8], n: usize, levels: usize) -> bool {
-    get(image, 45, 3) != 0 || (0..n).any(|a| get(image, record_start(levels, a) + 94, 2) != 0)
+/// The actions with a spare bit set in their record, from the lowest up.
+pub fn spare_bit_set(image: &[u8]) -> Vec<usize> {
+    let Counts { n, levels, .. } = header(image);
+    (0..n).filter(|&a| get(image, record_start(levels, a) + 94, 2) != 0).collect()
+}
+
+/// 5, of no action where a spare bit of the header alone is set.
+fn spare_refusal(image: &[u8]) -> Option<Refused> {
+    match spare_bit_set(image).first() {
+        Some(&a) => Some(refused::SPARE.at(a)),
+        None => (get(image, 45, 3) != 0).then_some(refused::SPARE),
+    }
 }
 
 /// The profile of an accepted image, or the refusal 1 to 9.
@@ -94,16 +104,15 @@ pub fn accept_but_unfit(image: &[u8]) -> Answer<Profile> {
     if !counts_in_range(counts) {
         return Err(refused::COUNT);
     }
-    let (n, levels) = (counts.n, counts.levels);
-    if image.len() != length(n, levels) {
+    if image.len() != length(counts.n, counts.levels) {
         return Err(refused::LENGTH);
     }
-    if spare_bit_set(image, n, levels) {
-        return Err(refused::SPARE);
+    if let Some(refused) = spare_refusal(image) {
+        return Err(refused);
     }
     let profile = unpack(image);
     match profile.refusal_but_unfit() {
-        Some(number) => Err(number),
+        Some(refused) => Err(refused),
         None => Ok(profile),
     }
 }
@@ -137,6 +146,23 @@ pub fn read(
     Ok(header(image))
 }
 
+/// The numbers of lent slices that are long enough.
+pub fn from_tables(counts: Counts, masks: &[u64], deadlines: &[u32], averages: &[u32], worst: &[u32]) -> Profile {
+    let (n, levels) = (counts.n, counts.levels);
+    let times = |table: &[u32]| -> Vec<Vec<i64>> {
+        (0..n).map(|a| (0..levels).map(|q| i64::from(table[a * levels + q])).collect()).collect()
+    };
+    Profile {
+        n,
+        levels,
+        cycle: i64::from(counts.cycle),
+        masks: masks[..n].to_vec(),
+        deadlines: deadlines[..n].iter().map(|&deadline| i64::from(deadline)).collect(),
+        averages: times(averages),
+        worst: times(worst),
+    }
+}
+
 /// Packs lent slices into a lent image and answers its bytes.
 pub fn write(
     counts: Counts,
@@ -155,20 +181,9 @@ pub fn write(
     if masks.len() < n || deadlines.len() < n || times_short || image.len() < bytes {
         return Err(refused::ROOM);
     }
-    let times = |table: &[u32]| -> Vec<Vec<i64>> {
-        (0..n).map(|a| (0..levels).map(|q| i64::from(table[a * levels + q])).collect()).collect()
-    };
-    let profile = Profile {
-        n,
-        levels,
-        cycle: i64::from(counts.cycle),
-        masks: masks[..n].to_vec(),
-        deadlines: deadlines[..n].iter().map(|&deadline| i64::from(deadline)).collect(),
-        averages: times(averages),
-        worst: times(worst),
-    };
-    if let Some(number) = profile.refusal() {
-        return Err(number);
+    let profile = from_tables(counts, masks, deadlines, averages, worst);
+    if let Some(refused) = profile.refusal() {
+        return Err(refused);
     }
     image[..bytes].copy_from_slice(&pack(&profile));
     Ok(bytes)
@@ -192,9 +207,9 @@ pub fn lookup(image: &[u8], action: usize) -> &[u8] {
     }
 }
 
-/// The number of that lookup's refusal, 0 for none.
-pub fn lookup_refusal(image: &[u8], action: usize) -> u8 {
-    find(image, action).err().unwrap_or(0)
+/// The refusal of that lookup.
+pub fn lookup_refusal(image: &[u8], action: usize) -> Answer<()> {
+    find(image, action).map(|_| ())
 }
 
 /// Puts an average into an image.

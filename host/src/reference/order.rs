@@ -17,9 +17,9 @@ impl Follows {
         self.0[a][b]
     }
 
-    /// Whether some action must follow itself.
-    pub fn has_loop(&self) -> bool {
-        (0..self.0.len()).any(|a| self.must_follow(a, a))
+    /// The actions that must follow themselves, from the lowest up.
+    pub fn on_a_loop(&self) -> Vec<usize> {
+        (0..self.0.len()).filter(|&a| self.must_follow(a, a)).collect()
     }
 
     /// The least deadline among the action itself and every action that must follow it.

@@ -1,7 +1,7 @@
 //! A profile as numbers, and the refusals 6 to 9 that an image and a writing share.
 
 use super::order::{Follows, Order};
-use crate::calls::{refused, Counts, LAST_CLOCK, LONGEST_TIME};
+use crate::calls::{refused, Counts, Refused, LAST_CLOCK, LONGEST_TIME};
 use std::collections::BTreeSet;
 
 /// A set of actions.
@@ -67,36 +67,38 @@ impl<Mask: Set> Profile<Mask> {
 
 impl Profile {
     /// The least of 6, 7, 8, 9 that applies.
-    pub fn refusal(&self) -> Option<u8> {
+    pub fn refusal(&self) -> Option<Refused> {
         self.refusal_but_unfit().or_else(|| self.unfit().then_some(refused::UNFIT))
     }
 
-    /// The least of 6, 7, 8 that applies.
-    pub fn refusal_but_unfit(&self) -> Option<u8> {
-        if self.out_of_range() {
-            return Some(refused::RANGE);
-        }
-        if self.breaks_table_rule() {
-            return Some(refused::TABLE);
-        }
-        if Follows::of(self).has_loop() {
-            return Some(refused::LOOP);
-        }
-        None
+    /// The least of 6, 7, 8 that applies to any action, with the lowest that it applies to.
+    pub fn refusal_but_unfit(&self) -> Option<Refused> {
+        [refused::RANGE, refused::TABLE, refused::LOOP]
+            .into_iter()
+            .find_map(|refused| self.at_fault(refused).first().map(|&a| refused.at(a)))
     }
 
-    fn out_of_range(&self) -> bool {
-        let times = self.averages.iter().chain(&self.worst).flatten();
-        self.deadlines.iter().any(|&deadline| deadline > self.cycle)
-            || self.masks.iter().any(|mask| (self.n..64).any(|b| mask >> b & 1 == 1))
-            || times.into_iter().any(|&time| time > i64::from(LONGEST_TIME))
+    /// All actions that 6, 7 or 8 applies to, from the lowest up.
+    pub fn at_fault(&self, refused: Refused) -> Vec<usize> {
+        let those = |so: &dyn Fn(usize) -> bool| (0..self.n).filter(|&a| so(a)).collect();
+        match refused.number {
+            6 => those(&|a| self.out_of_range(a)),
+            7 => those(&|a| self.breaks_table_rule(a)),
+            8 => Follows::of(self).on_a_loop(),
+            _ => Vec::new(),
+        }
     }
 
-    fn breaks_table_rule(&self) -> bool {
-        let falls = |row: &Vec<i64>| (1..self.levels).any(|q| row[q] < row[q - 1]);
-        (0..self.n).any(|a| {
-            let (averages, worst) = (&self.averages[a], &self.worst[a]);
-            (0..self.levels).any(|q| averages[q] > worst[q]) || falls(averages) || falls(worst)
-        })
+    fn out_of_range(&self, a: usize) -> bool {
+        let mut times = self.averages[a].iter().chain(&self.worst[a]);
+        self.deadlines[a] > self.cycle
+            || (self.n..64).any(|b| self.before(b, a))
+            || times.any(|&time| time > i64::from(LONGEST_TIME))
+    }
+
+    fn breaks_table_rule(&self, a: usize) -> bool {
+        let falls = |row: &[i64]| (1..self.levels).any(|q| row[q] < row[q - 1]);
+        let (averages, worst) = (&self.averages[a], &self.worst[a]);
+        (0..self.levels).any(|q| averages[q] > worst[q]) || falls(averages) || falls(worst)
     }
 }

@@ -6,8 +6,8 @@ use super::order::Order;
 use super::profile::{shape_in_range, Profile};
 use super::run::{asked, granted, Limits};
 use crate::calls::{
-    refused, Answer, Body, BodyDried, BodyRun, BodyTables, Given, ABSENT_LONG, LAST_CLOCK, LONGEST_COAST, LONGEST_TIME,
-    MOST_REPEATS, SUMMARY_NUMBERS,
+    refused, Answer, Body, BodyDried, BodyRun, BodyTables, Given, Refused, ABSENT_LONG, LAST_CLOCK, LONGEST_COAST,
+    LONGEST_TIME, MOST_REPEATS, SUMMARY_NUMBERS,
 };
 use std::collections::BTreeSet;
 
@@ -281,7 +281,7 @@ pub fn plan_body(
 // ---- limits and bounds
 
 /// 3 and 19.
-fn body_refusal(body: Body) -> Option<u8> {
+fn body_refusal(body: Body) -> Option<Refused> {
     if !shape_in_range(body.n as usize, body.levels as usize) || !(1..=LAST_CLOCK).contains(&body.cycle) {
         return Some(refused::COUNT);
     }
@@ -296,8 +296,8 @@ fn short(body: Body, summaries: &[u32], worst: &[u32]) -> bool {
 
 /// The limit at a position of all repeats and a level; it reads no worst times.
 pub fn body_limit(body: Body, summaries: &[u32], position: usize, level: usize) -> Answer<i64> {
-    if let Some(number) = body_refusal(body) {
-        return Err(number);
+    if let Some(refused) = body_refusal(body) {
+        return Err(refused);
     }
     let lent = Lent { body, summaries, worst: &[] };
     if summaries.len() < lent.n() * lent.levels() * SUMMARY_NUMBERS {
@@ -318,8 +318,8 @@ pub fn body_bound(
     level: usize,
     length: usize,
 ) -> Answer<i64> {
-    if let Some(number) = body_refusal(body) {
-        return Err(number);
+    if let Some(refused) = body_refusal(body) {
+        return Err(refused);
     }
     if short(body, summaries, worst) {
         return Err(refused::ROOM);
@@ -376,9 +376,9 @@ pub fn body_fields_out(run: BodyRun) -> Vec<&'static str> {
 /// A start sets the body, all else 0 or no; refused, it leaves a record of zero actions.
 pub fn body_start(run: &mut BodyRun, body: Body) -> u8 {
     match body_refusal(body) {
-        Some(number) => {
+        Some(refused) => {
             *run = BodyRun::default();
-            number
+            refused.number
         }
         None => {
             *run = BodyRun { body, ..BodyRun::default() };
@@ -445,20 +445,20 @@ pub fn body_ask(run: &mut BodyRun, tables: &BodyTables) -> Answer<Given> {
 /// Reports the end of the running action by the clock since the cycle began.
 pub fn body_report(run: &mut BodyRun, clock: u32, worst: &[u32]) -> u8 {
     if !body_fields_out(*run).is_empty() {
-        return refused::TURN;
+        return refused::TURN.number;
     }
     let lent = Lent { body: run.body, summaries: &[], worst };
     if worst.len() < lent.n() * lent.levels() {
-        return refused::ROOM;
+        return refused::ROOM.number;
     }
     if !run.running {
-        return refused::TURN;
+        return refused::TURN.number;
     }
     if u64::from(clock) < run.clock {
-        return refused::BACK;
+        return refused::BACK.number;
     }
     if clock > LAST_CLOCK {
-        return refused::CLOCK;
+        return refused::CLOCK.number;
     }
     *run = ended(*run, clock.into(), lent.worst(run.position as usize, run.level as usize));
     0

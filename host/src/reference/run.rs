@@ -80,7 +80,7 @@ pub fn in_range(run: Run) -> bool {
 /// A start sets n and L, all else 0 or no; refused, it gives a record of zero actions.
 pub fn start(n: usize, levels: usize) -> (Run, u8) {
     if !shape_in_range(n, levels) {
-        return (Run::default(), refused::COUNT);
+        return (Run::default(), refused::COUNT.number);
     }
     (Run { n: n as u32, levels: levels as u32, ..Run::default() }, 0)
 }
@@ -122,20 +122,20 @@ pub fn ask(run: Run, order: &[u8], limits: &[i32], bounds: &[i32]) -> (Run, Answ
 /// Reports the end of the running action by the clock since the cycle began.
 pub fn report(run: Run, clock: u32, worst: &[u32]) -> (Run, u8) {
     if !in_range(run) {
-        return (run, refused::TURN);
+        return (run, refused::TURN.number);
     }
     let (n, levels) = (run.n as usize, run.levels as usize);
     if worst.len() < n * levels {
-        return (run, refused::ROOM);
+        return (run, refused::ROOM.number);
     }
     if !run.running {
-        return (run, refused::TURN);
+        return (run, refused::TURN.number);
     }
     if clock < run.clock {
-        return (run, refused::BACK);
+        return (run, refused::BACK.number);
     }
     if clock > LAST_CLOCK {
-        return (run, refused::CLOCK);
+        return (run, refused::CLOCK.number);
     }
     let duration = clock - run.clock;
     let overran = duration > worst[run.position as usize * levels + run.level as usize];

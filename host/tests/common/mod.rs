@@ -3,20 +3,36 @@
 #![allow(dead_code)]
 
 use nyokazerubi_host::c::C;
-use nyokazerubi_host::calls::{Calls, Counts, Fast, Reference, Tables};
+use nyokazerubi_host::calls::{Answer, Calls, Counts, Fast, Reference, Refused, Tables, NO_ACTION};
 use nyokazerubi_host::draw::Sketch;
 use nyokazerubi_host::product::Product;
 use nyokazerubi_host::reference::Profile;
 use nyokazerubi_host::text::BodyPlan;
 use std::path::{Path, PathBuf};
 
-/// The folder of the outside vectors that a crate runs under the gate (`test_cases`, `test_recordings`, `test_repeats`, `test_traces` or
-/// `test_readings`): NYOKAZERUBI_VECTORS, or the data of that crate.
+/// The folder of the outside vectors that a crate runs under the gate (`test_cases`, `test_faults`, `test_recordings`, `test_repeats`,
+/// `test_traces` or `test_readings`): NYOKAZERUBI_VECTORS, or the data of that crate.
 pub fn vectors(kind: &str) -> PathBuf {
     let data = || Path::new(env!("CARGO_MANIFEST_DIR")).join("../crates").join(kind).join("data");
     let folder = std::env::var_os("NYOKAZERUBI_VECTORS").map_or_else(data, PathBuf::from);
     assert!(folder.is_dir(), "no vectors in {}: set NYOKAZERUBI_VECTORS to their folder", folder.display());
     folder
+}
+
+/// The vectors of a request that lie by themselves: the data of its crate, or in NYOKAZERUBI_VECTORS the folder with the request's name, if there.
+pub fn vectors_of_request(kind: &str, request: &str) -> Option<PathBuf> {
+    let folder = vectors(kind);
+    if std::env::var_os("NYOKAZERUBI_VECTORS").is_none() {
+        return Some(folder);
+    }
+    Some(folder.join(request)).filter(|folder| folder.is_dir())
+}
+
+/// The number of a refusal that no action is at fault for, 0 where there is none.
+pub fn number<T>(answer: Answer<T>) -> u8 {
+    let Err(Refused { number, action }) = answer else { return 0 };
+    assert_eq!(u32::from(action), NO_ACTION, "the action of {number}");
+    number
 }
 
 /// All implementations, the definitions first. Another one is added here.
