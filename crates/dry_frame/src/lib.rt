@@ -2,6 +2,7 @@
 use rules::Fault;
 ghost use mathlib.Core.Path.{_≡_};
 ghost use mathlib.Core.Bool.{false};
+ghost use Rattle.rules.specs.Numbers.{most-actions};
 ghost use Rattle.dry_frame.specs.Frame.{Frames};
 
 // The refusal; without one the number of positions, the decisions made, the clock at the end and the two marks, else 0 and no.
@@ -29,6 +30,16 @@ fn refused(refusal: Fault) -> Framed
     }
 }
 
+// What a call that is refused for its own reasons answers: no action is at fault.
+fn unblamed(number: u32) -> Framed
+    ensures { λ r. ⌜ r ≡ record { refusal = record { number = number; action = most-actions }; n = 0; decisions = 0; end = 0; overrun = false; late = false } ⌝ }
+{
+    refused(Fault {
+        number,
+        action: rules::NO_ACTION,
+    })
+}
+
 // Plans the image, runs its cycle over n by L durations by position, and writes the order, the levels given and the decided marks. A refusal
 // leaves the slices untouched, so the order is kept apart until the durations are judged.
 pub fn dry_frame(
@@ -54,10 +65,7 @@ pub fn dry_frame(
     }
     let n = planned.n;
     if order.len() < n {
-        return refused(Fault {
-            number: rules::REFUSED_ROOM,
-            action: rules::NO_ACTION,
-        });
+        return unblamed(rules::REFUSED_ROOM);
     }
     let dried = run::dry::dry_run(
         n,
@@ -70,10 +78,7 @@ pub fn dry_frame(
         marks,
     );
     if dried.refusal.number != 0 {
-        return refused(Fault {
-            number: dried.refusal.number,
-            action: rules::NO_ACTION,
-        });
+        return unblamed(dried.refusal.number);
     }
     fields::copy_front(&actions, n, order);
     Framed {

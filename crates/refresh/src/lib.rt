@@ -127,7 +127,7 @@ fn refresh_accepted(
         number: own.number,
         action: rules::NO_ACTION,
     };
-    if refusal.number != 0 {
+    if own.number != 0 {
         return Refreshed { refusal, bytes: 0 };
     }
     fields::copy_front(image, bytes, out);

@@ -50,7 +50,7 @@ returns-2 : tie.Need-returns-2
 returns-2 c =
     let tight = c .before in
     let else1 = tight .before in
-    order-refused (planning (planned else1)) _ _ (else1 .if1 .left) (tight .if2 .taken) (c .refused2 .ensures)
+    order-refused (planning (planned else1)) _ _ (else1 .if1 .left) (tight .if2 .taken) (c .unblamed .ensures)
 
 returns-3 : tie.Need-returns-3
 returns-3 c =
@@ -58,7 +58,7 @@ returns-3 c =
     let dried = not-run then3 in
     let else1 = roomy dried .before in
     dry-refused (planning (planned else1)) _ _ _ (else1 .if1 .left) (roomy dried .if2 .left) (dried .dry-run .ensures) (then3 .if3 .taken) refl
-    (c .refused3 .ensures)
+    (c .unblamed2 .ensures)
 
 copy-front-requires : tie.Need-copy-front-requires
 copy-front-requires c κs =
