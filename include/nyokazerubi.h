@@ -7,8 +7,8 @@
  * Link libnyokazerubi.a. It is for x86-64 Linux; it keeps nothing between calls, allocates nothing, and needs memcpy and memset alone. What a call
  * answers and writes is proved for every input.
  *
- * LENT MEMORY. A table is lent as a pointer and then the number of its entries (of bytes where the entries are bytes). A call reads what is const
- * and writes the rest. Until it returns, the host sees to it that
+ * LENT MEMORY. A table is lent as a pointer and then the number of its entries (of bytes where the entries are bytes), a record as a
+ * pointer alone. A call reads what is const and writes the rest. Until it returns, the host sees to it that
  *   - each pointer is aligned and not null, with length 0 too, and has as many entries as it says;
  *   - what the call writes overlaps nothing else that it is lent, and no other thread touches it meanwhile; what it reads, any thread may read;
  *   - the three bools of a run record are 0 or 1 when it is lent to ask and to report. A start writes every field of the record and reads none, so
@@ -40,7 +40,7 @@
  *
  * // Once for a profile.
  * struct nyokazerubi_planned prepare(const uint8_t *image, size_t bytes) {
- *     return nyokazerubi_plan(image, bytes, order, ACTIONS, limits, TABLE, worst_by_position, TABLE, bounds, BOUNDS);
+ *     return nyokazerubi_plan(image, bytes, NYOKAZERUBI_POLICY_2008, order, ACTIONS, limits, TABLE, worst_by_position, TABLE, bounds, BOUNDS);
  * }
  *
  * // Once for a frame. The number of the refusal, 0 when every action is done; then run->overrun and run->late tell how it went.
@@ -55,6 +55,12 @@
  *     return refusal.number;
  * }
  * ---- the end of the loop
+ *
+ * POLICY. It is chosen at planning, by its year; any other number is refused with 20. In 2008 a level is tested once, on average and safe sums mixed.
+ * In 2005 it must pass two tests apart, each against every deadline to come: the average sums alone, and the safe sums alone, which are the action's
+ * own worst time and the level 0 worst times after it. Cameras are certified on it. By either no deadline is missed; in 2005 a limit may be below that
+ * of the position before. The policies differ in limits and coast bounds: the tables carry theirs, so that the run of a plain cycle, its dry run over
+ * lent tables and the rehearsal take none; a body repeated names its own. The speed reading is by the sums of 2008.
  *
  * GLOSSARY. Position i is the i-th action in the order that the plan found; t is the last reported clock, 0 at the start of a cycle.
  *   limit     The last t at which a level may be given at a position, so that every deadline to come can still be met, whatever the action takes
@@ -114,8 +120,8 @@
  *   in all, to plan and rehearse a recording       6043   42838
  *
  *   summaries          uint32_t  16nL              1152    8192   of a body, by position and level, 4 numbers each
- *   body run           record    40                  40      40
- *   in all, to plan and run a body repeated        2035   14190   the image, order, worst_by_position and these, for any number N of repeats
+ *   body run           record    48                  48      48
+ *   in all, to plan and run a body repeated        2043   14198   the image, order, worst_by_position and these, for any number N of repeats
  *
  *   durations          uint32_t  4nNL            466560 3317760   of 1620 repeats, for a dry run of a body repeated
  *   given              uint8_t   nN               14580  103680   by position of all repeats
@@ -144,7 +150,7 @@ extern "C" {
 #endif
 
 /* The version of this boundary, and that of the archive that is linked: a host compares them once. */
-#define NYOKAZERUBI_BOUNDARY 4u
+#define NYOKAZERUBI_BOUNDARY 5u
 uint32_t nyokazerubi_boundary(void);
 
 #define NYOKAZERUBI_MOST_ACTIONS 64
@@ -158,6 +164,8 @@ uint32_t nyokazerubi_boundary(void);
 #define NYOKAZERUBI_LAST_CLOCK 1073741823u   /* the longest cycle, the latest deadline, the latest clock */
 #define NYOKAZERUBI_LONGEST_TIME 16777215u   /* the longest average, worst time and duration of a dry run */
 #define NYOKAZERUBI_NO_ACTION 64u            /* the action of a refusal that none is at fault for */
+#define NYOKAZERUBI_POLICY_2008 2008u        /* average and safe sums mixed in one test */
+#define NYOKAZERUBI_POLICY_2005 2005u        /* average and safe sums in two tests apart */
 #define NYOKAZERUBI_ABSENT_BOUND INT32_MIN   /* the coast bound where a coast would go past the last position */
 #define NYOKAZERUBI_ABSENT_LONG INT64_MIN    /* the same of a body repeated */
 
@@ -200,7 +208,8 @@ enum {
     NYOKAZERUBI_REFUSED_DURATION = 16, /* trace record longer than that worst time; dry run or frame entry above 16777215 */
     NYOKAZERUBI_REFUSED_ROOM = 17,     /* a lent table shorter than needed */
     NYOKAZERUBI_REFUSED_READING = 18,  /* speed reading with first position above last; a position or level absent; a coast not of 1 to 16 actions */
-    NYOKAZERUBI_REFUSED_REPEATS = 19   /* a body not repeated 1 to 1620 times, or with a deadline that is not 0 or the cycle */
+    NYOKAZERUBI_REFUSED_REPEATS = 19,  /* a body not repeated 1 to 1620 times, or with a deadline that is not 0 or the cycle */
+    NYOKAZERUBI_REFUSED_POLICY = 20    /* a policy other than 2008 and 2005 */
 };
 
 struct nyokazerubi_refusal {
@@ -271,9 +280,9 @@ struct nyokazerubi_planned {
     uint32_t cycle;
 };
 
-/* Plans an image: the order, the limits, the worst times by position and the coast bounds. 1 to 9, 17. */
+/* Plans an image by a policy: the order, the limits, the worst times by position and the coast bounds. 1 to 9, 20, 17. */
 struct nyokazerubi_planned nyokazerubi_plan(
-    const uint8_t *image, size_t image_length,
+    const uint8_t *image, size_t image_length, uint32_t policy,
     uint8_t *order, size_t order_length,
     int32_t *limits, size_t limits_length,
     uint32_t *worst_by_position, size_t worst_by_position_length,
@@ -348,9 +357,9 @@ struct nyokazerubi_framed {
     bool late;
 };
 
-/* The same from an image, which it plans into tables of its own: writes the order, n levels given and n decided marks. 1 to 9, 17, 16. */
+/* The same from an image, which it plans into tables of its own: writes the order, n levels given and n decided marks. 1 to 9, 20, 17, 16. */
 struct nyokazerubi_framed nyokazerubi_dry_frame(
-    const uint8_t *image, size_t image_length,
+    const uint8_t *image, size_t image_length, uint32_t policy,
     const uint32_t *durations, size_t durations_length,
     uint8_t *order, size_t order_length,
     uint8_t *given, size_t given_length,
@@ -367,9 +376,9 @@ struct nyokazerubi_opened {
 };
 
 /* Opens a recording of so many bytes against an image, which it plans as nyokazerubi_plan does. None of the recording is lent: 14 is judged by its
- * length, before any frame is run. No bytes are no frames, accepted. 1 to 9, 14, 17. */
+ * length, before any frame is run. No bytes are no frames, accepted. 1 to 9, 20, 14, 17. */
 struct nyokazerubi_opened nyokazerubi_open_recording(
-    const uint8_t *image, size_t image_length, size_t bytes,
+    const uint8_t *image, size_t image_length, uint32_t policy, size_t bytes,
     uint8_t *order, size_t order_length,
     int32_t *limits, size_t limits_length,
     uint32_t *worst_by_position, size_t worst_by_position_length,
@@ -406,12 +415,15 @@ struct nyokazerubi_line nyokazerubi_rehearse(
 
 /* A body of n actions done so many times over in one cycle, where all deadlines are the cycle's. It is the unrolled profile of n times the repeats
  * actions, numbered repeat by repeat: action a of repeat j, from 0 on, has the number jn + a, its masks name actions of its own repeat, and its
- * times are those of a. Position i is the i-th of all, up to 103680, and what stands above of limits, coasts, late and overrun holds over these. */
+ * times are those of a. Position i is the i-th of all, up to 103680, and what stands above of limits, coasts, late and overrun holds over these.
+ * Planning answers it; the host keeps it, and lends it by its address to limit, bound and start, which only read it. A start copies it into the run
+ * record: lent to it is the host's own, and not the one within that record, which would overlap. */
 struct nyokazerubi_body {
     uint32_t n;
     uint32_t levels;
     uint32_t cycle;
     uint32_t repeats;
+    uint32_t policy; /* by its year */
 };
 
 struct nyokazerubi_body_planned {
@@ -419,11 +431,12 @@ struct nyokazerubi_body_planned {
     struct nyokazerubi_body body;
 };
 
-/* Plans an image to be repeated: the order and the worst times of one body, and of the rest of a body from each position and level four numbers, by
- * which any limit of the unrolled profile, and at its top level the longest coast, is worked out when it is asked for. No table grows with the
- * repeats. 1 to 8, 19, 9 (of the unrolled profile), 17. */
+/* Plans an image to be repeated by a policy: the order and the worst times of one body, and of the rest of a body from each position and level four
+ * numbers, by which any limit of the unrolled profile, and at its top level the longest coast, is worked out when it is asked for. One of the four is
+ * the policy's own: the tables are for the body that is answered with them. No table grows with the repeats. 1 to 8, 19, 9 (of the unrolled profile),
+ * 20, 17. */
 struct nyokazerubi_body_planned nyokazerubi_plan_body(
-    const uint8_t *image, size_t image_length, uint32_t repeats,
+    const uint8_t *image, size_t image_length, uint32_t repeats, uint32_t policy,
     uint8_t *order, size_t order_length,
     uint32_t *summaries, size_t summaries_length,
     uint32_t *worst_by_position, size_t worst_by_position_length);
@@ -433,7 +446,7 @@ struct nyokazerubi_limited {
     int64_t limit;
 };
 
-/* The limit at a position and level. 3, 19, 17, 18. */
+/* The limit at a position and level. 3, 19, 20, 17, 18. */
 struct nyokazerubi_limited nyokazerubi_body_limit(
     struct nyokazerubi_body body,
     const uint32_t *summaries, size_t summaries_length,
@@ -441,27 +454,28 @@ struct nyokazerubi_limited nyokazerubi_body_limit(
 
 /* The coast bound at a position, level and length of the coast, 1 to 16: INT64_MIN where the coast would go past the last position. It is
  * worked out at each position of the coast; at the top level, where the coast is as long as there may be, also by the summaries at its first and its
- * last position alone, and the greater counts: on tables that planning wrote they are equal. 3, 19, 17, 18. */
+ * last position alone, and the greater counts: on tables that planning wrote they are equal. 3, 19, 20, 17, 18. */
 struct nyokazerubi_limited nyokazerubi_body_bound(
     struct nyokazerubi_body body,
     const uint32_t *summaries, size_t summaries_length,
     const uint32_t *worst_by_position, size_t worst_by_position_length,
     size_t position, size_t level, size_t length);
 
-/* The run record of a body repeated, kept and lent as that of a plain cycle. */
+/* The run record of a body repeated, kept and lent as that of a plain cycle. A start refuses a policy that there is not; ask and report do not judge
+ * it again, and in a record any number but 2005 is read as 2008. */
 struct nyokazerubi_body_run {
     struct nyokazerubi_body body;
-    uint64_t clock;    /* the last accepted one, at most 1073741823 */
     uint32_t level;    /* the last given one */
+    uint64_t clock;    /* the last accepted one, at most 1073741823 */
     uint32_t position; /* actions ended, of all repeats, and while one runs its position */
-    uint32_t decisions;
-    uint8_t left; /* actions left of the coast */
+    uint8_t left;      /* actions left of the coast */
     bool running;
     bool overrun; /* to the end of the cycle */
     bool late;    /* to the end of the cycle */
+    uint32_t decisions;
 };
 
-/* Starts a cycle in the record, whatever bytes it held. 3, 19, which leave a record of zero actions. */
+/* Starts a cycle in the record, whatever bytes it held. 3, 19, 20, which leave a record of zero actions. */
 struct nyokazerubi_refusal nyokazerubi_body_start(struct nyokazerubi_body_run *run, struct nyokazerubi_body body);
 
 /* The next action, by its number in the unrolled profile, and its level; from then on it runs. 11 (a field outside its range), 17, 11 (an action
@@ -487,9 +501,9 @@ struct nyokazerubi_body_framed {
 };
 
 /* A whole cycle from an image and durations by position of all repeats and level: writes the order of one body, and at each position of all repeats
- * the level given and the decided mark (1 or 0). 1 to 8, 19, 9, 17, 16. */
+ * the level given and the decided mark (1 or 0). 1 to 8, 19, 9, 20, 17, 16. */
 struct nyokazerubi_body_framed nyokazerubi_body_dry_frame(
-    const uint8_t *image, size_t image_length, uint32_t repeats,
+    const uint8_t *image, size_t image_length, uint32_t repeats, uint32_t policy,
     const uint32_t *durations, size_t durations_length,
     uint8_t *order, size_t order_length,
     uint8_t *given, size_t given_length,

@@ -15,14 +15,14 @@ _Static_assert(sizeof(struct nyokazerubi_dried) == 16, "dried");
 _Static_assert(sizeof(struct nyokazerubi_opened) == 40, "opened");
 _Static_assert(sizeof(struct nyokazerubi_totals) == 16, "totals");
 _Static_assert(sizeof(struct nyokazerubi_line) == 20, "line");
-_Static_assert(sizeof(struct nyokazerubi_body) == 16, "body");
-_Static_assert(sizeof(struct nyokazerubi_body_planned) == 24, "body planned");
+_Static_assert(sizeof(struct nyokazerubi_body) == 20, "body");
+_Static_assert(sizeof(struct nyokazerubi_body_planned) == 28, "body planned");
 _Static_assert(sizeof(struct nyokazerubi_limited) == 16, "limited");
-_Static_assert(sizeof(struct nyokazerubi_body_run) == 40, "body run");
+_Static_assert(sizeof(struct nyokazerubi_body_run) == 48, "body run");
 _Static_assert(sizeof(struct nyokazerubi_body_framed) == 32, "body framed");
 _Static_assert(sizeof(struct nyokazerubi_reading) == 24, "reading");
 
-enum { ROUNDS = 5, FRAME = NYOKAZERUBI_FRAME_BYTES(9, 8), BLOCKS = 180, POSITIONS = 9 * BLOCKS };
+enum { POLICY = NYOKAZERUBI_POLICY_2008, ROUNDS = 5, FRAME = NYOKAZERUBI_FRAME_BYTES(9, 8), BLOCKS = 180, POSITIONS = 9 * BLOCKS };
 
 static void hold(int is_so, const char *what) {
     if (!is_so) {
@@ -110,7 +110,7 @@ static void damaged(const struct camera *camera) {
     say(refusal);
     hold(is(refusal, NYOKAZERUBI_REFUSED_TABLE, 5), "the lower of two is named");
     struct nyokazerubi_planned planned =
-        nyokazerubi_plan(image, camera->bytes, order, 9, limits, 72, worst, 72, bounds, NYOKAZERUBI_BOUNDS_ENTRIES(9, 8));
+        nyokazerubi_plan(image, camera->bytes, 0, order, 9, limits, 72, worst, 72, bounds, NYOKAZERUBI_BOUNDS_ENTRIES(9, 8));
     hold(is(planned.refusal, NYOKAZERUBI_REFUSED_TABLE, 5) && planned.n == 0 && order[0] == 0xa5, "by the planner too");
     hold(is(nyokazerubi_lookup(image, camera->bytes, 1).refusal, NYOKAZERUBI_REFUSED_TABLE, 5), "by a lookup of another");
     hold(is(nyokazerubi_refresh(image, camera->bytes, camera->image, 0, order, 9).refusal, NYOKAZERUBI_REFUSED_TABLE, 5), "by a refresh");
@@ -129,13 +129,43 @@ static void plan(struct camera *camera) {
     camera->worst = lend(72 * sizeof *camera->worst);
     camera->bounds = lend(NYOKAZERUBI_BOUNDS_ENTRIES(9, 8) * sizeof *camera->bounds);
     struct nyokazerubi_planned planned =
-        nyokazerubi_plan(camera->image, camera->bytes, camera->order, 9, camera->limits, 72, camera->worst, 72,
+        nyokazerubi_plan(camera->image, camera->bytes, POLICY, camera->order, 9, camera->limits, 72, camera->worst, 72,
                          camera->bounds, NYOKAZERUBI_BOUNDS_ENTRIES(9, 8));
     hold(planned.refusal.number == 0 && planned.cycle == 320000, "it is planned");
     camera->n = planned.n;
     camera->levels = planned.levels;
     camera->cells = NYOKAZERUBI_TABLE_ENTRIES(planned.n, planned.levels);
     hold(camera->limits[8] == 168000 && camera->limits[9] == 69000 && camera->limits[10] == -31000, "limits at position 1");
+}
+
+/* The same profile by the policy of 2005: the same order and worst times, and limits that are nowhere lower. It is run as any plan, without a word of
+ * the policy. A year that is none is refused before a lack of room. */
+static void certified(const struct camera *camera) {
+    size_t cells = camera->cells, table = cells * sizeof *camera->limits;
+    uint8_t *order = lend(9), *given = lend(9), *marks = lend(9), *image_order = lend(9);
+    int32_t *limits = lend(table), *bounds = lend(16 * table);
+    uint32_t *worst = lend(table);
+    struct nyokazerubi_planned none =
+        nyokazerubi_plan(camera->image, camera->bytes, 2006, order, 8, limits, cells, worst, cells, bounds, 16 * cells);
+    hold(is(none.refusal, NYOKAZERUBI_REFUSED_POLICY, NYOKAZERUBI_NO_ACTION) && none.n == 0 && order[0] == 0xa5, "no policy of 2006");
+    struct nyokazerubi_planned planned = nyokazerubi_plan(camera->image, camera->bytes, NYOKAZERUBI_POLICY_2005, order, 9, limits, cells, worst,
+                                                          cells, bounds, 16 * cells);
+    hold(planned.refusal.number == 0 && planned.n == 9 && planned.levels == 8 && planned.cycle == 320000, "planned by 2005");
+    hold(memcmp(order, camera->order, 9) == 0 && memcmp(worst, camera->worst, table) == 0, "the same order and worst times");
+    hold(limits[8] == 168000 && limits[9] == 69000 && limits[10] == -31000 && limits[15] == -1331000, "its limits at position 1");
+    int higher = 0;
+    for (size_t cell = 0; cell < cells; cell++) {
+        hold(limits[cell] >= camera->limits[cell], "no limit is lower");
+        higher += limits[cell] > camera->limits[cell];
+    }
+    hold(higher > 0, "some are higher");
+    struct nyokazerubi_framed framed = nyokazerubi_dry_frame(camera->image, camera->bytes, NYOKAZERUBI_POLICY_2005, worst, cells, image_order, 9,
+                                                             given, 9, marks, 9);
+    struct nyokazerubi_dried dried = nyokazerubi_dry_run(9, 8, limits, cells, worst, cells, bounds, 16 * cells, worst, cells, given, 9, marks, 9);
+    hold(framed.refusal.number == 0 && dried.refusal.number == 0 && !dried.overrun && !dried.late && dried.end <= 320000, "its worst cycle");
+    hold(framed.end == dried.end && framed.decisions == dried.decisions, "the same from the image");
+    printf("2005: %d limits higher, %u decisions, end %u\n", higher, dried.decisions, dried.end);
+    free(order), free(given), free(marks), free(image_order), free(limits), free(bounds), free(worst);
 }
 
 /* One cycle; keeps the durations met for a dry run, and records of a trace. Answers the line that it has as a frame of a recording. */
@@ -182,7 +212,7 @@ static void dry(const struct camera *camera, const uint32_t *durations) {
     hold(dried.refusal.number == 0 && dried.decisions == camera->run.decisions && dried.end == camera->run.clock, "the dry run");
     hold(!dried.overrun && !dried.late && marks[0] == 1, "its marks");
     uint8_t *order = lend(camera->n);
-    struct nyokazerubi_framed framed = nyokazerubi_dry_frame(camera->image, camera->bytes, durations, camera->cells, order,
+    struct nyokazerubi_framed framed = nyokazerubi_dry_frame(camera->image, camera->bytes, POLICY, durations, camera->cells, order,
                                                              camera->n, given, camera->n, marks, camera->n);
     hold(framed.refusal.number == 0 && framed.n == camera->n && framed.decisions == dried.decisions, "from the image");
     hold(framed.end == dried.end && memcmp(order, camera->order, camera->n) == 0, "its end and its order");
@@ -206,7 +236,7 @@ static struct nyokazerubi_opened open_recording(const struct camera *camera, siz
     uint8_t *order = lend(camera->n);
     int32_t *limits = lend(table), *bounds = lend(16 * table);
     uint32_t *worst = lend(table);
-    struct nyokazerubi_opened opened = nyokazerubi_open_recording(camera->image, camera->bytes, bytes, order, camera->n, limits,
+    struct nyokazerubi_opened opened = nyokazerubi_open_recording(camera->image, camera->bytes, POLICY, bytes, order, camera->n, limits,
                                                                   cells, worst, cells, bounds, 16 * cells);
     if (opened.refusal.number == 0) {
         hold(memcmp(order, camera->order, camera->n) == 0 && memcmp(limits, camera->limits, table) == 0, "its order and limits");
@@ -275,20 +305,22 @@ static void blocks(struct camera *camera) {
     size_t table = camera->cells, sums = NYOKAZERUBI_SUMMARIES_ENTRIES(9, 8);
     uint32_t *summaries = lend(sums * sizeof *summaries), *worst = lend(table * sizeof *worst);
     static const struct {
-        uint32_t blocks, short_by, number;
+        uint32_t blocks, policy, short_by, number;
         const char *what;
-    } refused[] = {{0, 0, NYOKAZERUBI_REFUSED_REPEATS, "no blocks"},
-                   {400, 0, NYOKAZERUBI_REFUSED_UNFIT, "too many blocks"},
-                   {BLOCKS, 1, NYOKAZERUBI_REFUSED_ROOM, "no room"}};
-    for (size_t at = 0; at < 3; at++) {
-        struct nyokazerubi_body_planned none = nyokazerubi_plan_body(image, camera->bytes, refused[at].blocks, order, 9, summaries,
-                                                                     sums - refused[at].short_by, worst, table);
-        hold(none.refusal.number == refused[at].number && none.body.n == 0, refused[at].what);
+    } refused[] = {{0, 2006, 0, NYOKAZERUBI_REFUSED_REPEATS, "no blocks"},
+                   {400, 2006, 0, NYOKAZERUBI_REFUSED_UNFIT, "too many blocks"},
+                   {BLOCKS, 2006, 1, NYOKAZERUBI_REFUSED_POLICY, "no policy"},
+                   {BLOCKS, POLICY, 1, NYOKAZERUBI_REFUSED_ROOM, "no room"}};
+    for (size_t at = 0; at < 4; at++) {
+        struct nyokazerubi_body_planned none = nyokazerubi_plan_body(image, camera->bytes, refused[at].blocks, refused[at].policy, order, 9,
+                                                                     summaries, sums - refused[at].short_by, worst, table);
+        hold(none.refusal.number == refused[at].number && none.body.n == 0 && none.body.policy == 0, refused[at].what);
     }
     hold(order[0] == 0xa5, "a refusal writes nothing");
-    struct nyokazerubi_body_planned planned = nyokazerubi_plan_body(image, camera->bytes, BLOCKS, order, 9, summaries, sums, worst, table);
+    struct nyokazerubi_body_planned planned = nyokazerubi_plan_body(image, camera->bytes, BLOCKS, POLICY, order, 9, summaries, sums, worst, table);
     struct nyokazerubi_body body = planned.body;
     hold(planned.refusal.number == 0 && body.n == 9 && body.levels == 8 && body.cycle == 320000 * BLOCKS && body.repeats == BLOCKS, "a body");
+    hold(body.policy == POLICY, "its policy");
     hold(memcmp(order, camera->order, 9) == 0 && memcmp(worst, camera->worst, table * sizeof *worst) == 0, "its order and worst times");
 
     /* In the last block the limits are the camera's own, that much later. */
@@ -320,15 +352,28 @@ static void blocks(struct camera *camera) {
     hold(clock <= body.cycle && !run->overrun && !run->late, "no deadline is missed");
     hold(nyokazerubi_body_ask(run, order, 9, summaries, sums, worst, table).refusal.number == NYOKAZERUBI_REFUSED_FINISHED, "the picture is done");
     hold(nyokazerubi_body_report(run, clock, worst, table).number == NYOKAZERUBI_REFUSED_TURN, "none runs");
-    struct nyokazerubi_body_framed framed = nyokazerubi_body_dry_frame(image, camera->bytes, BLOCKS, durations, POSITIONS * 8, order, 9, given,
+    struct nyokazerubi_body_framed framed = nyokazerubi_body_dry_frame(image, camera->bytes, BLOCKS, POLICY, durations, POSITIONS * 8, order, 9, given,
                                                                        POSITIONS, marks, POSITIONS);
     hold(framed.refusal.number == 0 && framed.end == clock && framed.decisions == run->decisions && framed.positions == POSITIONS, "its dry run");
     hold(!framed.overrun && !framed.late && memcmp(given, levels, POSITIONS) == 0 && marks[0] == 1, "its levels");
-    framed = nyokazerubi_body_dry_frame(image, camera->bytes, BLOCKS, durations, POSITIONS * 8 - 1, order, 9, given, POSITIONS, marks, POSITIONS);
+    framed = nyokazerubi_body_dry_frame(image, camera->bytes, BLOCKS, POLICY, durations, POSITIONS * 8 - 1, order, 9, given, POSITIONS, marks,
+                                        POSITIONS);
     hold(framed.refusal.number == NYOKAZERUBI_REFUSED_ROOM && framed.positions == 0, "a duration less");
     printf("%u blocks, %u decisions, end %u\n", body.repeats, run->decisions, clock);
 
-    /* A refused start, and a call on its record. */
+    /* By the policy of 2005: planned, its last limit that of the tests apart, and a whole picture in time. */
+    planned = nyokazerubi_plan_body(image, camera->bytes, BLOCKS, NYOKAZERUBI_POLICY_2005, order, 9, summaries, sums, worst, table);
+    hold(planned.refusal.number == 0 && planned.body.policy == NYOKAZERUBI_POLICY_2005 && planned.body.repeats == BLOCKS, "a body of 2005");
+    struct nyokazerubi_limited last = nyokazerubi_body_limit(planned.body, summaries, sums, POSITIONS - 1, 7);
+    hold(last.refusal.number == 0 && last.limit == (int64_t)body.cycle - worst[table - 1], "its last limit");
+    framed = nyokazerubi_body_dry_frame(image, camera->bytes, BLOCKS, NYOKAZERUBI_POLICY_2005, durations, POSITIONS * 8, order, 9, given, POSITIONS,
+                                        marks, POSITIONS);
+    hold(framed.refusal.number == 0 && framed.positions == POSITIONS && framed.end <= body.cycle, "a picture of 2005");
+    printf("2005: %u decisions, end %u\n", framed.decisions, (unsigned)framed.end);
+
+    /* Refused starts, and a call on their record. */
+    planned.body.policy = 2007;
+    hold(nyokazerubi_body_start(run, planned.body).number == NYOKAZERUBI_REFUSED_POLICY && run->body.n == 0, "no policy of 2007");
     body.repeats = 1621;
     hold(nyokazerubi_body_start(run, body).number == NYOKAZERUBI_REFUSED_REPEATS && run->body.n == 0, "1621 blocks");
     hold(nyokazerubi_body_report(run, 0, worst, table).number == NYOKAZERUBI_REFUSED_TURN, "a record of zero actions");
@@ -364,6 +409,7 @@ int main(void) {
     profile(&camera);
     damaged(&camera);
     plan(&camera);
+    certified(&camera);
     uint32_t *durations = lend(camera.cells * sizeof *durations);
     uint8_t *trace = lend(5 * camera.n), *recording = lend(ROUNDS * FRAME);
     struct nyokazerubi_line met[ROUNDS];

@@ -21,7 +21,8 @@ enum {
     DURATION,
     ROOM,
     READING,
-    REPEATS
+    REPEATS,
+    POLICY
 };
 
 #define LAST_CLOCK 1073741823u
@@ -32,6 +33,8 @@ enum {
 #define ABSENT INT32_MIN
 #define MOST_REPEATS 1620u
 #define NUMBERS 4u
+#define MIXED 2008u
+#define APART 2005u
 
 #if __BYTE_ORDER__ != __ORDER_LITTLE_ENDIAN__
 #error "bytes are swapped on every read and write of an image"
@@ -463,30 +466,31 @@ static void last_coast_row(int32_t limit, int32_t *bounds) {
     for (uint32_t r = 1; r < COAST; r++) bounds[r] = ABSENT;
 }
 
-/* The tables of an accepted image, if there is room for them. */
-static inline bool fill(const uint8_t *image, const shape *s, const uint8_t *arranged, uint8_t *restrict order,
-                        size_t order_room, int32_t *restrict limits, size_t limits_room, uint32_t *restrict worst,
-                        size_t worst_room, int32_t *restrict bounds, size_t bounds_room) {
-    uint32_t n = s->n, levels = s->levels;
-    size_t cells = (size_t)n * levels;
-    if (order_room < n || limits_room < cells || worst_room < cells || bounds_room < cells * COAST) return false;
-    memcpy(order, arranged, n);
+static inline bool policy_known(uint32_t policy) { return policy == MIXED || policy == APART; }
 
-    /* limit(i,q) = min(min(deadline(i), limit(i+1,0)) - worst(i,q), limit(i+1,q) - average(i,q)); none past the end. */
+/* limit(i,q) = min(min(deadline(i), after(0)) - worst(i,q), min(deadline(i), after(q)) - average(i,q)); none past the end.
+ * The second part is the average test. Above level 0 it is what goes on to the row before where the tests are apart; else
+ * the limit does, and the deadline needs no second look, as it is in the first part with a worst time. At level 0 the
+ * limit goes on in both. */
+static inline __attribute__((always_inline)) void fill_rows(const uint8_t *image, const shape *s,
+                                                            const uint8_t *arranged, int32_t *restrict limits,
+                                                            uint32_t *restrict worst, int32_t *restrict bounds,
+                                                            bool apart) {
+    uint32_t n = s->n, levels = s->levels;
     int32_t after[8];
     for (uint32_t q = 0; q < 8; q++) after[q] = INT32_MAX;
     for (uint32_t i = n; i-- > 0;) {
         const uint8_t *record = record_of(s, image, arranged[i]);
-        int32_t latest = (int32_t)deadline_of(s, get32(record + 8));
-        if (after[0] < latest) latest = after[0];
+        int32_t deadline = (int32_t)deadline_of(s, get32(record + 8));
+        int32_t latest = after[0] < deadline ? after[0] : deadline;
         const uint8_t *at = record + 10;
         size_t row = (size_t)i * levels;
         for (uint32_t q = 0; q < levels; q++, at += 6) {
             uint64_t pair = get_pair(at);
-            int32_t longest = (int32_t)worst_in(pair);
-            int32_t limit = latest - longest, by_average = after[q] - (int32_t)average_in(pair);
+            int32_t longest = (int32_t)worst_in(pair), next = apart && deadline < after[q] ? deadline : after[q];
+            int32_t limit = latest - longest, by_average = next - (int32_t)average_in(pair);
             if (by_average < limit) limit = by_average;
-            after[q] = limit;
+            after[q] = apart && q > 0 ? by_average : limit;
             limits[row + q] = limit;
             worst[row + q] = (uint32_t)longest;
             int32_t *cell = bounds + (row + q) * COAST;
@@ -496,17 +500,32 @@ static inline bool fill(const uint8_t *image, const shape *s, const uint8_t *arr
                 last_coast_row(limit, cell);
         }
     }
+}
+
+/* The tables of an accepted image, if there is room for them. */
+static inline bool fill(const uint8_t *image, const shape *s, uint32_t policy, const uint8_t *arranged,
+                        uint8_t *restrict order, size_t order_room, int32_t *restrict limits, size_t limits_room,
+                        uint32_t *restrict worst, size_t worst_room, int32_t *restrict bounds, size_t bounds_room) {
+    size_t cells = (size_t)s->n * s->levels;
+    if (order_room < s->n || limits_room < cells || worst_room < cells || bounds_room < cells * COAST) return false;
+    memcpy(order, arranged, s->n);
+    if (policy == APART)
+        fill_rows(image, s, arranged, limits, worst, bounds, true);
+    else
+        fill_rows(image, s, arranged, limits, worst, bounds, false);
     return true;
 }
 
-fast_fault fast_plan(const uint8_t *image, size_t length, uint8_t *restrict order, size_t order_room,
+fast_fault fast_plan(const uint8_t *image, size_t length, uint32_t policy, uint8_t *restrict order, size_t order_room,
                      int32_t *restrict limits, size_t limits_room, uint32_t *restrict worst, size_t worst_room,
                      int32_t *restrict bounds, size_t bounds_room, fast_counts *counts) {
     shape s;
     uint8_t arranged[64];
     fast_fault refusal = examine(image, length, &s, arranged);
     if (refusal.number) return refusal;
-    if (!fill(image, &s, arranged, order, order_room, limits, limits_room, worst, worst_room, bounds, bounds_room))
+    if (!policy_known(policy)) return alone(POLICY);
+    if (!fill(image, &s, policy, arranged, order, order_room, limits, limits_room, worst, worst_room, bounds,
+              bounds_room))
         return alone(ROOM);
     *counts = (fast_counts){s.n, s.levels, s.cycle};
     return alone(0);
@@ -635,17 +654,19 @@ uint32_t fast_dry_run(size_t n, size_t levels, const int32_t *limits, size_t lim
 
 /* ---- Recordings ---- */
 
-fast_fault fast_open_recording(const uint8_t *image, size_t length, size_t bytes, uint8_t *restrict order,
-                               size_t order_room, int32_t *restrict limits, size_t limits_room,
+fast_fault fast_open_recording(const uint8_t *image, size_t length, uint32_t policy, size_t bytes,
+                               uint8_t *restrict order, size_t order_room, int32_t *restrict limits, size_t limits_room,
                                uint32_t *restrict worst, size_t worst_room, int32_t *restrict bounds,
                                size_t bounds_room, fast_opened *opened) {
     shape s;
     uint8_t arranged[64];
     fast_fault refusal = examine(image, length, &s, arranged);
     if (refusal.number) return refusal;
+    if (!policy_known(policy)) return alone(POLICY);
     size_t frame_bytes = (size_t)4 * s.n * s.levels, frames = bytes / frame_bytes;
     if (bytes % frame_bytes != 0 || frames > FRAMES) return alone(TRACE);
-    if (!fill(image, &s, arranged, order, order_room, limits, limits_room, worst, worst_room, bounds, bounds_room))
+    if (!fill(image, &s, policy, arranged, order, order_room, limits, limits_room, worst, worst_room, bounds,
+              bounds_room))
         return alone(ROOM);
     *opened = (fast_opened){s.n, s.levels, frame_bytes, frames};
     return alone(0);
@@ -748,9 +769,10 @@ static fast_fault examine_body(const uint8_t *image, size_t length, uint32_t rep
 }
 
 /* From the last position back: A, W and V add up; M is the greater of this worst time before the others at level 0, and
- * this average before their M. */
-static inline void fill_body(const uint8_t *image, const shape *s, const uint8_t *arranged,
-                             uint32_t *restrict summaries, uint32_t *restrict worst) {
+ * this average before their M. Where the tests are apart the first of these is the third number. */
+static inline __attribute__((always_inline)) void sum_up(const uint8_t *image, const shape *s, const uint8_t *arranged,
+                                                         uint32_t *restrict summaries, uint32_t *restrict worst,
+                                                         bool apart) {
     uint32_t levels = s->levels, lowest = 0, averages[8] = {0}, mixes[8] = {0}, worsts[8] = {0};
     for (uint32_t i = s->n; i-- > 0;) {
         const uint8_t *record = record_of(s, image, arranged[i]), *at = record + 10;
@@ -761,7 +783,7 @@ static inline void fill_body(const uint8_t *image, const shape *s, const uint8_t
             uint64_t pair = get_pair(at);
             uint32_t safe = worst_in(pair) + after, mixed = average_in(pair) + mixes[q];
             averages[q] += average_in(pair);
-            mixes[q] = safe > mixed ? safe : mixed;
+            mixes[q] = apart || safe > mixed ? safe : mixed;
             row[q] = worst_in(pair);
             entry[0] = averages[q];
             entry[1] = lowest;
@@ -771,75 +793,126 @@ static inline void fill_body(const uint8_t *image, const shape *s, const uint8_t
     }
 }
 
-fast_fault fast_plan_body(const uint8_t *image, size_t length, uint32_t repeats, uint8_t *restrict order,
-                          size_t order_room, uint32_t *restrict summaries, size_t summaries_room,
+static inline void fill_body(const uint8_t *image, const shape *s, uint32_t policy, const uint8_t *arranged,
+                             uint32_t *restrict summaries, uint32_t *restrict worst) {
+    if (policy == APART)
+        sum_up(image, s, arranged, summaries, worst, true);
+    else
+        sum_up(image, s, arranged, summaries, worst, false);
+}
+
+fast_fault fast_plan_body(const uint8_t *image, size_t length, uint32_t repeats, uint32_t policy,
+                          uint8_t *restrict order, size_t order_room, uint32_t *restrict summaries, size_t summaries_room,
                           uint32_t *restrict worst, size_t worst_room, fast_body *body) {
     shape s;
     uint8_t arranged[64];
     fast_fault refusal = examine_body(image, length, repeats, &s, arranged);
     if (refusal.number) return refusal;
+    if (!policy_known(policy)) return alone(POLICY);
     size_t cells = (size_t)s.n * s.levels;
     if (order_room < s.n || summaries_room < cells * NUMBERS || worst_room < cells) return alone(ROOM);
     memcpy(order, arranged, s.n);
-    fill_body(image, &s, arranged, summaries, worst);
-    *body = (fast_body){s.n, s.levels, s.cycle, repeats};
+    fill_body(image, &s, policy, arranged, summaries, worst);
+    *body = (fast_body){s.n, s.levels, s.cycle, repeats, policy};
     return alone(0);
 }
 
-/* 3 and 19. */
-static inline uint32_t body_refusal(fast_body body) {
-    if (!shape_fits(body.n, body.levels) || body.cycle - 1 >= LAST_CLOCK) return COUNT;
-    return body.repeats - 1 < MOST_REPEATS ? 0 : REPEATS;
+/* Whether neither 3 nor 19 applies, which is all that a record is held to. n lies beside the levels: a 0 borrows, and
+ * leaves a bit that must be none. */
+static inline bool body_counts(const fast_body *body) {
+    uint64_t shape = ((uint64_t)body->levels << 32 | body->n) - (UINT64_C(1) << 32 | 1);
+    return (shape & ~(UINT64_C(7) << 32 | 63)) == 0 && body->cycle - 1 < LAST_CLOCK && body->repeats - 1 < MOST_REPEATS;
 }
 
-/* What the whole bodies after one add at a level: the first to M, the second to A; the greater sum is M of them all. */
+static inline bool body_fits(const fast_body *body) { return body_counts(body) && policy_known(body->policy); }
+
+/* 3, 19 and 20, of a body that does not fit. */
+static inline uint32_t body_refusal(const fast_body *body) {
+    if (!shape_fits(body->n, body->levels) || body->cycle - 1 >= LAST_CLOCK) return COUNT;
+    return body->repeats - 1 >= MOST_REPEATS ? REPEATS : POLICY;
+}
+
+/* What the whole bodies after one add at a level: the first to the third number, the second to A; the greater sum is what
+ * the limit takes off the cycle. Mixed, the second adds their M; apart, their averages. */
 typedef struct {
     int64_t to_mix, to_average;
 } after;
 
-static inline after after_of(const uint32_t *summaries, uint32_t level, uint32_t bodies) {
+static inline __attribute__((always_inline)) after after_of(const uint32_t *summaries, uint32_t level, uint32_t bodies,
+                                                            bool apart) {
     const uint32_t *whole = summaries + level * NUMBERS;
+    if (apart) return (after){(int64_t)bodies * whole[1], (int64_t)bodies * whole[0]};
     uint32_t greater = whole[0] > whole[1] ? whole[0] : whole[1];
     /* Without a body after it no sum of the second kind counts. */
     int64_t to_average = bodies ? whole[2] + (int64_t)(bodies - 1) * greater : INT64_MIN / 2;
     return (after){(int64_t)bodies * whole[1], to_average};
 }
 
-/* M from an entry's position on. */
-static inline int64_t mix_of(const uint32_t *entry, after a) {
+/* What is taken off the cycle from an entry's position on. */
+static inline int64_t taken_of(const uint32_t *entry, after a) {
     int64_t safe = entry[2] + a.to_mix, mixed = entry[0] + a.to_average;
     return safe > mixed ? safe : mixed;
 }
 
 /* What a coast at a level must have room for at its last position: the worst times before that, as V has them, 0 at the
- * least, and M from it on. */
-static inline int64_t last_reach(fast_body body, const uint32_t *summaries, uint32_t place, uint32_t bodies,
-                                 uint32_t level, uint32_t length) {
+ * least, and what is taken off from it on. */
+static inline __attribute__((always_inline)) int64_t last_reach(fast_body body, const uint32_t *summaries,
+                                                                uint32_t place, uint32_t bodies, uint32_t level,
+                                                                uint32_t length, bool apart) {
     uint32_t ahead = place + length - 1;
     /* Of a body that is no shorter than a coast at most one is passed: there is nothing to divide. */
     uint32_t passed = ahead < body.n ? 0 : body.n >= COAST ? 1 : ahead / body.n, last = ahead - passed * body.n;
     const uint32_t *here = summaries + (place * body.levels + level) * NUMBERS;
     const uint32_t *there = summaries + (last * body.levels + level) * NUMBERS;
     int64_t spent = here[3] + (int64_t)passed * summaries[level * NUMBERS + 3] - there[3];
-    return (spent > 0 ? spent : 0) + mix_of(there, after_of(summaries, level, bodies - passed));
+    return (spent > 0 ? spent : 0) + taken_of(there, after_of(summaries, level, bodies - passed, apart));
 }
 
-uint32_t fast_body_limit(fast_body body, const uint32_t *summaries, size_t summaries_room, size_t position,
+uint32_t fast_body_limit(const fast_body *lent, const uint32_t *summaries, size_t summaries_room, size_t position,
                          size_t level, int64_t *limit) {
-    uint32_t refusal = body_refusal(body);
-    if (refusal) return refusal;
+    if (!body_fits(lent)) return body_refusal(lent);
+    fast_body body = *lent;
     if (summaries_room < (size_t)body.n * body.levels * NUMBERS) return ROOM;
     if (position >= (size_t)body.n * body.repeats || level >= body.levels) return READING;
     uint32_t repeat = (uint32_t)position / body.n, place = (uint32_t)position - repeat * body.n;
-    after a = after_of(summaries, (uint32_t)level, body.repeats - 1 - repeat);
-    *limit = body.cycle - mix_of(summaries + (place * body.levels + (uint32_t)level) * NUMBERS, a);
+    after a = after_of(summaries, (uint32_t)level, body.repeats - 1 - repeat, body.policy == APART);
+    *limit = body.cycle - taken_of(summaries + (place * body.levels + (uint32_t)level) * NUMBERS, a);
     return 0;
 }
 
-uint32_t fast_body_bound(fast_body body, const uint32_t *summaries, size_t summaries_room, const uint32_t *worst,
-                         size_t worst_room, size_t position, size_t level, size_t length, int64_t *bound) {
-    uint32_t refusal = body_refusal(body);
-    if (refusal) return refusal;
+/* The bound of a coast that is there. At the top level one that is as long as there may be, `longest`, is read by its ends
+ * too. */
+static inline __attribute__((always_inline)) int64_t bound_of(fast_body body, const uint32_t *summaries,
+                                                              const uint32_t *worst, uint32_t position, uint32_t level,
+                                                              uint32_t length, bool longest, bool apart) {
+    uint32_t repeat = position / body.n, place = position - repeat * body.n;
+    uint32_t bodies = body.repeats - 1 - repeat, left = length;
+    int64_t most = INT64_MIN, spent = 0, ends = INT64_MAX;
+    if (longest && level + 1 == body.levels) {
+        const uint32_t *here = summaries + (place * body.levels + level) * NUMBERS;
+        int64_t first = taken_of(here, after_of(summaries, level, bodies, apart));
+        ends = last_reach(body, summaries, place, bodies, level, left, apart);
+        if (first > ends) ends = first;
+    }
+    for (;; place = 0, bodies--) {
+        after a = after_of(summaries, level, bodies, apart);
+        uint32_t end = left < body.n - place ? place + left : body.n;
+        left -= end - place;
+        for (size_t cell = (size_t)place * body.levels + level; place < end; place++, cell += body.levels) {
+            int64_t through = spent + taken_of(summaries + cell * NUMBERS, a);
+            if (through > most) most = through;
+            spent += worst[cell];
+        }
+        if (left == 0) break;
+    }
+    return body.cycle - (most < ends ? most : ends);
+}
+
+uint32_t fast_body_bound(const fast_body *lent, const uint32_t *summaries, size_t summaries_room,
+                         const uint32_t *worst, size_t worst_room, size_t position, size_t level, size_t length,
+                         int64_t *bound) {
+    if (!body_fits(lent)) return body_refusal(lent);
+    fast_body body = *lent;
     size_t cells = (size_t)body.n * body.levels, positions = (size_t)body.n * body.repeats;
     if (summaries_room < cells * NUMBERS || worst_room < cells) return ROOM;
     if (position >= positions || level >= body.levels || length - 1 >= COAST) return READING;
@@ -847,33 +920,15 @@ uint32_t fast_body_bound(fast_body body, const uint32_t *summaries, size_t summa
         *bound = INT64_MIN;
         return 0;
     }
-    uint32_t repeat = (uint32_t)position / body.n, place = (uint32_t)position - repeat * body.n;
-    uint32_t bodies = body.repeats - 1 - repeat, left = (uint32_t)length;
-    int64_t most = INT64_MIN, spent = 0, ends = INT64_MAX;
-    /* At the top level a coast that is as long as there may be is read by its ends too. */
-    if (level + 1 == body.levels && (length == COAST || length == positions - position)) {
-        const uint32_t *here = summaries + (place * body.levels + (uint32_t)level) * NUMBERS;
-        int64_t first = mix_of(here, after_of(summaries, (uint32_t)level, bodies));
-        ends = last_reach(body, summaries, place, bodies, (uint32_t)level, left);
-        if (first > ends) ends = first;
-    }
-    for (;; place = 0, bodies--) {
-        after a = after_of(summaries, (uint32_t)level, bodies);
-        uint32_t end = left < body.n - place ? place + left : body.n;
-        left -= end - place;
-        for (size_t cell = (size_t)place * body.levels + level; place < end; place++, cell += body.levels) {
-            int64_t through = spent + mix_of(summaries + cell * NUMBERS, a);
-            if (through > most) most = through;
-            spent += worst[cell];
-        }
-        if (left == 0) break;
-    }
-    *bound = body.cycle - (most < ends ? most : ends);
+    uint32_t at = (uint32_t)position, q = (uint32_t)level, r = (uint32_t)length;
+    bool longest = length == COAST || length == positions - position;
+    *bound = body.policy == APART ? bound_of(body, summaries, worst, at, q, r, longest, true)
+                                  : bound_of(body, summaries, worst, at, q, r, longest, false);
     return 0;
 }
 
-/* What the rest of a body may come to: M at most `mix`, and the averages at most `average`, which are of no account
- * without a body after it. */
+/* What the rest of a body may come to: the third number at most `mix`, and the averages at most `average`, which mixed are
+ * of no account without a body after it. */
 typedef struct {
     int64_t mix, average;
 } room;
@@ -881,14 +936,17 @@ typedef struct {
 /* More than any average. */
 #define AMPLE (INT64_MAX / 2)
 
-static inline room room_before(const uint32_t *summaries, uint32_t level, uint32_t bodies, int64_t left) {
-    after a = after_of(summaries, level, bodies);
-    return (room){left - a.to_mix, bodies ? left - a.to_average : AMPLE};
+static inline __attribute__((always_inline)) room room_before(const uint32_t *summaries, uint32_t level,
+                                                              uint32_t bodies, int64_t left, bool apart) {
+    after a = after_of(summaries, level, bodies, apart);
+    return (room){left - a.to_mix, apart || bodies ? left - a.to_average : AMPLE};
 }
 
 /* Before one body fewer: it gives back what it took. */
-static inline room room_nearer(const uint32_t *summaries, uint32_t level, uint32_t bodies, room r) {
+static inline __attribute__((always_inline)) room room_nearer(const uint32_t *summaries, uint32_t level,
+                                                              uint32_t bodies, room r, bool apart) {
     const uint32_t *whole = summaries + level * NUMBERS;
+    if (apart) return (room){r.mix + whole[1], r.average + whole[0]};
     uint32_t greater = whole[0] > whole[1] ? whole[0] : whole[1];
     return (room){r.mix + whole[1], bodies == 1 ? AMPLE : r.average + greater};
 }
@@ -901,7 +959,7 @@ static inline bool has_room(const uint32_t *entry, room r) { return entry[0] <= 
 static inline __attribute__((always_inline)) uint32_t body_coast(fast_body body, const uint32_t *summaries,
                                                                  const uint32_t *worst, uint32_t place, uint32_t bodies,
                                                                  uint32_t level, room own, room above, uint32_t most,
-                                                                 bool top) {
+                                                                 bool top, bool apart) {
     uint32_t rest = most - 1;
     size_t levels = body.levels, cells = body.n * levels, entry = place * levels + level;
     own.mix -= worst[entry];
@@ -909,8 +967,8 @@ static inline __attribute__((always_inline)) uint32_t body_coast(fast_body body,
     entry += levels;
     while (rest) {
         if (entry >= cells) {
-            own = room_nearer(summaries, level, bodies, own);
-            if (!top) above = room_nearer(summaries, level + 1, bodies, above);
+            own = room_nearer(summaries, level, bodies, own, apart);
+            if (!top) above = room_nearer(summaries, level + 1, bodies, above, apart);
             bodies--;
             entry = level;
         }
@@ -926,22 +984,23 @@ static inline __attribute__((always_inline)) uint32_t body_coast(fast_body body,
 }
 
 /* A decision at a place of a body with so many bodies after it. */
-static inline decision body_decide(fast_body body, const uint32_t *summaries, const uint32_t *worst, uint32_t place,
-                                   uint32_t bodies, uint64_t clock) {
+static inline __attribute__((always_inline)) decision body_decide_by(fast_body body, const uint32_t *summaries,
+                                                                     const uint32_t *worst, uint32_t place,
+                                                                     uint32_t bodies, uint64_t clock, bool apart) {
     int64_t left = (int64_t)body.cycle - (int64_t)clock;
     const uint32_t *row = summaries + (size_t)place * body.levels * NUMBERS;
     for (uint32_t level = body.levels; level-- > 0;) {
-        room own = room_before(summaries, level, bodies, left);
+        room own = room_before(summaries, level, bodies, left, apart);
         if (has_room(row + level * NUMBERS, own)) {
             uint32_t all = body.n - place + bodies * body.n, most = all < COAST ? all : COAST, grant;
             if (level + 1 < body.levels) {
-                room above = room_before(summaries, level + 1, bodies, left);
-                grant = body_coast(body, summaries, worst, place, bodies, level, own, above, most, false);
-            } else if (last_reach(body, summaries, place, bodies, level, most) <= left) {
+                room above = room_before(summaries, level + 1, bodies, left, apart);
+                grant = body_coast(body, summaries, worst, place, bodies, level, own, above, most, false, apart);
+            } else if (last_reach(body, summaries, place, bodies, level, most, apart) <= left) {
                 /* The longest by its ends: the level fits at the first of them already. */
                 grant = most;
             } else {
-                grant = body_coast(body, summaries, worst, place, bodies, level, own, own, most, true);
+                grant = body_coast(body, summaries, worst, place, bodies, level, own, own, most, true, apart);
             }
             return (decision){level, grant, false};
         }
@@ -949,17 +1008,38 @@ static inline decision body_decide(fast_body body, const uint32_t *summaries, co
     return (decision){0, 1, true};
 }
 
+static inline __attribute__((always_inline)) decision body_decide(fast_body body, const uint32_t *summaries,
+                                                                  const uint32_t *worst, uint32_t place,
+                                                                  uint32_t bodies, uint64_t clock) {
+    return body.policy == APART ? body_decide_by(body, summaries, worst, place, bodies, clock, true)
+                                : body_decide_by(body, summaries, worst, place, bodies, clock, false);
+}
+
 static inline bool body_in_range(const fast_body_run *run) {
     /* What was stored a moment ago first; 64-bit sums: any field may hold any value. */
     uint64_t reached = (uint64_t)run->position + run->running;
-    if (run->left > 15 || run->decisions > reached || run->clock > LAST_CLOCK || body_refusal(run->body)) return false;
+    if (run->left > 15 || run->decisions > reached || run->clock > LAST_CLOCK || !body_counts(&run->body)) return false;
     return run->left + reached <= run->body.n * run->body.repeats && run->level < run->body.levels;
 }
 
-uint32_t fast_body_start(fast_body_run *run, fast_body body) {
-    uint32_t refusal = body_refusal(body);
-    *run = (fast_body_run){.body = refusal ? (fast_body){0} : body};
-    return refusal;
+uint32_t fast_body_start(fast_body_run *run, const fast_body *body) {
+    bool fits = body_fits(body);
+    *run = (fast_body_run){.body = fits ? *body : (fast_body){0}};
+    return fits ? 0 : body_refusal(body);
+}
+
+/* A decision is out of the way of a coast, which needs few registers. A policy that is not known is the mixed one. */
+static __attribute__((noinline)) uint32_t body_give(fast_body_run *run, const uint32_t *summaries, const uint32_t *worst,
+                                                    uint32_t place, uint32_t bodies, fast_given *given) {
+    decision d = body_decide(run->body, summaries, worst, place, bodies, run->clock);
+    run->level = d.level;
+    run->left = (uint8_t)(d.grant - 1);
+    run->decisions++;
+    run->late |= d.late;
+    given->level = d.level;
+    given->decided = true;
+    given->late = d.late;
+    return 0;
 }
 
 uint32_t fast_body_ask(fast_body_run *run, const uint8_t *order, size_t order_room, const uint32_t *summaries,
@@ -978,13 +1058,8 @@ uint32_t fast_body_ask(fast_body_run *run, const uint8_t *order, size_t order_ro
         *given = (fast_given){action, run->level, false, false};
         return 0;
     }
-    decision d = body_decide(body, summaries, worst, place, body.repeats - 1 - repeat, run->clock);
-    run->level = d.level;
-    run->left = (uint8_t)(d.grant - 1);
-    run->decisions++;
-    run->late |= d.late;
-    *given = (fast_given){action, d.level, true, d.late};
-    return 0;
+    given->action = action;
+    return body_give(run, summaries, worst, place, body.repeats - 1 - repeat, given);
 }
 
 uint32_t fast_body_report(fast_body_run *run, uint32_t clock, const uint32_t *worst, size_t worst_room) {
@@ -1004,14 +1079,15 @@ uint32_t fast_body_report(fast_body_run *run, uint32_t clock, const uint32_t *wo
     return 0;
 }
 
-fast_fault fast_body_dry_frame(const uint8_t *image, size_t length, uint32_t repeats, const uint32_t *durations,
-                               size_t durations_room, uint8_t *restrict order, size_t order_room,
-                               uint8_t *restrict given, size_t given_room, uint8_t *restrict marks, size_t marks_room,
-                               fast_body_dried *dried) {
+fast_fault fast_body_dry_frame(const uint8_t *image, size_t length, uint32_t repeats, uint32_t policy,
+                               const uint32_t *durations, size_t durations_room, uint8_t *restrict order,
+                               size_t order_room, uint8_t *restrict given, size_t given_room, uint8_t *restrict marks,
+                               size_t marks_room, fast_body_dried *dried) {
     shape s;
     uint8_t arranged[64];
     fast_fault refusal = examine_body(image, length, repeats, &s, arranged);
     if (refusal.number) return refusal;
+    if (!policy_known(policy)) return alone(POLICY);
     uint32_t n = s.n, levels = s.levels, positions = n * repeats;
     size_t entries = (size_t)positions * levels;
     if (order_room < n || given_room < positions || marks_room < positions || durations_room < entries) return alone(ROOM);
@@ -1020,8 +1096,8 @@ fast_fault fast_body_dry_frame(const uint8_t *image, size_t length, uint32_t rep
     if (all > LAST_TIME) return alone(DURATION);
     uint32_t summaries[64 * 8 * NUMBERS], worst[64 * 8];
     memcpy(order, arranged, n);
-    fill_body(image, &s, arranged, summaries, worst);
-    fast_body body = {n, levels, s.cycle, repeats};
+    fill_body(image, &s, policy, arranged, summaries, worst);
+    fast_body body = {n, levels, s.cycle, repeats, policy};
     fast_body_dried c = {.positions = positions};
     for (uint32_t i = 0, place = 0, bodies = repeats - 1; i < positions;) {
         decision d = body_decide(body, summaries, worst, place, bodies, c.end);

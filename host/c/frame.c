@@ -1,8 +1,9 @@
 /* The manager in a whole frame of 1,620 encoder bodies, as a camera in C calls it: planned once, then asked before each action and told the clock
- * after it, in a plain loop of direct calls through the header. The fast form in C, an object of its own, is called the same way beside it, over the
- * same tables. Before either is timed, both must give the same at every action. Then a body beside a plain cycle, over seven bodies, which are 63 actions
- * of a plain cycle too, so that both are asked the same: whole frames, and the askings of them that decide; in their own time, and in so much of it that
- * each decision gives the top level and the longest coast. Prints two sections of markdown; it ends with status 1 if a call does not answer as it must. */
+ * after it, in a plain loop of direct calls through the header; by each policy. The fast form in C, an object of its own, is called the same way
+ * beside it, over the same tables. Before either is timed, both must give the same at every action. Then a body beside a plain cycle, over seven
+ * bodies, which are 63 actions of a plain cycle too, so that both are asked the same: whole frames, and the askings of them that decide; in their own
+ * time, and in so much of it that each decision gives the top level and the longest coast. Prints two sections of markdown; it ends with status 1 if
+ * a call does not answer as it must. */
 #define _POSIX_C_SOURCE 200809L
 
 #include "../../include/nyokazerubi.h"
@@ -13,6 +14,7 @@
 #include <time.h>
 
 enum {
+    POLICY = NYOKAZERUBI_POLICY_2008,
     ACTIONS = 9,
     LEVELS = 8,
     REPEATS = NYOKAZERUBI_MOST_REPEATS,
@@ -107,12 +109,13 @@ static size_t write_image(uint8_t *image, size_t n, uint32_t times) {
     return bytes;
 }
 
-static struct nyokazerubi_body plan_body(uint32_t repeats, uint32_t times) {
+static struct nyokazerubi_body plan_body(uint32_t repeats, uint32_t policy, uint32_t times) {
     uint8_t image[IMAGE];
     size_t bytes = write_image(image, ACTIONS, times);
     struct nyokazerubi_body_planned planned =
-        nyokazerubi_plan_body(image, bytes, repeats, order, ACTIONS, summaries, SUMMARIES, worst_by_position, TABLE);
-    hold(planned.refusal.number == NYOKAZERUBI_ACCEPTED && planned.body.repeats == repeats, "a body is planned");
+        nyokazerubi_plan_body(image, bytes, repeats, policy, order, ACTIONS, summaries, SUMMARIES, worst_by_position, TABLE);
+    hold(planned.refusal.number == NYOKAZERUBI_ACCEPTED && planned.body.repeats == repeats && planned.body.policy == policy,
+         "a body is planned");
     return planned.body;
 }
 
@@ -120,19 +123,21 @@ static struct nyokazerubi_body plan_body(uint32_t repeats, uint32_t times) {
 static void plan_plain(struct plain *plan, uint32_t times) {
     uint8_t image[WIDE_IMAGE];
     size_t bytes = write_image(image, WIDE, times);
-    hold(nyokazerubi_plan(image, bytes, plan->order, WIDE, plan->limits, WIDE_TABLE, plan->worst, WIDE_TABLE, plan->bounds, WIDE_BOUNDS)
+    hold(nyokazerubi_plan(image, bytes, POLICY, plan->order, WIDE, plan->limits, WIDE_TABLE, plan->worst, WIDE_TABLE, plan->bounds, WIDE_BOUNDS)
                  .refusal.number == NYOKAZERUBI_ACCEPTED,
          "a plain cycle is planned");
 }
 
-static fast_body in_c(struct nyokazerubi_body body) { return (fast_body){body.n, body.levels, body.cycle, body.repeats}; }
+static fast_body in_c(struct nyokazerubi_body body) { return (fast_body){body.n, body.levels, body.cycle, body.repeats, body.policy}; }
 
 /* Runs the frame on both sides at once, and keeps what it comes to. */
 static void agree(struct nyokazerubi_body body) {
     struct nyokazerubi_body_run run;
     fast_body_run other;
+    fast_body body_in_c = in_c(body);
     uint32_t clock = 0;
-    hold(nyokazerubi_body_start(&run, body).number == NYOKAZERUBI_ACCEPTED && fast_body_start(&other, in_c(body)) == 0, "a start");
+    levels = 0;
+    hold(nyokazerubi_body_start(&run, body).number == NYOKAZERUBI_ACCEPTED && fast_body_start(&other, &body_in_c) == 0, "a start");
     for (size_t i = 0; i < POSITIONS; i++) {
         struct nyokazerubi_given given = nyokazerubi_body_ask(&run, order, ACTIONS, summaries, SUMMARIES, worst_by_position, TABLE);
         fast_given same;
@@ -182,7 +187,7 @@ static double of_c(fast_body body) {
     fast_given given = {0};
     uint32_t given_levels = 0;
     uint64_t began = now();
-    uint32_t refused = fast_body_start(&run, body);
+    uint32_t refused = fast_body_start(&run, &body);
     for (size_t i = 0; i < POSITIONS; i++) {
         refused |= fast_body_ask(&run, order, ACTIONS, summaries, SUMMARIES, worst_by_position, TABLE, &given);
         given_levels += given.level;
@@ -331,9 +336,21 @@ static double gigahertz(void) {
     return STEPS / (double)best;
 }
 
-static void row(const char *side, double ns, double clock, uint32_t frame) {
-    double cycles = ns * clock;
-    printf("| %s | %.0f | %.0f | %.1f | %.4f %% |\n", side, ns, cycles, cycles / POSITIONS, 100 * cycles / frame);
+static void row(struct nyokazerubi_body body, const char *side, double ns, double clock) {
+    double cycles = ns * clock, part = 100 * cycles / body.cycle;
+    printf("| %u | %u | %s | %.0f | %.0f | %.1f | %.4f %% |\n", body.policy, decisions, side, ns, cycles, cycles / POSITIONS, part);
+}
+
+/* The frame by a policy, on both sides. */
+static void frame(struct nyokazerubi_body body, double clock) {
+    static double product[SAMPLES], c[SAMPLES];
+    agree(body);
+    for (size_t at = 0; at < SAMPLES; at++) {
+        product[at] = of_product(body);
+        c[at] = of_c(in_c(body));
+    }
+    row(body, "product", median(product), clock);
+    row(body, "C", median(c), clock);
 }
 
 static void beside(const char *time, const char *what, double plain, double of_body) {
@@ -346,7 +363,7 @@ static void beside_plain(const char *time, uint32_t times) {
     static struct nyokazerubi_body_run turns[TURNS];
     static struct nyokazerubi_run plain_turns[TURNS];
     static double plain[SAMPLES], of_body[SAMPLES], plain_decision[SAMPLES], decision[SAMPLES];
-    struct nyokazerubi_body body = plan_body(FEW, times);
+    struct nyokazerubi_body body = plan_body(FEW, POLICY, times);
     plan_plain(&plan, times);
     agree_plain(body, &plan, turns, plain_turns);
     for (size_t at = 0; at < SAMPLES; at++) {
@@ -362,20 +379,14 @@ static void beside_plain(const char *time, uint32_t times) {
 int main(void) {
     hold(nyokazerubi_boundary() == NYOKAZERUBI_BOUNDARY, "the archive is of this header");
     read_encoder();
-    struct nyokazerubi_body body = plan_body(REPEATS, REPEATS);
+    struct nyokazerubi_body body = plan_body(REPEATS, POLICY, REPEATS);
     draw();
-    agree(body);
     double clock = gigahertz();
-    static double product[SAMPLES], c[SAMPLES];
-    for (size_t at = 0; at < SAMPLES; at++) {
-        product[at] = of_product(body);
-        c[at] = of_c(in_c(body));
-    }
-    printf("\n### The manager in a frame of %d encoder bodies called from C, %u cycles, %d actions, %u decisions, at %.2f GHz\n\n", REPEATS,
-           body.cycle, POSITIONS, decisions, clock);
-    printf("| side | ns | cycles | cycles an action | part of the frame |\n|---|---|---|---|---|\n");
-    row("product", median(product), clock, body.cycle);
-    row("C", median(c), clock, body.cycle);
+    printf("\n### The manager in a frame of %d encoder bodies called from C, %u cycles, %d actions, at %.2f GHz\n\n", REPEATS, body.cycle, POSITIONS,
+           clock);
+    printf("| policy | decisions | side | ns | cycles | cycles an action | part of the frame |\n|---|---|---|---|---|---|---|\n");
+    frame(body, clock);
+    frame(plan_body(REPEATS, NYOKAZERUBI_POLICY_2005, REPEATS), clock);
     printf("\n### A body beside a plain cycle, called from C: %d bodies, and the same %d actions\n\n", FEW, WIDE);
     printf("| cycle | | plain, ns | of the body, ns | to plain |\n|---|---|---|---|---|\n");
     beside_plain("their own", FEW);

@@ -8,7 +8,7 @@
 #include <stdlib.h>
 #include <string.h>
 
-enum { THREADS = 4, CYCLES = 25, ACTIONS = 9, LEVELS = 8, TABLE = 72, BOUNDS = 1152, IMAGE = 546 };
+enum { POLICY = NYOKAZERUBI_POLICY_2008, THREADS = 4, CYCLES = 25, ACTIONS = 9, LEVELS = 8, TABLE = 72, BOUNDS = 1152, IMAGE = 546 };
 
 static uint8_t image[IMAGE], order[ACTIONS];
 static int32_t limits[TABLE], bounds[BOUNDS];
@@ -50,7 +50,7 @@ static void plan_again(void) {
     uint8_t own_order[ACTIONS];
     int32_t own_limits[TABLE], own_bounds[BOUNDS];
     uint32_t own_worst[TABLE];
-    hold(nyokazerubi_plan(image, IMAGE, own_order, ACTIONS, own_limits, TABLE, own_worst, TABLE, own_bounds, BOUNDS).n == ACTIONS, "a plan");
+    hold(nyokazerubi_plan(image, IMAGE, POLICY, own_order, ACTIONS, own_limits, TABLE, own_worst, TABLE, own_bounds, BOUNDS).n == ACTIONS, "a plan");
     hold(memcmp(own_order, order, sizeof order) == 0 && memcmp(own_limits, limits, sizeof limits) == 0, "its order and limits");
     hold(memcmp(own_worst, worst_by_position, sizeof own_worst) == 0 && memcmp(own_bounds, bounds, sizeof bounds) == 0, "its other tables");
     hold(nyokazerubi_on_time(image, IMAGE, 0, ACTIONS - 1, 0, 0), "a reading");
@@ -67,7 +67,7 @@ static void *work(void *its_seed) {
 
 int main(void) {
     hold(nyokazerubi_write_encoder(image, IMAGE).bytes == IMAGE, "the encoder's profile");
-    hold(nyokazerubi_plan(image, IMAGE, order, ACTIONS, limits, TABLE, worst_by_position, TABLE, bounds, BOUNDS).n == ACTIONS, "its plan");
+    hold(nyokazerubi_plan(image, IMAGE, POLICY, order, ACTIONS, limits, TABLE, worst_by_position, TABLE, bounds, BOUNDS).n == ACTIONS, "its plan");
     pthread_t threads[THREADS];
     uint32_t seeds[THREADS];
     for (uint32_t at = 0; at < THREADS; at++) {

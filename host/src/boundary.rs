@@ -4,7 +4,7 @@
 #![allow(dead_code, clippy::too_many_arguments)]
 
 /// The version of this boundary; [`nyokazerubi_boundary`] has that of the archive that is linked.
-pub const BOUNDARY: u32 = 4;
+pub const BOUNDARY: u32 = 5;
 
 pub const MOST_ACTIONS: usize = 64;
 pub const MOST_LEVELS: usize = 8;
@@ -17,6 +17,8 @@ pub const SUMMARY_NUMBERS: usize = 4;
 pub const LAST_CLOCK: u32 = 1_073_741_823;
 pub const LONGEST_TIME: u32 = 16_777_215;
 pub const NO_ACTION: u32 = 64;
+pub const POLICY_2008: u32 = 2_008;
+pub const POLICY_2005: u32 = 2_005;
 pub const ABSENT_BOUND: i32 = i32::MIN;
 pub const ABSENT_LONG: i64 = i64::MIN;
 
@@ -70,6 +72,7 @@ pub const REFUSED_DURATION: u32 = 16;
 pub const REFUSED_ROOM: u32 = 17;
 pub const REFUSED_READING: u32 = 18;
 pub const REFUSED_REPEATS: u32 = 19;
+pub const REFUSED_POLICY: u32 = 20;
 
 #[derive(Clone, Copy, Debug, PartialEq, Eq)]
 #[repr(C)]
@@ -195,7 +198,7 @@ pub struct Line {
     pub late: bool,
 }
 
-/// A body repeated: 16 bytes, as planning answers it.
+/// A body repeated: 20 bytes, as planning answers it. By value these go through memory, so that it is lent.
 #[derive(Clone, Copy, Debug, Default, PartialEq, Eq)]
 #[repr(C)]
 pub struct Body {
@@ -203,6 +206,7 @@ pub struct Body {
     pub levels: u32,
     pub cycle: u32,
     pub repeats: u32,
+    pub policy: u32,
 }
 
 #[derive(Clone, Copy, Debug, PartialEq, Eq)]
@@ -219,19 +223,19 @@ pub struct Limited {
     pub limit: i64,
 }
 
-/// The run record of a body repeated: 40 bytes, none of them padding.
+/// The run record of a body repeated: 48 bytes, the last four of them padding.
 #[derive(Clone, Copy, Debug, Default, PartialEq, Eq)]
 #[repr(C)]
 pub struct BodyRun {
     pub body: Body,
-    pub clock: u64,
     pub level: u32,
+    pub clock: u64,
     pub position: u32,
-    pub decisions: u32,
     pub left: u8,
     pub running: bool,
     pub overrun: bool,
     pub late: bool,
+    pub decisions: u32,
 }
 
 #[derive(Clone, Copy, Debug, PartialEq, Eq)]
@@ -296,6 +300,7 @@ extern "C" {
     pub fn nyokazerubi_plan(
         image: *const u8,
         image_length: usize,
+        policy: u32,
         order: *mut u8,
         order_length: usize,
         limits: *mut i32,
@@ -340,6 +345,7 @@ extern "C" {
     pub fn nyokazerubi_dry_frame(
         image: *const u8,
         image_length: usize,
+        policy: u32,
         durations: *const u32,
         durations_length: usize,
         order: *mut u8,
@@ -352,6 +358,7 @@ extern "C" {
     pub fn nyokazerubi_open_recording(
         image: *const u8,
         image_length: usize,
+        policy: u32,
         bytes: usize,
         order: *mut u8,
         order_length: usize,
@@ -379,6 +386,7 @@ extern "C" {
         image: *const u8,
         image_length: usize,
         repeats: u32,
+        policy: u32,
         order: *mut u8,
         order_length: usize,
         summaries: *mut u32,
@@ -423,6 +431,7 @@ extern "C" {
         image: *const u8,
         image_length: usize,
         repeats: u32,
+        policy: u32,
         durations: *const u32,
         durations_length: usize,
         order: *mut u8,

@@ -68,7 +68,7 @@ functions! {
     ) -> Fault,
     lookup: unsafe extern "C" fn(*const u8, usize, usize, *mut *const u8, *mut usize) -> Fault,
     plan: unsafe extern "C" fn(
-        *const u8, usize, *mut u8, usize, *mut i32, usize, *mut u32, usize, *mut i32, usize, *mut Counts,
+        *const u8, usize, u32, *mut u8, usize, *mut i32, usize, *mut u32, usize, *mut i32, usize, *mut Counts,
     ) -> Fault,
     start: unsafe extern "C" fn(*mut Run, usize, usize) -> u32,
     ask: unsafe extern "C" fn(*mut Run, *const u8, usize, *const i32, usize, *const i32, usize, *mut Given) -> u32,
@@ -78,25 +78,25 @@ functions! {
         *mut Dried,
     ) -> u32,
     open_recording: unsafe extern "C" fn(
-        *const u8, usize, usize, *mut u8, usize, *mut i32, usize, *mut u32, usize, *mut i32, usize, *mut Opened,
+        *const u8, usize, u32, usize, *mut u8, usize, *mut i32, usize, *mut u32, usize, *mut i32, usize, *mut Opened,
     ) -> Fault,
     rehearse: unsafe extern "C" fn(
         *mut Totals, usize, usize, *const i32, usize, *const u32, usize, *const i32, usize, *const u8, usize, *mut Line,
     ) -> u32,
     plan_body: unsafe extern "C" fn(
-        *const u8, usize, u32, *mut u8, usize, *mut u32, usize, *mut u32, usize, *mut Body,
+        *const u8, usize, u32, u32, *mut u8, usize, *mut u32, usize, *mut u32, usize, *mut Body,
     ) -> Fault,
-    body_limit: unsafe extern "C" fn(Body, *const u32, usize, usize, usize, *mut i64) -> u32,
+    body_limit: unsafe extern "C" fn(*const Body, *const u32, usize, usize, usize, *mut i64) -> u32,
     body_bound: unsafe extern "C" fn(
-        Body, *const u32, usize, *const u32, usize, usize, usize, usize, *mut i64,
+        *const Body, *const u32, usize, *const u32, usize, usize, usize, usize, *mut i64,
     ) -> u32,
-    body_start: unsafe extern "C" fn(*mut BodyRun, Body) -> u32,
+    body_start: unsafe extern "C" fn(*mut BodyRun, *const Body) -> u32,
     body_ask: unsafe extern "C" fn(
         *mut BodyRun, *const u8, usize, *const u32, usize, *const u32, usize, *mut Given,
     ) -> u32,
     body_report: unsafe extern "C" fn(*mut BodyRun, u32, *const u32, usize) -> u32,
     body_dry_frame: unsafe extern "C" fn(
-        *const u8, usize, u32, *const u32, usize, *mut u8, usize, *mut u8, usize, *mut u8, usize, *mut BodyDried,
+        *const u8, usize, u32, u32, *const u32, usize, *mut u8, usize, *mut u8, usize, *mut u8, usize, *mut BodyDried,
     ) -> Fault,
     speed_reading: unsafe extern "C" fn(*const u8, usize, usize, usize, usize, u32, *mut f64) -> Fault,
     refresh: unsafe extern "C" fn(*const u8, usize, *const u8, usize, *mut u8, usize, *mut usize) -> Fault,
@@ -219,6 +219,7 @@ impl Calls for C {
     fn plan(
         &self,
         image: &[u8],
+        policy: u32,
         order: &mut [u8],
         limits: &mut [i32],
         worst_by_position: &mut [u32],
@@ -229,6 +230,7 @@ impl Calls for C {
             (self.plan)(
                 image.as_ptr(),
                 image.len(),
+                policy,
                 order.as_mut_ptr(),
                 order.len(),
                 limits.as_mut_ptr(),
@@ -321,6 +323,7 @@ impl Calls for C {
     fn open_recording(
         &self,
         image: &[u8],
+        policy: u32,
         bytes: usize,
         order: &mut [u8],
         limits: &mut [i32],
@@ -332,6 +335,7 @@ impl Calls for C {
             (self.open_recording)(
                 image.as_ptr(),
                 image.len(),
+                policy,
                 bytes,
                 order.as_mut_ptr(),
                 order.len(),
@@ -372,6 +376,7 @@ impl Calls for C {
         &self,
         image: &[u8],
         repeats: u32,
+        policy: u32,
         order: &mut [u8],
         summaries: &mut [u32],
         worst_by_position: &mut [u32],
@@ -382,6 +387,7 @@ impl Calls for C {
                 image.as_ptr(),
                 image.len(),
                 repeats,
+                policy,
                 order.as_mut_ptr(),
                 order.len(),
                 summaries.as_mut_ptr(),
@@ -397,7 +403,7 @@ impl Calls for C {
     fn body_limit(&self, body: Body, summaries: &[u32], position: usize, level: usize) -> Answer<i64> {
         let mut limit = 0;
         let number =
-            unsafe { (self.body_limit)(body, summaries.as_ptr(), summaries.len(), position, level, &mut limit) };
+            unsafe { (self.body_limit)(&body, summaries.as_ptr(), summaries.len(), position, level, &mut limit) };
         answer(number, limit)
     }
 
@@ -413,7 +419,7 @@ impl Calls for C {
         let mut bound = 0;
         let number = unsafe {
             (self.body_bound)(
-                body,
+                &body,
                 summaries.as_ptr(),
                 summaries.len(),
                 worst_by_position.as_ptr(),
@@ -428,7 +434,7 @@ impl Calls for C {
     }
 
     fn body_start(&self, run: &mut BodyRun, body: Body) -> u8 {
-        unsafe { (self.body_start)(run, body) as u8 }
+        unsafe { (self.body_start)(run, &body) as u8 }
     }
 
     fn body_ask(&self, run: &mut BodyRun, tables: &BodyTables) -> Answer<Given> {
@@ -458,6 +464,7 @@ impl Calls for C {
         &self,
         image: &[u8],
         repeats: u32,
+        policy: u32,
         durations: &[u32],
         order: &mut [u8],
         given: &mut [u8],
@@ -469,6 +476,7 @@ impl Calls for C {
                 image.as_ptr(),
                 image.len(),
                 repeats,
+                policy,
                 durations.as_ptr(),
                 durations.len(),
                 order.as_mut_ptr(),

@@ -36,7 +36,8 @@ impl Display for Refused {
 
 pub use crate::boundary::{
     Body, BodyRun, Run, Totals, ABSENT_BOUND, ABSENT_LONG, LAST_CLOCK, LONGEST_COAST, LONGEST_TIME, MOST_ACTIONS,
-    MOST_FRAMES, MOST_LEVELS, MOST_POSITIONS, MOST_RECORDS, MOST_REPEATS, NO_ACTION, SUMMARY_NUMBERS,
+    MOST_FRAMES, MOST_LEVELS, MOST_POSITIONS, MOST_RECORDS, MOST_REPEATS, NO_ACTION, POLICY_2005, POLICY_2008,
+    SUMMARY_NUMBERS,
 };
 
 /// The refusals by the last word of their number in the boundary, each of no action.
@@ -63,6 +64,7 @@ pub mod refused {
     pub const ROOM: Refused = Refused::of(of::REFUSED_ROOM);
     pub const READING: Refused = Refused::of(of::REFUSED_READING);
     pub const REPEATS: Refused = Refused::of(of::REFUSED_REPEATS);
+    pub const POLICY: Refused = Refused::of(of::REFUSED_POLICY);
 }
 
 /// Actions, levels and cycle of a profile.
@@ -165,6 +167,7 @@ pub struct BodyTables<'a> {
 }
 
 /// The public calls. Lent slices are written only when there is no refusal, and keep their tails.
+#[allow(clippy::too_many_arguments)] // as the header has them
 pub trait Calls {
     /// Image check, refusals 1 to 9.
     fn check(&self, image: &[u8]) -> Answer<Counts>;
@@ -196,10 +199,11 @@ pub trait Calls {
     /// The refusal of that lookup alone.
     fn lookup_refusal(&self, image: &[u8], action: usize) -> Answer<()>;
 
-    /// Order, limits, worst times by position and coast bounds.
+    /// Order, limits, worst times by position and coast bounds, by the policy of a year.
     fn plan(
         &self,
         image: &[u8],
+        policy: u32,
         order: &mut [u8],
         limits: &mut [i32],
         worst_by_position: &mut [u32],
@@ -251,6 +255,7 @@ pub trait Calls {
     fn dry_frame(
         &self,
         image: &[u8],
+        policy: u32,
         durations: &[u32],
         order: &mut [u8],
         given: &mut [u8],
@@ -259,7 +264,7 @@ pub trait Calls {
         const CELLS: usize = MOST_ACTIONS * MOST_LEVELS;
         let (mut line, mut limits) = ([0; MOST_ACTIONS], [0; CELLS]);
         let (mut worst, mut bounds) = ([0; CELLS], [0; CELLS * LONGEST_COAST]);
-        let Counts { n, levels, .. } = self.plan(image, &mut line, &mut limits, &mut worst, &mut bounds)?;
+        let Counts { n, levels, .. } = self.plan(image, policy, &mut line, &mut limits, &mut worst, &mut bounds)?;
         let line = &line[..n];
         if order.len() < line.len() {
             return Err(refused::ROOM);
@@ -274,6 +279,7 @@ pub trait Calls {
     fn open_recording(
         &self,
         image: &[u8],
+        policy: u32,
         bytes: usize,
         order: &mut [u8],
         limits: &mut [i32],
@@ -289,6 +295,7 @@ pub trait Calls {
         &self,
         image: &[u8],
         repeats: u32,
+        policy: u32,
         order: &mut [u8],
         summaries: &mut [u32],
         worst_by_position: &mut [u32],
@@ -322,6 +329,7 @@ pub trait Calls {
         &self,
         image: &[u8],
         repeats: u32,
+        policy: u32,
         durations: &[u32],
         order: &mut [u8],
         given: &mut [u8],
@@ -378,12 +386,13 @@ macro_rules! calls_of_module {
             fn plan(
                 &self,
                 image: &[u8],
+                policy: u32,
                 order: &mut [u8],
                 limits: &mut [i32],
                 worst_by_position: &mut [u32],
                 bounds: &mut [i32],
             ) -> Answer<Counts> {
-                $module::plan(image, order, limits, worst_by_position, bounds)
+                $module::plan(image, policy, order, limits, worst_by_position, bounds)
             }
             fn start(&self, n: usize, levels: usize) -> (Run, u8) {
                 $module::start(n, levels)
@@ -408,13 +417,14 @@ macro_rules! calls_of_module {
             fn open_recording(
                 &self,
                 image: &[u8],
+                policy: u32,
                 bytes: usize,
                 order: &mut [u8],
                 limits: &mut [i32],
                 worst_by_position: &mut [u32],
                 bounds: &mut [i32],
             ) -> Answer<Opened> {
-                $module::open_recording(image, bytes, order, limits, worst_by_position, bounds)
+                $module::open_recording(image, policy, bytes, order, limits, worst_by_position, bounds)
             }
             fn rehearse(
                 &self,
@@ -430,11 +440,12 @@ macro_rules! calls_of_module {
                 &self,
                 image: &[u8],
                 repeats: u32,
+                policy: u32,
                 order: &mut [u8],
                 summaries: &mut [u32],
                 worst_by_position: &mut [u32],
             ) -> Answer<Body> {
-                $module::plan_body(image, repeats, order, summaries, worst_by_position)
+                $module::plan_body(image, repeats, policy, order, summaries, worst_by_position)
             }
             fn body_limit(&self, body: Body, summaries: &[u32], position: usize, level: usize) -> Answer<i64> {
                 $module::body_limit(body, summaries, position, level)
@@ -463,12 +474,13 @@ macro_rules! calls_of_module {
                 &self,
                 image: &[u8],
                 repeats: u32,
+                policy: u32,
                 durations: &[u32],
                 order: &mut [u8],
                 given: &mut [u8],
                 marks: &mut [u8],
             ) -> Answer<BodyDried> {
-                $module::body_dry_frame(image, repeats, durations, order, given, marks)
+                $module::body_dry_frame(image, repeats, policy, durations, order, given, marks)
             }
             fn speed_reading(&self, image: &[u8], first: usize, last: usize, level: usize, t: u32) -> Reading {
                 $module::speed_reading(image, first, last, level, t)

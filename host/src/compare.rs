@@ -4,10 +4,10 @@ mod bodies;
 
 use crate::calls::{
     Answer, Calls, Counts, Given, Line, Reading, Refused, Run, Tables, Totals, LAST_CLOCK, LONGEST_COAST, MOST_ACTIONS,
-    MOST_LEVELS, NO_ACTION,
+    MOST_LEVELS, NO_ACTION, POLICY_2005, POLICY_2008,
 };
 use crate::draw::{Draw, Size, Sketch, PACES};
-use crate::reference::{fields_out, from_tables, spare_bit_set, totals_out, unpack, Follows, Profile};
+use crate::reference::{fields_out, from_tables, spare_bit_set, totals_out, unpack, Bounds, Follows, Limits, Profile};
 use std::collections::BTreeMap;
 use std::fmt::{self, Debug, Display};
 
@@ -25,28 +25,28 @@ pub const NUMBERS: [(&str, &[u8]); 22] = [
     ("read", &[0, 1, 2, 3, 4, 5, 6, 7, 8, 9, 17]),
     ("write", &[0, 3, 6, 7, 8, 9, 17]),
     ("lookup", &[0, 1, 2, 3, 4, 5, 6, 7, 8, 9, 15]),
-    ("plan", &[0, 1, 2, 3, 4, 5, 6, 7, 8, 9, 17]),
+    ("plan", &[0, 1, 2, 3, 4, 5, 6, 7, 8, 9, 17, 20]),
     ("start", &[0, 3]),
     ("ask", &[0, 10, 11, 17]),
     ("report", &[0, 11, 12, 13, 17]),
     ("dry run", &[0, 3, 16, 17]),
-    ("dry frame", &[0, 1, 2, 3, 4, 5, 6, 7, 8, 9, 16, 17]),
-    ("open recording", &[0, 1, 2, 3, 4, 5, 6, 7, 8, 9, 14, 17]),
+    ("dry frame", &[0, 1, 2, 3, 4, 5, 6, 7, 8, 9, 16, 17, 20]),
+    ("open recording", &[0, 1, 2, 3, 4, 5, 6, 7, 8, 9, 14, 17, 20]),
     ("rehearse", &[0, 3, 11, 14, 16, 17]),
-    ("plan body", &[0, 1, 2, 3, 4, 5, 6, 7, 8, 9, 17, 19]),
-    ("body limit", &[0, 3, 17, 18, 19]),
-    ("body bound", &[0, 3, 17, 18, 19]),
-    ("body start", &[0, 3, 19]),
+    ("plan body", &[0, 1, 2, 3, 4, 5, 6, 7, 8, 9, 17, 19, 20]),
+    ("body limit", &[0, 3, 17, 18, 19, 20]),
+    ("body bound", &[0, 3, 17, 18, 19, 20]),
+    ("body start", &[0, 3, 19, 20]),
     ("body ask", &[0, 10, 11, 17]),
     ("body report", &[0, 11, 12, 13, 17]),
-    ("body dry frame", &[0, 1, 2, 3, 4, 5, 6, 7, 8, 9, 16, 17, 19]),
+    ("body dry frame", &[0, 1, 2, 3, 4, 5, 6, 7, 8, 9, 16, 17, 19, 20]),
     ("on time", &[0]),
     ("reading", &[0, 1, 2, 3, 4, 5, 6, 7, 8, 9, 13, 18]),
     ("refresh", &[0, 1, 2, 3, 4, 5, 6, 7, 8, 9, 14, 15, 16, 17]),
 ];
 
 /// The events that a good set of inputs meets, beside every grant from 1 to 16, of a body repeated too, and every level as the lowest of a frame.
-pub const EVENTS: [&str; 71] = [
+pub const EVENTS: [&str; 86] = [
     "on time",
     "not on time",
     "spent",
@@ -100,6 +100,10 @@ pub const EVENTS: [&str; 71] = [
     "body L out",
     "body cycle out",
     "body N out",
+    "a record of no policy decides",
+    "a record of no policy coasts",
+    "a record of no policy reports",
+    "a record of no policy decides as 2005 would not",
     "body position out",
     "body clock out",
     "body running out",
@@ -118,6 +122,17 @@ pub const EVENTS: [&str; 71] = [
     "write: 8 at several",
     "write: 8 above one that comes before it",
     "write: 8 above one that comes after it",
+    "2005: planned",
+    "2005: a limit above that of 2008",
+    "2005: a limit that falls",
+    "2005: a coast kept short within",
+    "2005: a body planned",
+    "2005: a body's limit that falls",
+    "2005: a body's coast kept short within",
+    "2005: a body's late",
+    "2005: a body's longest coast by its ends alone",
+    "2005: a body's longest coast at each alone",
+    "2005: a body's frame",
 ];
 
 /// The numbers that an action is at fault for, and how many different actions are met with each, of every call that gives it, at the least.
@@ -219,7 +234,7 @@ impl Display for Tally {
             let named: Vec<String> = named.iter().map(|(action, count)| format!("{action}\u{d7}{count}")).collect();
             writeln!(out, "{number} at action {}", named.join(" "))?;
         }
-        let numbers: Vec<String> = (0..=19).map(|no| format!("{no}\u{d7}{}", self.met_at_all(no))).collect();
+        let numbers: Vec<String> = (0..=20).map(|no| format!("{no}\u{d7}{}", self.met_at_all(no))).collect();
         writeln!(out, "{} inputs: {}", self.inputs(), numbers.join(" "))
     }
 }
@@ -260,6 +275,13 @@ fn usable(n: usize, levels: usize) -> Option<(usize, usize)> {
 fn in_header(image: &[u8]) -> Option<(usize, usize)> {
     let head = u32::from_be_bytes(*image.first_chunk()?);
     usable((head >> 21 & 127) as usize, (head >> 17 & 15) as usize)
+}
+
+/// The longest coast at a level that would be granted if the level above were looked for at its two ends alone.
+fn by_ends(bounds: &impl Limits, i: usize, t: i64, q: usize) -> usize {
+    let below = |j: usize| q + 1 == bounds.levels() || t > bounds.limit(j, q + 1);
+    let qualifies = |r: &usize| t <= bounds.coast_bound(i, q, *r) && below(i) && below(i + r - 1);
+    (1..=LONGEST_COAST.min(bounds.positions() - i)).filter(qualifies).max().unwrap_or(1)
 }
 
 /// Order, limits, worst times by position and coast bounds, as they are lent to be written.
@@ -375,13 +397,36 @@ impl Pair<'_> {
     fn plan(&mut self, image: &[u8], counts: Option<Counts>) -> Result<(), String> {
         let (n, levels) = counts.map_or((3, 2), |counts| (counts.n, counts.levels));
         let (tables, rooms) = self.unplanned(n, levels);
-        let result = self.same("plan", &|| format!("{} {rooms:?}", hex(image)), |calls| {
+        let policy = self.draw.year();
+        let result = self.same("plan", &|| format!("{} {policy} {rooms:?}", hex(image)), |calls| {
             let mut lent = tables.clone();
-            let answer = calls.plan(image, &mut lent.0, &mut lent.1, &mut lent.2, &mut lent.3);
+            let answer = calls.plan(image, policy, &mut lent.0, &mut lent.1, &mut lent.2, &mut lent.3);
             (answer, lent)
         })?;
         self.tally.answer("plan", &result.0);
+        if result.0.is_ok() && policy == POLICY_2005 {
+            self.note_apart(image, levels, &result.1 .1[..n * levels]);
+        }
         Ok(())
+    }
+
+    /// The limits of a plan by two tests apart, beside those of the other policy.
+    fn note_apart(&mut self, image: &[u8], levels: usize, limits: &[i32]) {
+        self.tally.event("2005: planned");
+        let cells = limits.len();
+        let (mut order, mut mixed) = (vec![0; cells], vec![0; cells]);
+        let (mut worst, mut bounds) = (vec![0; cells], vec![0; cells * LONGEST_COAST]);
+        let planned = self.left.plan(image, POLICY_2008, &mut order, &mut mixed, &mut worst, &mut bounds);
+        assert!(
+            planned.is_ok() && limits.iter().zip(&mixed).all(|(apart, mixed)| apart >= mixed),
+            "2005 is no stricter"
+        );
+        if limits != mixed {
+            self.tally.event("2005: a limit above that of 2008");
+        }
+        if limits.iter().zip(limits.iter().skip(levels)).any(|(before, after)| after < before) {
+            self.tally.event("2005: a limit that falls");
+        }
     }
 
     /// Tables to be planned into, and their lengths.
@@ -394,13 +439,15 @@ impl Pair<'_> {
     /// A recording may be whole frames of a refused image too.
     fn open_recording(&mut self, image: &[u8]) -> Result<(), String> {
         let (n, levels) = in_header(image).unwrap_or((3, 2));
-        let bytes = self.draw.recording_bytes(n, levels);
+        let (bytes, policy) = (self.draw.recording_bytes(n, levels), self.draw.year());
         let (tables, rooms) = self.unplanned(n, levels);
-        let result = self.same("open recording", &|| format!("{} {bytes} {rooms:?}", hex(image)), |calls| {
-            let mut lent = tables.clone();
-            let answer = calls.open_recording(image, bytes, &mut lent.0, &mut lent.1, &mut lent.2, &mut lent.3);
-            (answer, lent)
-        })?;
+        let result =
+            self.same("open recording", &|| format!("{} {policy} {bytes} {rooms:?}", hex(image)), |calls| {
+                let mut lent = tables.clone();
+                let answer =
+                    calls.open_recording(image, policy, bytes, &mut lent.0, &mut lent.1, &mut lent.2, &mut lent.3);
+                (answer, lent)
+            })?;
         self.tally.answer("open recording", &result.0);
         Ok(())
     }
@@ -468,13 +515,15 @@ impl Pair<'_> {
         if let (true, Some(duration)) = (self.draw.once_in(16), durations.last_mut()) {
             *duration = self.draw.pick(&[16_777_215, 16_777_216, u32::MAX]);
         }
+        let policy = self.draw.year();
         let rooms = [n; 3].map(|needed| self.draw.room(needed));
         let [order, given, decided]: [Vec<u8>; 3] = rooms.map(|room| junk(&mut self.draw, room));
-        let result = self.same("dry frame", &|| format!("{} {durations:?} {rooms:?}", hex(image)), |calls| {
-            let mut lent = (order.clone(), given.clone(), decided.clone());
-            let answer = calls.dry_frame(image, &durations, &mut lent.0, &mut lent.1, &mut lent.2);
-            (answer, lent)
-        })?;
+        let result =
+            self.same("dry frame", &|| format!("{} {policy} {durations:?} {rooms:?}", hex(image)), |calls| {
+                let mut lent = (order.clone(), given.clone(), decided.clone());
+                let answer = calls.dry_frame(image, policy, &durations, &mut lent.0, &mut lent.1, &mut lent.2);
+                (answer, lent)
+            })?;
         self.tally.answer("dry frame", &result.0);
         Ok(())
     }
@@ -670,7 +719,8 @@ impl Pair<'_> {
         const CELLS: usize = MOST_ACTIONS * MOST_LEVELS;
         let (mut order, mut limits) = (vec![0; MOST_ACTIONS], vec![0; CELLS]);
         let (mut worst, mut bounds) = (vec![0; CELLS], vec![0; CELLS * LONGEST_COAST]);
-        let planned = self.left.plan(image, &mut order, &mut limits, &mut worst, &mut bounds);
+        let policy = self.draw.policy();
+        let planned = self.left.plan(image, policy, &mut order, &mut limits, &mut worst, &mut bounds);
         let Counts { n, levels, .. } = planned.map_err(|refused| format!("the plan is {refused}"))?;
         let cells = n * levels;
         let tables = Tables { limits: &limits, worst_by_position: &worst, bounds: &bounds };
@@ -691,7 +741,16 @@ impl Pair<'_> {
         for _ in 0..2 * n + 8 {
             let asks = run.running == self.draw.once_in(16);
             run = if asks {
-                self.ask(run, order, limits, bounds)?
+                let next = self.ask(run, order, limits, bounds)?;
+                if next.decisions > run.decisions {
+                    let bounds = Bounds { n, levels, limits, bounds };
+                    let ends = by_ends(&bounds, run.position as usize, run.clock.into(), next.level as usize);
+                    // By the other policy no limit falls: its ends say all.
+                    if ends > next.left as usize + 1 {
+                        self.tally.event("2005: a coast kept short within");
+                    }
+                }
+                next
             } else {
                 let cell = run.position as usize * levels + run.level as usize;
                 let longest = worst.get(cell).copied().unwrap_or(0);

@@ -4,6 +4,7 @@ mod bodies;
 
 use crate::calls::{
     Run, Totals, LAST_CLOCK, LONGEST_COAST, LONGEST_TIME, MOST_ACTIONS, MOST_FRAMES, MOST_LEVELS, MOST_RECORDS,
+    POLICY_2005, POLICY_2008,
 };
 
 /// A small generator (splitmix64): the same seed gives the same inputs everywhere.
@@ -46,6 +47,25 @@ impl Draw {
 
     pub fn bytes(&mut self, count: usize) -> Vec<u8> {
         (0..count).map(|_| self.word() as u8).collect()
+    }
+
+    /// The year of a policy that there is.
+    pub fn policy(&mut self) -> u32 {
+        self.pick(&[POLICY_2005, POLICY_2008])
+    }
+
+    /// The same, now and then of one that there is not: near one, or one in its low bits alone.
+    pub fn year(&mut self) -> u32 {
+        match self.between(0, 11) {
+            0 => self.no_policy(),
+            _ => self.policy(),
+        }
+    }
+
+    /// The year of none: near one, one in its low bits alone, or any.
+    pub fn no_policy(&mut self) -> u32 {
+        let any = self.word() as u32 | 1 << 11;
+        self.pick(&[0, 1, 2004, 2006, 2007, 2009, 1 << 16 | POLICY_2005, 1 << 31 | POLICY_2008, any, u32::MAX])
     }
 
     /// The length of a lent slice: mostly what is needed, now and then longer, seldom short.
@@ -239,11 +259,17 @@ impl Draw {
         for _ in 0..n {
             let fixed = self.once_in(6);
             let exact = self.once_in(8);
+            // Mostly short and seldom long: the averages hardly rise.
+            let spiky = self.once_in(4);
             let (mut average, mut longest) = (0, 0);
             for level in 0..levels {
                 if level == 0 || !fixed {
                     longest = (longest + self.between(0, scale)).min(LONGEST_TIME);
-                    average = if exact { longest } else { self.between(average, longest) };
+                    average = match (exact, spiky) {
+                        (true, _) => longest,
+                        (false, true) => self.between(average, longest.min(average + scale / 8)),
+                        (false, false) => self.between(average, longest),
+                    };
                 }
                 averages.push(average);
                 worst.push(longest);

@@ -2,6 +2,7 @@
 
 use crate::calls::{
     Answer, Calls, Fast, Reading, Reference, LAST_CLOCK, LONGEST_COAST, LONGEST_TIME, MOST_FRAMES, MOST_REPEATS,
+    POLICY_2005, POLICY_2008,
 };
 use crate::draw::{big_endian, Draw, Pace, Size, Sketch, PACES};
 use crate::reference::{accept, Planned};
@@ -14,6 +15,7 @@ use std::path::Path;
 struct Case {
     what: String,
     image: Vec<u8>,
+    policy: u32,
     durations: Vec<u8>,
 }
 
@@ -28,6 +30,7 @@ struct Trace {
 struct Recording {
     what: &'static str,
     image: Vec<u8>,
+    policy: u32,
     recording: Vec<u8>,
 }
 
@@ -36,6 +39,7 @@ struct Repeated {
     what: &'static str,
     image: Vec<u8>,
     repeats: u32,
+    policy: u32,
     durations: Vec<u8>,
 }
 
@@ -59,6 +63,7 @@ Made from the definitions of the rules, by a seed.
 - readings.txt: an image in hexadecimal, first position, last position, level, time, and the reading: `spent`, the refusal, or the 64 bits of the ratio in hexadecimal.
 - rNN.profile, rNN.recording; rNN.rehearse is what the rehearsing program prints for both.
 - bNN.body (an image), bNN.repeats; bNN.limits has the lines `position action limits..` that the program for a body repeated prints after its first, all of them or some, or the line of the refusal; bNN.bounds lines `position level length bound`; bNN.durations, and in bNN.dry what the dry run over them answers.
+- NNN.policy, rNN.policy and bNN.policy have the year of the policy, decimal, which the programs are given as an argument.
 - The line of a refusal is `refused` and its number; with 5 to 8 the lowest action at fault comes after that, 64 where only the header is.
 ";
 
@@ -67,7 +72,7 @@ pub fn write(folder: &Path, seed: u64) -> io::Result<Written> {
     fs::create_dir_all(folder)?;
     let mut maker = Maker { draw: Draw::new(seed), folder, written: Written::default() };
     let mut page = String::from(INTRODUCTION);
-    page += "\n| case | what | plan's first line | dry run's last line |\n|---|---|---|---|\n";
+    page += "\n| case | policy | what | plan's first line | dry run's last line |\n|---|---|---|---|---|\n";
     for case in maker.cases() {
         page += &maker.case(&case)?;
     }
@@ -77,11 +82,11 @@ pub fn write(folder: &Path, seed: u64) -> io::Result<Written> {
     }
     let readings = maker.readings();
     maker.file("readings.txt", readings.as_bytes())?;
-    page += "\n| recording | what | frame lines | last line |\n|---|---|---|---|\n";
+    page += "\n| recording | policy | what | frame lines | last line |\n|---|---|---|---|---|\n";
     for recording in maker.recordings() {
         page += &maker.recording(&recording)?;
     }
-    page += "\n| body | what | N | plan's first line | dry run's last line |\n|---|---|---|---|---|\n";
+    page += "\n| body | policy | what | N | plan's first line | dry run's last line |\n|---|---|---|---|---|---|\n";
     for body in maker.bodies() {
         page += &maker.body(&body)?;
     }
@@ -124,17 +129,19 @@ impl Maker<'_> {
     /// The row of a case, whose files are written.
     fn case(&mut self, case: &Case) -> io::Result<String> {
         let name = format!("{:03}", self.written.cases);
-        let plan = text::plan(&Reference, &case.image);
-        let dry = text::dry_run(&Reference, &case.image, &case.durations);
-        assert_eq!(plan, text::plan(&Fast, &case.image), "{}", case.what);
-        assert_eq!(dry, text::dry_run(&Fast, &case.image, &case.durations), "{}", case.what);
-        self.file(&format!("{name}.profile"), &case.image)?;
-        self.file(&format!("{name}.durations"), &case.durations)?;
+        let Case { what, image, policy, durations } = case;
+        let plan = text::plan(&Reference, image, *policy);
+        let dry = text::dry_run(&Reference, image, *policy, durations);
+        assert_eq!(plan, text::plan(&Fast, image, *policy), "{what}");
+        assert_eq!(dry, text::dry_run(&Fast, image, *policy, durations), "{what}");
+        self.file(&format!("{name}.profile"), image)?;
+        self.file(&format!("{name}.policy"), format!("{policy}\n").as_bytes())?;
+        self.file(&format!("{name}.durations"), durations)?;
         self.file(&format!("{name}.plan"), plan.as_bytes())?;
         self.file(&format!("{name}.dry"), dry.as_bytes())?;
         self.written.cases += 1;
         let (first, last) = (plan.lines().next().unwrap_or(""), dry.lines().last().unwrap_or(""));
-        Ok(format!("| {name} | {} | {first} | {last} |\n", case.what))
+        Ok(format!("| {name} | {policy} | {what} | {first} | {last} |\n"))
     }
 
     fn cases(&mut self) -> Vec<Case> {
@@ -157,15 +164,16 @@ impl Maker<'_> {
 
     /// Durations to an image; any few bytes to one that is refused.
     fn with_durations(&mut self, name: &str, image: Vec<u8>, pace: Pace) -> Case {
+        let policy = self.draw.year();
         match worst_by_position(&image) {
             Ok(worst) => {
                 let durations = self.draw.durations(&worst, pace);
                 let what = format!("{name}, durations {}", pace_name(pace));
-                Case { what, image, durations: big_endian(&durations) }
+                Case { what, image, policy, durations: big_endian(&durations) }
             }
             Err(refused) => {
                 let count = self.draw.index(20);
-                Case { what: format!("{name}, {refused}"), image, durations: self.draw.bytes(count) }
+                Case { what: format!("{name}, {refused}"), image, policy, durations: self.draw.bytes(count) }
             }
         }
     }
@@ -197,6 +205,7 @@ impl Maker<'_> {
                 continue;
             }
             let mut case = self.with_durations("small", image, Pace::Within);
+            case.policy = self.draw.policy();
             let entry = 4 * self.draw.index(case.durations.len() / 4);
             case.what = match count % 7 {
                 0 => {
@@ -285,7 +294,7 @@ impl Maker<'_> {
 
     fn readings(&mut self) -> String {
         let mut lines = String::new();
-        while self.written.readings < 120 {
+        while self.written.readings < 200 {
             let size = if self.draw.once_in(20) { Size::Extreme } else { Size::Tiny };
             let image = self.draw.image(size);
             let (n, levels, cycle) = match accept(&image) {
@@ -318,14 +327,16 @@ impl Maker<'_> {
     /// The row of a recording, whose files are written.
     fn recording(&mut self, case: &Recording) -> io::Result<String> {
         let name = format!("r{:02}", self.written.recordings);
-        let lines = text::rehearse(&Reference, &case.image, &case.recording);
-        assert_eq!(lines, text::rehearse(&Fast, &case.image, &case.recording), "{}", case.what);
-        self.file(&format!("{name}.profile"), &case.image)?;
-        self.file(&format!("{name}.recording"), &case.recording)?;
+        let Recording { what, image, policy, recording } = case;
+        let lines = text::rehearse(&Reference, image, *policy, recording);
+        assert_eq!(lines, text::rehearse(&Fast, image, *policy, recording), "{what}");
+        self.file(&format!("{name}.profile"), image)?;
+        self.file(&format!("{name}.policy"), format!("{policy}\n").as_bytes())?;
+        self.file(&format!("{name}.recording"), recording)?;
         self.file(&format!("{name}.rehearse"), lines.as_bytes())?;
         self.written.recordings += 1;
         let (frames, last) = (lines.lines().count() - 1, lines.lines().last().unwrap_or(""));
-        Ok(format!("| {name} | {} | {frames} | {last} |\n", case.what))
+        Ok(format!("| {name} | {policy} | {what} | {frames} | {last} |\n"))
     }
 
     /// Frames for worst times by position and level, of all paces.
@@ -350,7 +361,7 @@ impl Maker<'_> {
                 1 => recording.truncate(recording.len().saturating_sub(1)),
                 _ => {}
             }
-            recordings.push(Recording { what: "drawn", image, recording });
+            recordings.push(Recording { what: "drawn", image, policy: self.draw.year(), recording });
         }
         let image = Sketch {
             n: 1,
@@ -365,8 +376,9 @@ impl Maker<'_> {
         .image();
         let most = self.frames(&[4], MOST_FRAMES);
         let over = [&most[..], &[0; 4]].concat();
-        recordings.push(Recording { what: "4,096 frames of one entry", image: image.clone(), recording: most });
-        recordings.push(Recording { what: "4,097 frames", image, recording: over });
+        let (first, what) = (image.clone(), "4,096 frames of one entry");
+        recordings.push(Recording { what, image: first, policy: POLICY_2008, recording: most });
+        recordings.push(Recording { what: "4,097 frames", image, policy: POLICY_2005, recording: over });
         recordings
     }
 
@@ -375,12 +387,12 @@ impl Maker<'_> {
         /// The most positions of which all are told.
         const ALL: usize = 200;
         let name = format!("b{:02}", self.written.bodies);
-        let Repeated { what, image, repeats, durations } = case;
-        let printed = text::repeat_plan(&Fast, image, *repeats);
+        let Repeated { what, image, repeats, policy, durations } = case;
+        let printed = text::repeat_plan(&Fast, image, *repeats, *policy);
         let (first, lines) = printed.split_once('\n').expect("a first line");
-        let dry = text::repeat_dry_run(&Reference, image, *repeats, durations);
-        assert_eq!(dry, text::repeat_dry_run(&Fast, image, *repeats, durations), "{what}");
-        let (limits, bounds) = match BodyPlan::of(&Reference, image, *repeats) {
+        let dry = text::repeat_dry_run(&Reference, image, *repeats, *policy, durations);
+        assert_eq!(dry, text::repeat_dry_run(&Fast, image, *repeats, *policy, durations), "{what}");
+        let (limits, bounds) = match BodyPlan::of(&Reference, image, *repeats, *policy) {
             Err(refused) => (format!("{refused}\n"), String::new()),
             Ok(plan) => {
                 let step = plan.positions().div_ceil(ALL);
@@ -393,13 +405,14 @@ impl Maker<'_> {
         };
         self.file(&format!("{name}.body"), image)?;
         self.file(&format!("{name}.repeats"), format!("{repeats}\n").as_bytes())?;
+        self.file(&format!("{name}.policy"), format!("{policy}\n").as_bytes())?;
         self.file(&format!("{name}.limits"), limits.as_bytes())?;
         self.file(&format!("{name}.bounds"), bounds.as_bytes())?;
         self.file(&format!("{name}.durations"), durations)?;
         self.file(&format!("{name}.dry"), dry.as_bytes())?;
         self.written.bodies += 1;
         let last = dry.lines().last().unwrap_or("");
-        Ok(format!("| {name} | {what} | {repeats} | {first} | {last} |\n"))
+        Ok(format!("| {name} | {policy} | {what} | {repeats} | {first} | {last} |\n"))
     }
 
     /// The line of a drawn coast bound.
@@ -416,7 +429,8 @@ impl Maker<'_> {
         while bodies.len() < 60 {
             let (size, repeats) = (self.draw.pick(&[Size::Tiny, Size::Small]), self.draw.repeats());
             let image = self.draw.body_image(size, repeats);
-            let worst = BodyPlan::of(&Fast, &image, repeats)
+            let policy = self.draw.year();
+            let worst = BodyPlan::of(&Fast, &image, repeats, POLICY_2008)
                 .map(|plan| plan.worst[..(plan.body.n * plan.body.levels) as usize].repeat(plan.body.repeats as usize));
             let worst = worst.unwrap_or_default();
             // Of the longest that there may be only those at the end.
@@ -428,7 +442,7 @@ impl Maker<'_> {
             if self.draw.once_in(12) {
                 durations.pop();
             }
-            bodies.push(Repeated { what: "drawn", image, repeats, durations });
+            bodies.push(Repeated { what: "drawn", image, repeats, policy, durations });
         }
         let one = Sketch {
             n: 1,
@@ -441,9 +455,11 @@ impl Maker<'_> {
             ..Sketch::default()
         };
         let durations = big_endian(&self.draw.durations(&[2, 4].repeat(MOST_REPEATS as usize), Pace::Within));
-        bodies.push(Repeated { what: "one action 1,620 times", image: one.image(), repeats: MOST_REPEATS, durations });
-        let image = one.image();
-        bodies.push(Repeated { what: "1,621 times", image, repeats: MOST_REPEATS + 1, durations: Vec::new() });
+        let (image, policy) = (one.image(), POLICY_2005);
+        let (repeats, what) = (MOST_REPEATS, "one action 1,620 times");
+        bodies.push(Repeated { what, image: image.clone(), repeats, policy, durations });
+        let repeats = MOST_REPEATS + 1;
+        bodies.push(Repeated { what: "1,621 times", image, repeats, policy, durations: Vec::new() });
         bodies
     }
 }

@@ -148,6 +148,7 @@ impl Calls for Product {
     fn plan(
         &self,
         image: &[u8],
+        policy: u32,
         order: &mut [u8],
         limits: &mut [i32],
         worst_by_position: &mut [u32],
@@ -157,6 +158,7 @@ impl Calls for Product {
             nyokazerubi_plan(
                 image.as_ptr(),
                 image.len(),
+                policy,
                 order.as_mut_ptr(),
                 order.len(),
                 limits.as_mut_ptr(),
@@ -243,6 +245,7 @@ impl Calls for Product {
     fn dry_frame(
         &self,
         image: &[u8],
+        policy: u32,
         durations: &[u32],
         order: &mut [u8],
         given: &mut [u8],
@@ -252,6 +255,7 @@ impl Calls for Product {
             nyokazerubi_dry_frame(
                 image.as_ptr(),
                 image.len(),
+                policy,
                 durations.as_ptr(),
                 durations.len(),
                 order.as_mut_ptr(),
@@ -269,6 +273,7 @@ impl Calls for Product {
     fn open_recording(
         &self,
         image: &[u8],
+        policy: u32,
         bytes: usize,
         order: &mut [u8],
         limits: &mut [i32],
@@ -279,6 +284,7 @@ impl Calls for Product {
             nyokazerubi_open_recording(
                 image.as_ptr(),
                 image.len(),
+                policy,
                 bytes,
                 order.as_mut_ptr(),
                 order.len(),
@@ -323,6 +329,7 @@ impl Calls for Product {
         &self,
         image: &[u8],
         repeats: u32,
+        policy: u32,
         order: &mut [u8],
         summaries: &mut [u32],
         worst_by_position: &mut [u32],
@@ -332,6 +339,7 @@ impl Calls for Product {
                 image.as_ptr(),
                 image.len(),
                 repeats,
+                policy,
                 order.as_mut_ptr(),
                 order.len(),
                 summaries.as_mut_ptr(),
@@ -399,6 +407,7 @@ impl Calls for Product {
         &self,
         image: &[u8],
         repeats: u32,
+        policy: u32,
         durations: &[u32],
         order: &mut [u8],
         given: &mut [u8],
@@ -409,6 +418,7 @@ impl Calls for Product {
                 image.as_ptr(),
                 image.len(),
                 repeats,
+                policy,
                 durations.as_ptr(),
                 durations.len(),
                 order.as_mut_ptr(),

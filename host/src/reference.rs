@@ -15,14 +15,14 @@ mod speed;
 pub use image::{
     accept, accept_but_unfit, check, from_tables, lookup, lookup_refusal, read, spare_bit_set, unpack, write,
 };
-pub use limits::{plan, Planned};
+pub use limits::{plan, Planned, Policy};
 pub use order::{Follows, Order};
 pub use profile::{Profile, Set};
 pub use recording::{open_recording, rehearse, totals_out};
 pub use refresh::refresh;
 pub use repeat::{
-    body_ask, body_bound, body_dry_frame, body_fields_out, body_limit, body_report, body_start, plan_body, Longest,
-    Summary, Sums, Unrolled,
+    body_ask, body_bound, body_dry_frame, body_fields_out, body_limit, body_report, body_start, plan_body, Lent,
+    Longest, Summary, Sums, Unrolled,
 };
 pub use run::{ask, asked, dry_run, fields_out, granted, in_range, report, start, Bounds, Limits};
 pub use speed::{on_time, speed_reading};

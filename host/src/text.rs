@@ -26,10 +26,10 @@ impl Plan {
     }
 }
 
-fn planned(calls: &dyn Calls, image: &[u8]) -> Answer<(Counts, Plan)> {
+fn planned(calls: &dyn Calls, image: &[u8], policy: u32) -> Answer<(Counts, Plan)> {
     let mut plan = Plan::new();
     let Plan { order, limits, worst, bounds } = &mut plan;
-    let counts = calls.plan(image, order, limits, worst, bounds)?;
+    let counts = calls.plan(image, policy, order, limits, worst, bounds)?;
     Ok((counts, plan))
 }
 
@@ -38,9 +38,9 @@ fn line(refused: Refused) -> String {
     format!("{refused}\n")
 }
 
-/// The plan program, given the image on its standard input.
-pub fn plan(calls: &dyn Calls, image: &[u8]) -> String {
-    match planned(calls, image) {
+/// The plan program, given the image on its standard input and the year of a policy.
+pub fn plan(calls: &dyn Calls, image: &[u8], policy: u32) -> String {
+    match planned(calls, image, policy) {
         Err(refused) => line(refused),
         Ok((Counts { n, levels, cycle }, plan)) => {
             let mut text = format!("{n} {levels} {cycle}\n");
@@ -57,9 +57,9 @@ pub fn plan(calls: &dyn Calls, image: &[u8]) -> String {
     }
 }
 
-/// The dry-run program, given the contents of its two files.
-pub fn dry_run(calls: &dyn Calls, image: &[u8], durations: &[u8]) -> String {
-    cycle_lines(calls, image, durations).unwrap_or_else(line)
+/// The dry-run program, given the contents of its two files and the year of a policy.
+pub fn dry_run(calls: &dyn Calls, image: &[u8], policy: u32, durations: &[u8]) -> String {
+    cycle_lines(calls, image, policy, durations).unwrap_or_else(line)
 }
 
 /// Durations, high byte first; what is left over at the end is none.
@@ -67,8 +67,8 @@ fn entries(bytes: &[u8]) -> Vec<u32> {
     bytes.chunks_exact(4).map(|bytes| u32::from_be_bytes([bytes[0], bytes[1], bytes[2], bytes[3]])).collect()
 }
 
-fn cycle_lines(calls: &dyn Calls, image: &[u8], durations: &[u8]) -> Answer<String> {
-    let (Counts { n, levels, .. }, plan) = planned(calls, image)?;
+fn cycle_lines(calls: &dyn Calls, image: &[u8], policy: u32, durations: &[u8]) -> Answer<String> {
+    let (Counts { n, levels, .. }, plan) = planned(calls, image, policy)?;
     let mut durations = entries(durations);
     durations.truncate(n * levels);
     let (mut given, mut marks) = ([0; MOST_ACTIONS], [0; MOST_ACTIONS]);
@@ -82,16 +82,16 @@ fn cycle_lines(calls: &dyn Calls, image: &[u8], durations: &[u8]) -> Answer<Stri
     Ok(text)
 }
 
-/// The rehearsing program, given the contents of its two files.
-pub fn rehearse(calls: &dyn Calls, image: &[u8], recording: &[u8]) -> String {
-    frame_lines(calls, image, recording).unwrap_or_else(line)
+/// The rehearsing program, given the contents of its two files and the year of a policy.
+pub fn rehearse(calls: &dyn Calls, image: &[u8], policy: u32, recording: &[u8]) -> String {
+    frame_lines(calls, image, policy, recording).unwrap_or_else(line)
 }
 
-fn frame_lines(calls: &dyn Calls, image: &[u8], recording: &[u8]) -> Answer<String> {
+fn frame_lines(calls: &dyn Calls, image: &[u8], policy: u32, recording: &[u8]) -> Answer<String> {
     let mut plan = Plan::new();
     let Plan { order, limits, worst, bounds } = &mut plan;
     let Opened { n, levels, frame_bytes, .. } =
-        calls.open_recording(image, recording.len(), order, limits, worst, bounds)?;
+        calls.open_recording(image, policy, recording.len(), order, limits, worst, bounds)?;
     let mut totals = Totals::default();
     let mut text = String::new();
     for frame in recording.chunks_exact(frame_bytes) {
@@ -117,11 +117,11 @@ pub struct BodyPlan {
 }
 
 impl BodyPlan {
-    pub fn of(calls: &dyn Calls, image: &[u8], repeats: u32) -> Answer<BodyPlan> {
+    pub fn of(calls: &dyn Calls, image: &[u8], repeats: u32, policy: u32) -> Answer<BodyPlan> {
         const CELLS: usize = MOST_ACTIONS * MOST_LEVELS;
         let (mut order, mut summaries) = (vec![0; MOST_ACTIONS], vec![0; CELLS * SUMMARY_NUMBERS]);
         let mut worst = vec![0; CELLS];
-        let body = calls.plan_body(image, repeats, &mut order, &mut summaries, &mut worst)?;
+        let body = calls.plan_body(image, repeats, policy, &mut order, &mut summaries, &mut worst)?;
         Ok(BodyPlan { body, order, summaries, worst })
     }
 
@@ -152,12 +152,12 @@ impl BodyPlan {
     }
 }
 
-/// The program that plans a body repeated, given the image on its standard input.
-pub fn repeat_plan(calls: &dyn Calls, image: &[u8], repeats: u32) -> String {
-    match BodyPlan::of(calls, image, repeats) {
+/// The program that plans a body repeated, given the image on its standard input and the year of a policy.
+pub fn repeat_plan(calls: &dyn Calls, image: &[u8], repeats: u32, policy: u32) -> String {
+    match BodyPlan::of(calls, image, repeats, policy) {
         Err(refused) => line(refused),
         Ok(plan) => {
-            let Body { n, levels, cycle, repeats } = plan.body;
+            let Body { n, levels, cycle, repeats, .. } = plan.body;
             let lines: String = (0..plan.positions()).map(|position| plan.line(calls, position)).collect();
             format!("{n} {levels} {cycle} {repeats}\n") + &lines
         }
@@ -165,15 +165,16 @@ pub fn repeat_plan(calls: &dyn Calls, image: &[u8], repeats: u32) -> String {
 }
 
 /// The dry run of a body repeated, as the dry-run program prints one.
-pub fn repeat_dry_run(calls: &dyn Calls, image: &[u8], repeats: u32, durations: &[u8]) -> String {
-    body_lines(calls, image, repeats, durations).unwrap_or_else(line)
+pub fn repeat_dry_run(calls: &dyn Calls, image: &[u8], repeats: u32, policy: u32, durations: &[u8]) -> String {
+    body_lines(calls, image, repeats, policy, durations).unwrap_or_else(line)
 }
 
-fn body_lines(calls: &dyn Calls, image: &[u8], repeats: u32, durations: &[u8]) -> Answer<String> {
-    let plan = BodyPlan::of(calls, image, repeats)?;
+fn body_lines(calls: &dyn Calls, image: &[u8], repeats: u32, policy: u32, durations: &[u8]) -> Answer<String> {
+    let plan = BodyPlan::of(calls, image, repeats, policy)?;
     let mut order = vec![0; plan.body.n as usize];
     let (mut given, mut marks) = (vec![0; plan.positions()], vec![0; plan.positions()]);
-    let cycle = calls.body_dry_frame(image, repeats, &entries(durations), &mut order, &mut given, &mut marks)?;
+    let cycle =
+        calls.body_dry_frame(image, repeats, policy, &entries(durations), &mut order, &mut given, &mut marks)?;
     assert_eq!(order, plan.order[..order.len()], "one order");
     let mut text = String::new();
     for i in 0..cycle.positions as usize {

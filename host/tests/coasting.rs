@@ -1,18 +1,19 @@
 //! Demand 3 by enumeration: for durations from zero to worst no deadline is missed, every level is that of the manager asked before
-//! the action, and no way of coasting that can't differ decides less often. Of the definitions and of the product, of a body repeated too.
+//! the action, and no way of coasting that can't differ decides less often. Of the definitions and of the product, of a body repeated too, by both
+//! policies.
 
 mod common;
 
 use nyokazerubi_host::calls::{Answer, Calls, Dried, Reference, Tables, LONGEST_COAST, SUMMARY_NUMBERS};
 use nyokazerubi_host::draw::{Draw, Size, Sketch};
 use nyokazerubi_host::product::Product;
-use nyokazerubi_host::reference::{accept_but_unfit, Planned, Unrolled};
+use nyokazerubi_host::reference::{accept_but_unfit, Planned, Policy, Unrolled};
 use std::collections::HashMap;
 
-/// What a cycle is run by: the planner's limits, worst times and coast bounds; or the image of a body that is repeated so often.
+/// What a cycle is run by: the planner's limits, worst times and coast bounds; or the image of a body that is repeated so often, and a policy.
 enum Ran {
     Tables(Vec<i32>, Vec<u32>, Vec<i32>),
-    Repeated(Vec<u8>, u32),
+    Repeated(Vec<u8>, u32, Policy),
 }
 
 impl Ran {
@@ -30,8 +31,9 @@ impl Ran {
                 let tables = Tables { limits, worst_by_position: worst, bounds };
                 calls.dry_run(planned.n, planned.levels, tables, durations, given, marks)
             }
-            Ran::Repeated(image, repeats) => {
-                let cycle = calls.body_dry_frame(image, *repeats, durations, &mut [0; 64], given, marks)?;
+            Ran::Repeated(image, repeats, policy) => {
+                let order = &mut [0; 64];
+                let cycle = calls.body_dry_frame(image, *repeats, policy.year(), durations, order, given, marks)?;
                 assert_eq!(cycle.positions as usize, planned.n);
                 let (decisions, end) = (cycle.decisions, cycle.end as u32);
                 Ok(Dried { decisions, end, overrun: cycle.overrun, late: cycle.late })
@@ -47,25 +49,28 @@ struct Trial {
     ran: Ran,
     steady: HashMap<(usize, i64, usize), bool>,
     cycles: usize,
+    /// Coasts that would be longer if the level above were looked for at their ends alone.
+    short: usize,
 }
 
 impl Trial {
     /// None if the profile is refused.
-    fn new(sketch: &Sketch) -> Option<Trial> {
+    fn new(sketch: &Sketch, policy: Policy) -> Option<Trial> {
         let (n, cells) = (sketch.n as usize, sketch.averages.len());
         let (mut order, mut limits) = (vec![0; n], vec![0; cells]);
         let (mut worst, mut bounds) = (vec![0; cells], vec![0; cells * LONGEST_COAST]);
-        Reference.plan(&sketch.image(), &mut order, &mut limits, &mut worst, &mut bounds).ok()?;
+        let (image, year) = (sketch.image(), policy.year());
+        Reference.plan(&image, year, &mut order, &mut limits, &mut worst, &mut bounds).ok()?;
         let mut planned = (vec![9; n], vec![9; cells], vec![9; cells], vec![9; cells * LONGEST_COAST]);
-        let answer = Product.plan(&sketch.image(), &mut planned.0, &mut planned.1, &mut planned.2, &mut planned.3);
+        let answer = Product.plan(&image, year, &mut planned.0, &mut planned.1, &mut planned.2, &mut planned.3);
         assert!(answer.is_ok(), "the product's plan of {sketch:?}");
         assert_eq!(planned, (order, limits.clone(), worst.clone(), bounds.clone()), "the product's plan of {sketch:?}");
         let planned = Planned::of(&common::profile(sketch));
-        Some(Trial::of(planned, Ran::Tables(limits, worst, bounds)))
+        Some(Trial::of(planned, policy, Ran::Tables(limits, worst, bounds)))
     }
 
     /// Of a body repeated, as it is unrolled; none if it is refused.
-    fn repeated(image: &[u8], repeats: u32, most: usize) -> Option<Trial> {
+    fn repeated(image: &[u8], repeats: u32, policy: Policy, most: usize) -> Option<Trial> {
         let profile = accept_but_unfit(image).ok()?;
         if repeats == 0 || profile.n * repeats as usize > most {
             return None;
@@ -73,14 +78,14 @@ impl Trial {
         let cells = profile.n * profile.levels;
         let (mut order, mut summaries, mut worst) =
             (vec![0; profile.n], vec![0; SUMMARY_NUMBERS * cells], vec![0; cells]);
-        Product.plan_body(image, repeats, &mut order, &mut summaries, &mut worst).ok()?;
-        let planned = Unrolled::of(&profile, repeats as usize).planned;
-        Some(Trial::of(planned, Ran::Repeated(image.to_vec(), repeats)))
+        Product.plan_body(image, repeats, policy.year(), &mut order, &mut summaries, &mut worst).ok()?;
+        let planned = Unrolled::of(&profile, repeats as usize, policy).planned;
+        Some(Trial::of(planned, policy, Ran::Repeated(image.to_vec(), repeats, policy)))
     }
 
-    fn of(planned: Planned, ran: Ran) -> Trial {
-        let limits = planned.limits();
-        Trial { planned, limits, ran, steady: HashMap::new(), cycles: 0 }
+    fn of(planned: Planned, policy: Policy, ran: Ran) -> Trial {
+        let limits = planned.limits(policy);
+        Trial { planned, limits, ran, steady: HashMap::new(), cycles: 0, short: 0 }
     }
 
     /// The manager asked at position i and time t.
@@ -146,7 +151,16 @@ impl Trial {
         for i in (0..n).filter(|&i| marks[i] == 1) {
             let coasted = marks[i + 1..].iter().take_while(|&&mark| mark == 0).count();
             assert!(self.can_not_differ(i, clocks[i], 1 + coasted), "{:?} {clocks:?}", self.planned);
+            self.short += usize::from(self.longer_by_its_ends(i, clocks[i], 1 + coasted));
         }
+    }
+
+    /// Whether a coast at position i and time t would be longer than r, if the level above were looked for at its ends alone.
+    fn longer_by_its_ends(&self, i: usize, t: i64, r: usize) -> bool {
+        let (q, most) = (self.asked(i, t), LONGEST_COAST.min(self.planned.n - i));
+        let bound = |r: usize| self.planned.coast_bound(&self.limits, i, q, r);
+        let qualifies = |r: usize| t <= bound(r) && t > self.limits[i + r - 1][q + 1];
+        q + 1 < self.planned.levels && (r + 1..=most).any(qualifies)
     }
 
     /// All cycles: every duration from zero to worst at the asked level, position by position.
@@ -177,45 +191,80 @@ impl Trial {
     }
 }
 
+/// What trials found.
+#[derive(Default)]
+struct Found {
+    trials: usize,
+    cycles: usize,
+    /// The most of one trial.
+    longest: usize,
+    /// Coasts of two actions and more that can't differ.
+    bounds: usize,
+    short: usize,
+    /// Trials in which a limit is below that of the position before.
+    falls: usize,
+}
+
+impl Found {
+    /// All cycles of a trial.
+    fn add(&mut self, mut trial: Trial) {
+        trial.all_cycles(&mut Vec::new(), &mut Vec::new());
+        self.trials += 1;
+        self.cycles += trial.cycles;
+        self.longest = self.longest.max(trial.cycles);
+        self.bounds += trial.steady.iter().filter(|((_, _, r), holds)| *r > 1 && **holds).count();
+        self.short += trial.short;
+        let fall = |pair: &[Vec<i64>]| pair[0].iter().zip(&pair[1]).any(|(before, after)| after < before);
+        self.falls += usize::from(trial.limits.windows(2).any(fall));
+    }
+
+    /// By the policy of 2008 no limit falls, and the ends of a coast say all.
+    fn say(&self, policy: Policy, what: &str) {
+        let Found { trials, cycles, longest, bounds, short, falls } = self;
+        println!(
+            "{}: {trials} {what}, {cycles} cycles, up to {longest} each, {bounds} bounds of two and more; limits fall in {falls}, {short} coasts kept \
+             short within",
+            policy.year()
+        );
+        match policy {
+            Policy::Mixed => assert_eq!([*short, *falls], [0, 0]),
+            Policy::Apart => assert!(*short > 20 && *falls > 100),
+        }
+    }
+}
+
 /// Drawn profiles of up to six actions and three levels, mostly two.
 #[test]
 fn drawn_profiles() {
-    let mut draw = Draw::new(5);
-    let (mut trials, mut cycles, mut bounds, mut longest) = (0, 0, 0, 0);
-    while trials < 6000 {
-        let sketch = draw.profile(Size::Tiny);
-        if let Some(mut trial) = Trial::new(&sketch).filter(|_| sketch.worst.iter().all(|&time| time <= 4)) {
-            trial.all_cycles(&mut Vec::new(), &mut Vec::new());
-            trials += 1;
-            cycles += trial.cycles;
-            longest = longest.max(trial.cycles);
-            bounds += trial.steady.iter().filter(|((_, _, r), holds)| *r > 1 && **holds).count();
+    for policy in Policy::BOTH {
+        let (mut draw, mut found) = (Draw::new(5), Found::default());
+        while found.trials < 6000 {
+            let sketch = draw.profile(Size::Tiny);
+            if let Some(trial) = Trial::new(&sketch, policy).filter(|_| sketch.worst.iter().all(|&time| time <= 4)) {
+                found.add(trial);
+            }
         }
+        found.say(policy, "profiles");
+        assert!(found.bounds > found.trials && found.longest > 3000);
     }
-    println!("{trials} profiles, {cycles} cycles, up to {longest} each, {bounds} bounds of two and more");
-    assert!(bounds > trials && longest > 3000);
 }
 
 /// Bodies of few actions and short times repeated, up to seven positions in all.
 #[test]
 fn drawn_bodies() {
-    let mut draw = Draw::new(6);
-    let (mut trials, mut cycles, mut bounds, mut longest) = (0, 0, 0, 0);
-    while trials < 2000 {
-        let repeats = draw.between(2, 4);
-        let image = draw.body_image(Size::Tiny, repeats);
-        let Some(mut trial) = Trial::repeated(&image, repeats, 7) else { continue };
-        if trial.planned.worst.iter().flatten().any(|&time| time > 2) {
-            continue;
+    for policy in Policy::BOTH {
+        let (mut draw, mut found) = (Draw::new(6), Found::default());
+        while found.trials < 4000 {
+            let repeats = draw.between(2, 4);
+            let image = draw.body_image(Size::Tiny, repeats);
+            let Some(trial) = Trial::repeated(&image, repeats, policy, 7) else { continue };
+            if trial.planned.worst.iter().flatten().all(|&time| time <= 3) {
+                found.add(trial);
+            }
         }
-        trial.all_cycles(&mut Vec::new(), &mut Vec::new());
-        trials += 1;
-        cycles += trial.cycles;
-        longest = longest.max(trial.cycles);
-        bounds += trial.steady.iter().filter(|((_, _, r), holds)| *r > 1 && **holds).count();
+        found.say(policy, "bodies");
+        assert!(found.bounds > found.trials && found.longest > 500);
     }
-    println!("{trials} bodies, {cycles} cycles, up to {longest} each, {bounds} bounds of two and more");
-    assert!(bounds > trials && longest > 500);
 }
 
 /// Two actions, two levels, all times up to 2 by the table rule, all deadlines, all cycles up to 5.
@@ -228,7 +277,7 @@ fn all_of_two_actions() {
             rows.push(([a0, a1], [w0, w1]));
         }
     }
-    let (mut trials, mut cycles) = (0, 0);
+    let mut found = Policy::BOTH.map(|_| Found::default());
     for (one, other) in rows.iter().flat_map(|one| rows.iter().map(move |other| (one, other))) {
         for cycle in 1..=5 {
             for deadlines in (0..=cycle).flat_map(|first| (0..=cycle).map(move |second| vec![first, second])) {
@@ -243,24 +292,24 @@ fn all_of_two_actions() {
                         worst: [one.1, other.1].concat(),
                         ..Sketch::default()
                     };
-                    if let Some(mut trial) = Trial::new(&sketch) {
-                        trial.all_cycles(&mut Vec::new(), &mut Vec::new());
-                        trials += 1;
-                        cycles += trial.cycles;
+                    for (policy, found) in Policy::BOTH.into_iter().zip(&mut found) {
+                        Trial::new(&sketch, policy).into_iter().for_each(|trial| found.add(trial));
                     }
                 }
             }
         }
     }
-    println!("{trials} profiles, {cycles} cycles");
-    assert!(trials > 10_000);
+    for (policy, found) in Policy::BOTH.into_iter().zip(&found) {
+        println!("{}: {} profiles, {} cycles", policy.year(), found.trials, found.cycles);
+        assert!(found.trials > 10_000);
+    }
 }
 
 /// Chains longer than the longest coast, times 0 and 1, drawn durations: no coast is longer than 16.
 #[test]
 fn long_chains() {
     let mut draw = Draw::new(16);
-    let mut full = 0;
+    let mut full = [0; 2];
     for _ in 0..60 {
         let n = draw.between(17, 22) as usize;
         let mut sketch = Sketch {
@@ -278,13 +327,14 @@ fn long_chains() {
             (sketch.worst[2 * a], sketch.worst[2 * a + 1], sketch.averages[2 * a + 1]) = (draw.between(0, 1), 1, top);
         }
         sketch.cycle = draw.between(1, 7);
-        if let Some(mut trial) = Trial::new(&sketch) {
+        for (policy, full) in Policy::BOTH.into_iter().zip(&mut full) {
+            let Some(mut trial) = Trial::new(&sketch, policy) else { continue };
             for _ in 0..20 {
                 trial.drawn_cycle(&mut draw);
             }
-            full += trial.steady.iter().filter(|((_, _, r), holds)| *r == LONGEST_COAST && **holds).count();
+            *full += trial.steady.iter().filter(|((_, _, r), holds)| *r == LONGEST_COAST && **holds).count();
         }
     }
-    println!("{full} bounds of sixteen");
-    assert!(full > 20);
+    println!("{full:?} bounds of sixteen");
+    assert!(full.iter().all(|&full| full > 20));
 }

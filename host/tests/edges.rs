@@ -3,8 +3,9 @@
 mod common;
 
 use nyokazerubi_host::calls::{
-    refused, Body, BodyDried, BodyRun, BodyTables, Calls, Counts, Dried, Line, Opened, Reading, Refused, Run, Tables,
-    Totals, ABSENT_LONG, LAST_CLOCK, LONGEST_COAST, LONGEST_TIME, MOST_RECORDS, MOST_REPEATS,
+    refused, Body, BodyDried, BodyRun, BodyTables, Calls, Counts, Dried, Given, Line, Opened, Reading, Refused, Run,
+    Tables, Totals, ABSENT_LONG, LAST_CLOCK, LONGEST_COAST, LONGEST_TIME, MOST_RECORDS, MOST_REPEATS, POLICY_2005,
+    POLICY_2008,
 };
 use nyokazerubi_host::draw::{big_endian, Sketch};
 
@@ -12,6 +13,16 @@ fn on_all_sides(test: fn(&dyn Calls)) {
     for (name, calls) in common::sides() {
         println!("{name}");
         test(&*calls);
+    }
+}
+
+/// By each policy.
+fn by_both(test: fn(&dyn Calls, u32)) {
+    for (name, calls) in common::sides() {
+        for policy in common::POLICIES {
+            println!("{name} by {policy}");
+            test(&*calls, policy);
+        }
     }
 }
 
@@ -45,11 +56,11 @@ fn refusal(calls: &dyn Calls, image: &[u8]) -> Refused {
         calls.check(image).err(),
         calls.read(image, &mut [], &mut [], &mut [], &mut []).err(),
         calls.lookup_refusal(image, 0).err(),
-        calls.plan(image, &mut [], &mut [], &mut [], &mut []).err(),
-        calls.dry_frame(image, &[], &mut [], &mut [], &mut []).err(),
-        calls.open_recording(image, 1, &mut [], &mut [], &mut [], &mut []).err(),
-        calls.plan_body(image, 0, &mut [], &mut [], &mut []).err(),
-        calls.body_dry_frame(image, 0, &[], &mut [], &mut [], &mut []).err(),
+        calls.plan(image, 0, &mut [], &mut [], &mut [], &mut []).err(),
+        calls.dry_frame(image, 0, &[], &mut [], &mut [], &mut []).err(),
+        calls.open_recording(image, 0, 1, &mut [], &mut [], &mut [], &mut []).err(),
+        calls.plan_body(image, 0, 0, &mut [], &mut [], &mut []).err(),
+        calls.body_dry_frame(image, 0, 0, &[], &mut [], &mut [], &mut []).err(),
         calls.refresh(image, &[0], &mut []).err(),
         reading,
     ];
@@ -228,12 +239,13 @@ fn first_fault_of_a_trace() {
 /// Orders of 64 actions where each names all before it, numbered up and down, and where nothing is named.
 #[test]
 fn dense_orders() {
-    on_all_sides(|calls| {
+    by_both(|calls, policy| {
         let up: Vec<u64> = (0..64).map(|a| (1u64 << a) - 1).collect();
         let down: Vec<u64> = up.iter().rev().map(|mask| mask.reverse_bits()).collect();
         let mut order = [0; 64];
-        let plan =
-            |image: &[u8], order: &mut [u8]| calls.plan(image, order, &mut [0; 512], &mut [0; 512], &mut [0; 8192]);
+        let plan = |image: &[u8], order: &mut [u8]| {
+            calls.plan(image, policy, order, &mut [0; 512], &mut [0; 512], &mut [0; 8192])
+        };
         for (masks, first, last) in [(up, 0, 63), (down, 63, 0), (vec![0; 64], 0, 63)] {
             let image = full(masks.clone(), LONGEST_TIME, LONGEST_TIME, 64 * LONGEST_TIME).image();
             assert_eq!(plan(&image, &mut order), Ok(Counts { n: 64, levels: 8, cycle: 64 * LONGEST_TIME }));
@@ -251,14 +263,14 @@ fn dense_orders() {
 /// The lowest limits and coast bounds that there are: nothing wraps.
 #[test]
 fn lowest_limits() {
-    on_all_sides(|calls| {
+    by_both(|calls, policy| {
         let masks = (0..64).map(|a| if a == 0 { 0 } else { 1 << (a - 1) }).collect();
         let mut sketch = full(masks, 0, 0, 1);
         for cell in (0..512).filter(|cell| cell % 8 > 0) {
             (sketch.averages[cell], sketch.worst[cell]) = (LONGEST_TIME, LONGEST_TIME);
         }
         let (mut limits, mut bounds) = ([0; 512], [0; 8192]);
-        let answer = calls.plan(&sketch.image(), &mut [0; 64], &mut limits, &mut [0; 512], &mut bounds);
+        let answer = calls.plan(&sketch.image(), policy, &mut [0; 64], &mut limits, &mut [0; 512], &mut bounds);
         assert_eq!(answer, Ok(Counts { n: 64, levels: 8, cycle: 1 }));
         assert_eq!(limits[..2], [1, 1 - 64 * LONGEST_TIME as i32]);
         // The limit falls towards the start, so the first is the least: 64 actions left.
@@ -364,10 +376,10 @@ fn bounds_that_rise_again() {
 /// A recording is judged by its length: whole frames, and no more than 4,096. The image's refusals come first, a lack of room last.
 #[test]
 fn lengths_of_a_recording() {
-    on_all_sides(|calls| {
+    by_both(|calls, policy| {
         let open = |image: &[u8], bytes: usize, rooms: [usize; 4]| {
             let mut lent = (vec![7; rooms[0]], vec![7; rooms[1]], vec![7; rooms[2]], vec![7; rooms[3]]);
-            let answer = calls.open_recording(image, bytes, &mut lent.0, &mut lent.1, &mut lent.2, &mut lent.3);
+            let answer = calls.open_recording(image, policy, bytes, &mut lent.0, &mut lent.1, &mut lent.2, &mut lent.3);
             (answer, lent)
         };
         let (image, rooms) = (common::three(20), [4, 7, 7, 97]);
@@ -375,7 +387,7 @@ fn lengths_of_a_recording() {
             let (answer, lent) = open(&image, 24 * frames, rooms);
             assert_eq!(answer, Ok(Opened { n: 3, levels: 2, frame_bytes: 24, frames }));
             // The tables are the plan's, and their tails are kept.
-            let plan = common::plan(calls, &image);
+            let plan = common::plan(calls, &image, policy);
             assert_eq!((&lent.0[..3], &lent.1[..6]), (&plan.order[..], &plan.limits[..]));
             assert_eq!((&lent.2[..6], &lent.3[..96]), (&plan.worst[..], &plan.bounds[..]));
             assert_eq!((lent.0[3], lent.1[6], lent.2[6], lent.3[96]), (7, 7, 7, 7));
@@ -395,6 +407,37 @@ fn lengths_of_a_recording() {
             rooms[place] = needed - 1;
             assert_eq!([refused(&image, 48, rooms), refused(&image, 49, rooms)], [17, 14]);
             assert_eq!([refused(&common::three(11), 49, rooms), refused(&image[..5], 49, rooms)], [9, 1]);
+        }
+    });
+}
+
+/// A year that is none is refused with no action after 9, and before a lack of room, a recording's length and a duration; nothing is written.
+#[test]
+fn a_policy_that_is_none() {
+    on_all_sides(|calls| {
+        let (image, unfit) = (common::three(20), common::three(11));
+        let number = |image: &[u8], year: u32, room: usize| {
+            let (mut order, mut limits, mut worst, mut bounds) = ([7; 64], [7; 512], [7; 512], [7; 8192]);
+            let (mut given, mut marks) = ([7; 64], [7; 64]);
+            let durations = [LONGEST_TIME + 1; 6];
+            let answers = [
+                calls.plan(image, year, &mut order[..room], &mut limits, &mut worst, &mut bounds).err(),
+                calls.dry_frame(image, year, &durations, &mut order[..room], &mut given, &mut marks).err(),
+                calls.open_recording(image, year, 1, &mut order[..room], &mut limits, &mut worst, &mut bounds).err(),
+            ];
+            assert_eq!((order, given, marks), ([7; 64], [7; 64], [7; 64]));
+            assert!(limits == [7; 512] && worst == [7; 512] && bounds == [7; 8192]);
+            answers.map(|refused| refused.expect("a refusal"))
+        };
+        for year in [0, 1, 8, 2004, 2006, 2007, 2009, 1 << 16 | 2005, 1 << 16 | 2008, 1 << 31 | 2008, u32::MAX] {
+            assert_eq!(number(&unfit, year, 0), [refused::UNFIT; 3], "{year}");
+            assert_eq!(number(&image, year, 0), [refused::POLICY; 3], "{year}");
+            assert_eq!(number(&image, year, 64), [refused::POLICY; 3], "{year}");
+            assert_eq!(number(&image[..77], year, 0), [refused::LENGTH; 3], "{year}");
+        }
+        for policy in common::POLICIES {
+            assert_eq!(number(&unfit, policy, 0), [refused::UNFIT; 3], "{policy}");
+            assert_eq!(number(&image, policy, 0), [refused::ROOM, refused::ROOM, refused::TRACE], "{policy}");
         }
     });
 }
@@ -465,7 +508,7 @@ fn refusals_of_a_frame_in_order() {
 #[test]
 fn long_entries() {
     on_all_sides(|calls| {
-        let plan = common::plan(calls, &common::three(20));
+        let plan = common::plan(calls, &common::three(20), POLICY_2008);
         let rehearse = |durations: &[u32]| {
             calls.rehearse(&mut Totals::default(), 3, 2, plan.tables(), &big_endian(durations)).map(|line| line.end)
         };
@@ -537,25 +580,31 @@ fn body_of_three(cycle: u32, deadlines: [u32; 3]) -> Vec<u8> {
     .image()
 }
 
-/// The refusals of planning a body and of its dry run in their order: the image's own but 9, repeats, 9, room, duration. Nothing is written with one.
+/// The refusals of planning a body and of its dry run in their order: the image's own but 9, repeats, 9, policy, room, duration. Nothing is written
+/// with one.
 #[test]
 fn refusals_of_a_body_in_order() {
-    on_all_sides(|calls| {
-        let plan = |image: &[u8], repeats: u32, rooms: [usize; 3]| {
+    by_both(|calls, policy| {
+        let plan_by = |image: &[u8], repeats: u32, policy: u32, rooms: [usize; 3]| {
             let mut lent = (vec![7; rooms[0]], vec![7; rooms[1]], vec![7; rooms[2]]);
-            let answer = calls.plan_body(image, repeats, &mut lent.0, &mut lent.1, &mut lent.2);
+            let answer = calls.plan_body(image, repeats, policy, &mut lent.0, &mut lent.1, &mut lent.2);
             let untouched = lent == (vec![7; rooms[0]], vec![7; rooms[1]], vec![7; rooms[2]]);
             assert_eq!(answer.is_err(), untouched);
             common::number(answer)
         };
-        let frame = |image: &[u8], repeats: u32, entries: usize, rooms: [usize; 3]| {
+        let frame_by = |image: &[u8], repeats: u32, policy: u32, entries: usize, rooms: [usize; 3]| {
             let mut durations = vec![1; entries];
             durations[11.min(entries - 1)] = LONGEST_TIME + 1;
             let mut lent = (vec![7; rooms[0]], vec![7; rooms[1]], vec![7; rooms[2]]);
-            let answer = calls.body_dry_frame(image, repeats, &durations, &mut lent.0, &mut lent.1, &mut lent.2);
+            let answer =
+                calls.body_dry_frame(image, repeats, policy, &durations, &mut lent.0, &mut lent.1, &mut lent.2);
             assert_eq!(lent, (vec![7; rooms[0]], vec![7; rooms[1]], vec![7; rooms[2]]));
             assert!(answer.is_err());
             common::number(answer)
+        };
+        let plan = |image: &[u8], repeats: u32, rooms: [usize; 3]| plan_by(image, repeats, policy, rooms);
+        let frame = |image: &[u8], repeats: u32, entries: usize, rooms: [usize; 3]| {
+            frame_by(image, repeats, policy, entries, rooms)
         };
         let (whole, none) = ([3, 24, 6], [0; 3]);
         let same = body_of_three(24, [0, 24, 0]);
@@ -576,6 +625,13 @@ fn refusals_of_a_body_in_order() {
         let tight = body_of_three(23, [23, 0, 0]);
         assert_eq!([plan(&tight, 1, whole), plan(&tight, 2, none), frame(&tight, 2, 1, none)], [0, 9, 9]);
         assert_eq!([plan(&same, 3, none), frame(&same, MOST_REPEATS, 1, none)], [9, 9]);
+        // 20 after 9 and before 17.
+        for year in [0, 2004, 2006, 2007, 2009, 1 << 16 | policy, u32::MAX] {
+            assert_eq!([plan_by(&same, 0, year, none), frame_by(&same, 0, year, 1, none)], [19, 19]);
+            assert_eq!([plan_by(&tight, 2, year, none), frame_by(&tight, 2, year, 1, none)], [9, 9]);
+            assert_eq!([plan_by(&same, 2, year, none), plan_by(&same, 2, year, whole)], [20, 20]);
+            assert_eq!([frame_by(&same, 2, year, 1, none), frame_by(&same, 2, year, 12, [3, 6, 6])], [20, 20]);
+        }
         for place in 0..3 {
             let (mut rooms, mut frames) = (whole, [3, 6, 6]);
             rooms[place] -= 1;
@@ -584,10 +640,16 @@ fn refusals_of_a_body_in_order() {
         }
         assert_eq!([frame(&same, 2, 11, [3, 6, 6]), frame(&same, 2, 12, [3, 6, 6])], [17, 16]);
         let mut lent = (vec![7; 4], vec![7; 25], vec![7; 7]);
-        let body = calls.plan_body(&same, 2, &mut lent.0, &mut lent.1, &mut lent.2);
-        assert_eq!(body, Ok(Body { n: 3, levels: 2, cycle: 24, repeats: 2 }));
+        let body = calls.plan_body(&same, 2, policy, &mut lent.0, &mut lent.1, &mut lent.2);
+        assert_eq!(body, Ok(Body { n: 3, levels: 2, cycle: 24, repeats: 2, policy }));
         assert_eq!(lent.0, [0, 1, 2, 7]);
-        let sums = [[[6, 12, 12, 12], [18, 12, 20, 24]], [[4, 8, 8, 8], [12, 8, 14, 16]], [[2, 4, 4, 4], [6, 4, 8, 8]]];
+        // At level 1, by 2008 a mixed sum, by 2005 the safe one.
+        let third = if policy == POLICY_2008 { [20, 14, 8] } else { [16, 12, 8] };
+        let sums = [
+            [[6, 12, 12, 12], [18, 12, third[0], 24]],
+            [[4, 8, 8, 8], [12, 8, third[1], 16]],
+            [[2, 4, 4, 4], [6, 4, third[2], 8]],
+        ];
         assert_eq!(lent.1[..24], sums.concat().concat());
         assert_eq!(lent.1[24], 7);
         assert_eq!(lent.2, [4, 8, 4, 8, 4, 8, 7]);
@@ -597,8 +659,8 @@ fn refusals_of_a_body_in_order() {
 /// Limits and coast bounds: what is refused, and in which order; the longest sums that there may be, of a plan and of no plan.
 #[test]
 fn limits_of_a_body() {
-    on_all_sides(|calls| {
-        let body = Body { n: 2, levels: 3, cycle: 9, repeats: 4 };
+    by_both(|calls, policy| {
+        let body = Body { n: 2, levels: 3, cycle: 9, repeats: 4, policy };
         let limit = |body: Body, room: usize, position: usize, level: usize| {
             common::number(calls.body_limit(body, &[1; 24][..room], position, level))
         };
@@ -622,6 +684,12 @@ fn limits_of_a_body() {
             let out = Body { repeats, ..body };
             assert_eq!([limit(out, 0, 99, 99), bound(out, [0, 0], 99, 99, 99)], [19, 19], "{out:?}");
         }
+        for policy in [0, 2004, 2006, 2007, 2009, 1 << 16 | policy, u32::MAX] {
+            let out = Body { policy, ..body };
+            assert_eq!([limit(out, 0, 99, 99), bound(out, [0, 0], 99, 99, 99)], [20, 20], "{out:?}");
+            let out = Body { repeats: 0, ..out };
+            assert_eq!([limit(out, 0, 99, 99), bound(out, [0, 0], 99, 99, 99)], [19, 19], "{out:?}");
+        }
         assert_eq!([limit(body, 23, 99, 99), limit(body, 24, 7, 2)], [17, 0]);
         assert_eq!([bound(body, [23, 6], 99, 99, 99), bound(body, [24, 5], 99, 99, 99)], [17, 17]);
         for (position, level) in [(8, 0), (0, 3), (usize::MAX, 0), (0, usize::MAX), (1 << 32, 0), (0, 1 << 32)] {
@@ -636,7 +704,7 @@ fn limits_of_a_body() {
         assert_eq!(calls.body_bound(body, &[1; 24], &[1; 6], 5, 0, 4), Ok(ABSENT_LONG));
 
         // Entries of all bits: at the first position 1,619 bodies come after.
-        let most = Body { n: 64, levels: 8, cycle: 1, repeats: MOST_REPEATS };
+        let most = Body { n: 64, levels: 8, cycle: 1, repeats: MOST_REPEATS, policy };
         let all = i64::from(u32::MAX);
         let (summaries, worst) = (vec![u32::MAX; 2048], vec![u32::MAX; 512]);
         assert_eq!(calls.body_limit(most, &summaries, 0, 7), Ok(1 - 1620 * all));
@@ -652,7 +720,7 @@ fn limits_of_a_body() {
         assert_eq!(calls.body_bound(most, &summaries, &worst, 103_665, 7, 15), Ok(1 - all));
         assert_eq!(calls.body_bound(most, &summaries, &worst, 103_665, 7, 16), Ok(ABSENT_LONG));
         // The most that is spent before the last: 15 bodies of one action.
-        let single = Body { n: 1, levels: 1, cycle: 1, repeats: MOST_REPEATS };
+        let single = Body { n: 1, levels: 1, cycle: 1, repeats: MOST_REPEATS, policy };
         let [spent, none] =
             [[0, 0, 0, u32::MAX], [0; 4]].map(|summaries| calls.body_bound(single, &summaries, &[u32::MAX], 0, 0, 16));
         assert_eq!([spent, none], [Ok(1 - 15 * all), Ok(1)]);
@@ -670,9 +738,9 @@ fn left_to_coast(calls: &dyn Calls, body: Body, summaries: &[u32], worst: &[u32]
 /// On tables of anyone the two readings of a coast may differ: at the top level, where it is as long as there may be, the greater bound counts.
 #[test]
 fn the_longest_coast_of_a_body_is_read_twice() {
-    on_all_sides(|calls| {
+    by_both(|calls, policy| {
         for (n, repeats) in [(20, 1), (4, 5), (1, 20), (3, 1), (1, 3), (5, 2), (64, MOST_REPEATS)] {
-            let body = Body { n: n as u32, levels: 1, cycle: 1000, repeats };
+            let body = Body { n: n as u32, levels: 1, cycle: 1000, repeats, policy };
             let longest = LONGEST_COAST.min(n * repeats as usize);
             // V is 1 all over, so that by its ends a coast spends 1 for each body that it passes; or V falls by 7 with each place.
             let entries = |worst: &dyn Fn(usize) -> usize| -> Vec<u32> {
@@ -712,8 +780,8 @@ fn the_longest_coast_of_a_body_is_read_twice() {
 /// At a level below the top, and where a coast could be longer, it is read at each position alone.
 #[test]
 fn other_coasts_of_a_body_are_read_once() {
-    on_all_sides(|calls| {
-        let body = Body { n: 20, levels: 2, cycle: 100, repeats: 1 };
+    by_both(|calls, policy| {
+        let body = Body { n: 20, levels: 2, cycle: 100, repeats: 1, policy };
         // The top level never fits.
         let summaries = [[0, 0, 0, 0], [0, 0, 200, 0]].concat().repeat(20);
         let worst = [7; 40];
@@ -728,10 +796,10 @@ fn other_coasts_of_a_body_are_read_once() {
 /// On tables of anyone the least of a coast may be at its start: the bound is then that of every longer coast too, by its ends as well.
 #[test]
 fn bounds_of_a_body_never_rise() {
-    on_all_sides(|calls| {
-        // M by place: 9, 0, 5; V is what the worst times say.
+    by_both(|calls, policy| {
+        // The third number by place: 9, 0, 5; V is what the worst times say.
         let (summaries, worst) = ([0, 0, 9, 3, 0, 0, 0, 2, 0, 0, 5, 1], [1, 1, 1]);
-        let body = Body { n: 3, levels: 1, cycle: 20, repeats: 1 };
+        let body = Body { n: 3, levels: 1, cycle: 20, repeats: 1, policy };
         let limits = [0, 1, 2].map(|position| calls.body_limit(body, &summaries, position, 0));
         assert_eq!(limits, [Ok(11), Ok(20), Ok(15)]);
         let bounds = [1, 2, 3].map(|length| calls.body_bound(body, &summaries, &worst, 0, 0, length));
@@ -749,6 +817,65 @@ fn bounds_of_a_body_never_rise() {
     });
 }
 
+/// What the four numbers come to at a position, with two bodies after it, one and none: by 2005 the averages are a test of their own, of the last body too.
+#[test]
+fn a_body_by_each_policy() {
+    on_all_sides(|calls| {
+        for (policy, entry, limits) in [
+            (POLICY_2008, [7, 2, 3, 0], [83, 90, 97]),
+            (POLICY_2005, [7, 2, 3, 0], [79, 86, 93]),
+            (POLICY_2008, [2, 7, 3, 0], [83, 90, 97]),
+            (POLICY_2005, [2, 7, 3, 0], [83, 90, 97]),
+            (POLICY_2008, [1, 1, 9, 0], [89, 90, 91]),
+            (POLICY_2005, [1, 1, 9, 0], [89, 90, 91]),
+            (POLICY_2008, [9, 0, 8, 0], [74, 83, 92]),
+            (POLICY_2005, [9, 0, 8, 0], [73, 82, 91]),
+        ] {
+            let body = Body { n: 1, levels: 1, cycle: 100, repeats: 3, policy };
+            let found = [0, 1, 2].map(|position| calls.body_limit(body, &entry, position, 0));
+            assert_eq!(found, limits.map(Ok), "{policy} {entry:?}");
+            // At a limit the level fits, and after it all is late.
+            for (position, limit) in limits.into_iter().enumerate() {
+                for (clock, late) in [(limit, false), (limit + 1, true)] {
+                    let tables = BodyTables { order: &[0], summaries: &entry, worst_by_position: &[0] };
+                    let (position, clock) = (position as u32, clock as u64);
+                    let mut run = BodyRun { body, clock, position, ..BodyRun::default() };
+                    assert_eq!(
+                        calls.body_ask(&mut run, &tables).map(|given| given.late),
+                        Ok(late),
+                        "{policy} {entry:?}"
+                    );
+                }
+            }
+        }
+    });
+}
+
+/// A level above that fits within a coast and at neither end keeps it short: of a body, into the next one too, and of a plain cycle.
+#[test]
+fn the_level_above_is_looked_for_at_each_position() {
+    by_both(|calls, policy| {
+        // Level 0 always fits; level 1 up to the limits.
+        let (within, rising) = ([0, 15, 0, 5, 0, 15], [0, 5]);
+        for (n, repeats, third, limits, lefts) in
+            [(3, 1, &within[..], [5, 15, 5], [0, 0, 2, 2]), (1, 3, &rising[..], [11, 13, 15], [2, 1, 2, 2])]
+        {
+            let body = Body { n, levels: 2, cycle: 20, repeats, policy };
+            let lowest = |third: u32| if repeats == 1 { 0 } else { third / 2 };
+            let summaries: Vec<u32> = third.iter().flat_map(|&third| [0, lowest(third), third, 0]).collect();
+            assert_eq!([0, 1, 2].map(|i| calls.body_limit(body, &summaries, i, 1)), limits.map(Ok));
+            let left = |clock: u64| left_to_coast(calls, body, &summaries, &[0; 6][..2 * n as usize], clock);
+            assert_eq!([10, 15, 16, 20].map(left), lefts, "{n} {repeats}");
+        }
+        let (limits, bounds) = ([20, 5, 20, 15, 20, 5], [20; 96]);
+        let left = |clock: u32| {
+            let run = Run { n: 3, levels: 2, clock, ..Run::default() };
+            calls.ask(run, &[0; 3], &limits, &bounds).0.left
+        };
+        assert_eq!([10, 15, 16, 20].map(left), [0, 0, 2, 2]);
+    });
+}
+
 /// Each field of the run record of a body at its last accepted value and one over, asked and reported; a refused start leaves zero actions.
 #[test]
 fn body_run_records() {
@@ -763,7 +890,7 @@ fn body_run_records() {
             answer.err() == Some(refused::TURN) && number == 11
         };
         let of = |body: Body| BodyRun { body, ..BodyRun::default() };
-        let body = Body { n: 20, levels: 3, cycle: 9, repeats: 5 };
+        let body = Body { n: 20, levels: 3, cycle: 9, repeats: 5, policy: POLICY_2005 };
         let still = of(body);
         let runs = BodyRun { running: true, ..still };
         assert!(!refused(still) && !refused(runs));
@@ -778,6 +905,10 @@ fn body_run_records() {
             (of(Body { repeats: 1, ..body }), of(Body { repeats: 0, ..body })),
             // So many that positions would be few in 32 bits.
             (of(body), of(Body { repeats: 1 << 30, ..body })),
+            // A policy is not judged, whatever else is.
+            (of(Body { policy: 2006, ..body }), of(Body { policy: 2006, cycle: 0, ..body })),
+            (of(Body { policy: 0, ..body }), of(Body { policy: 0, repeats: 0, ..body })),
+            (of(Body { policy: u32::MAX, ..body }), of(Body { policy: u32::MAX, n: 0, ..body })),
             (BodyRun { position: 100, ..still }, BodyRun { position: 101, ..still }),
             (BodyRun { position: 99, ..runs }, BodyRun { position: 100, ..runs }),
             (BodyRun { position: 99, ..runs }, BodyRun { position: u32::MAX, ..runs }),
@@ -794,13 +925,44 @@ fn body_run_records() {
             assert!(!refused(good), "{good:?}");
             assert!(refused(bad), "{bad:?}");
         }
-        for (body, number) in [(Body { n: 0, repeats: 0, ..body }, 3), (Body { repeats: 1621, ..body }, 19)] {
+        for (body, number) in [
+            (Body { n: 0, repeats: 0, policy: 0, ..body }, 3),
+            (Body { repeats: 1621, policy: 0, ..body }, 19),
+            (Body { policy: 0, ..body }, 20),
+            (Body { policy: 2006, ..body }, 20),
+        ] {
             let mut run = runs;
             assert_eq!((calls.body_start(&mut run, body), run), (number, BodyRun::default()));
             assert!(refused(run));
         }
         let mut run = BodyRun { clock: u64::MAX, late: true, ..runs };
         assert_eq!((calls.body_start(&mut run, body), run), (0, still));
+    });
+}
+
+/// The policy of a record is not judged: of 2005 it is that, and any other is read as 2008. It stays as it was.
+#[test]
+fn the_policy_of_a_record() {
+    on_all_sides(|calls| {
+        // At the last position 2008 takes off the third number alone, 2005 the average too; before it, 8 + 9 and 9 + 9.
+        let tables = BodyTables { order: &[0], summaries: &[9, 0, 8, 50], worst_by_position: &[50] };
+        for policy in [POLICY_2005, POLICY_2008, 0, 1, 2004, 2006, 2007, 2009, 1 << 16 | 2005, 1 << 31 | 2005, u32::MAX]
+        {
+            let body = Body { n: 1, levels: 1, cycle: 100, repeats: 2, policy };
+            for (position, last) in [(0, [82, 83]), (1, [91, 92])] {
+                let last = if policy == POLICY_2005 { last[0] } else { last[1] };
+                for (clock, late) in [(last, false), (last + 1, true)] {
+                    let before = BodyRun { body, position, clock, ..BodyRun::default() };
+                    let mut run = before;
+                    let given = Given { action: position, level: 0, decided: true, late };
+                    assert_eq!(calls.body_ask(&mut run, &tables), Ok(given), "{before:?}");
+                    assert_eq!(run, BodyRun { running: true, decisions: 1, late, ..before });
+                    assert_eq!(calls.body_report(&mut run, clock as u32 + 7, &[50]), 0);
+                    let ended = BodyRun { position: position + 1, clock: clock + 7, decisions: 1, late, ..before };
+                    assert_eq!(run, ended);
+                }
+            }
+        }
     });
 }
 
@@ -814,7 +976,8 @@ fn refusals_of_a_body_run_in_order() {
             common::number(calls.body_ask(&mut run, &tables))
         };
         let report = |mut run: BodyRun, clock: u32, room: usize| calls.body_report(&mut run, clock, &[0; 2][..room]);
-        let still = BodyRun { clock: 9, body: Body { n: 2, levels: 1, cycle: 9, repeats: 3 }, ..BodyRun::default() };
+        let body = Body { n: 2, levels: 1, cycle: 9, repeats: 3, policy: POLICY_2008 };
+        let still = BodyRun { clock: 9, body, ..BodyRun::default() };
         let runs = BodyRun { running: true, ..still };
         let over = BodyRun { level: 1, ..runs };
         let done = BodyRun { position: 6, ..still };
@@ -833,15 +996,17 @@ fn refusals_of_a_body_run_in_order() {
 /// would take long.
 #[test]
 fn the_longest_body() {
-    for (name, calls) in common::sides().into_iter().filter(|(name, _)| *name != "reference") {
-        println!("{name}");
+    let sides = common::sides();
+    let sides = sides.iter().filter(|(name, _)| *name != "reference");
+    for ((name, calls), policy) in sides.flat_map(|side| common::POLICIES.map(|policy| (side, policy))) {
+        println!("{name} by {policy}");
         let mut sketch = full(vec![0; 64], 0, 1, 64 * MOST_REPEATS);
         (sketch.levels, sketch.averages, sketch.worst) = (1, vec![0; 64], vec![1; 64]);
         let positions = 64 * MOST_REPEATS as usize;
         let (mut order, mut given, mut marks) = (vec![9; 65], vec![9; positions + 1], vec![9; positions + 1]);
         let mut frame = |durations: &[u32]| {
-            let answer =
-                calls.body_dry_frame(&sketch.image(), MOST_REPEATS, durations, &mut order, &mut given, &mut marks);
+            let (image, repeats) = (sketch.image(), MOST_REPEATS);
+            let answer = calls.body_dry_frame(&image, repeats, policy, durations, &mut order, &mut given, &mut marks);
             assert_eq!((given[positions], marks[positions], order[64]), (9, 9, 9));
             (answer, marks[..positions].iter().filter(|&&mark| mark == 1).count())
         };

@@ -63,7 +63,7 @@ fn numbers() {
         .filter(|(name, _)| *name == "ACCEPTED" || name.starts_with("REFUSED_"))
         .map(|(name, number)| (name.to_string(), digits(number)))
         .collect();
-    assert_eq!(of_header.len(), 20);
+    assert_eq!(of_header.len(), 21);
     assert_eq!(of_header, of_rust);
     let (text, rust) = (header(), boundary());
     for name in [
@@ -79,6 +79,8 @@ fn numbers() {
         "LAST_CLOCK",
         "LONGEST_TIME",
         "NO_ACTION",
+        "POLICY_2008",
+        "POLICY_2005",
     ] {
         let in_header = between(&text, &format!("#define NYOKAZERUBI_{name} "), "\n")[0];
         let in_rust = between(&rust, &format!("pub const {name}: "), ";")[0].split_once("= ").expect("a number").1;
@@ -116,7 +118,7 @@ fn sizes() {
             4 * table_entries(n * MOST_REPEATS as usize, levels),
         ]
     };
-    assert_eq!([body(9, 8), body(64, 8)], [[2035, 466_560], [14_190, 3_317_760]]);
+    assert_eq!([body(9, 8), body(64, 8)], [[2043, 466_560], [14_198, 3_317_760]]);
 }
 
 /// The answers of the calls that take an image or write one, which have the number and the action of a refusal first, and the records of a body
@@ -132,13 +134,13 @@ fn layout() {
     assert_eq!([size_of::<Opened>(), offset_of!(Opened, n)], [40, 8]);
     assert_eq!([size_of::<Reading>(), offset_of!(Reading, spent), offset_of!(Reading, ratio)], [24, 8, 16]);
     assert_eq!([size_of::<Refreshed>(), offset_of!(Refreshed, bytes)], [16, 8]);
-    assert_eq!([size_of::<Body>(), size_of::<BodyPlanned>(), size_of::<Limited>()], [16, 24, 16]);
-    assert_eq!([size_of::<BodyRun>(), size_of::<BodyFramed>()], [40, 32]);
-    // The run record has no padding: each field begins where the one before it ends.
-    assert_eq!([offset_of!(BodyRun, body), offset_of!(BodyRun, clock), offset_of!(BodyRun, level)], [0, 16, 24]);
-    assert_eq!([offset_of!(BodyRun, position), offset_of!(BodyRun, decisions)], [28, 32]);
-    assert_eq!([offset_of!(BodyRun, left), offset_of!(BodyRun, running)], [36, 37]);
-    assert_eq!([offset_of!(BodyRun, overrun), offset_of!(BodyRun, late)], [38, 39]);
+    assert_eq!([size_of::<Body>(), size_of::<BodyPlanned>(), size_of::<Limited>()], [20, 28, 16]);
+    assert_eq!([size_of::<BodyRun>(), size_of::<BodyFramed>()], [48, 32]);
+    // The run record has no padding but its tail: each field begins where the one before it ends.
+    assert_eq!([offset_of!(BodyRun, body), offset_of!(BodyRun, level), offset_of!(BodyRun, clock)], [0, 20, 24]);
+    assert_eq!([offset_of!(BodyRun, position), offset_of!(BodyRun, left), offset_of!(BodyRun, running)], [32, 36, 37]);
+    assert_eq!([offset_of!(BodyRun, overrun), offset_of!(BodyRun, late), offset_of!(BodyRun, decisions)], [38, 39, 40]);
+    assert_eq!([offset_of!(Body, repeats), offset_of!(Body, policy), offset_of!(BodyPlanned, body)], [12, 16, 8]);
     assert_eq!(
         [offset_of!(Limited, limit), offset_of!(BodyFramed, end), offset_of!(BodyFramed, positions)],
         [8, 16, 24]

@@ -6,7 +6,7 @@ use common::{plan, Plan};
 use nyokazerubi_host::calls::{refused, Answer, Calls, Counts, Dried, Line, Reading, Reference, Totals, LAST_CLOCK};
 use nyokazerubi_host::draw::{big_endian, Draw, Size, PACES};
 use nyokazerubi_host::product::Product;
-use nyokazerubi_host::reference::{accept, Planned};
+use nyokazerubi_host::reference::{accept, Planned, Policy};
 
 const SIZES: [Size; 4] = [Size::Tiny, Size::Small, Size::Large, Size::Extreme];
 
@@ -86,12 +86,50 @@ fn limits_of_level_0() {
         let sketch = draw.profile(Size::Small);
         let profile = common::profile(&sketch);
         let planned = Planned::of(&profile);
-        let limits = planned.limits();
-        assert!(limits.iter().all(|row| row.windows(2).all(|pair| pair[1] <= pair[0])));
-        assert_eq!(limits[0][0] < 0, profile.refusal() == Some(refused::UNFIT));
-        *(if limits[0][0] < 0 { &mut unfit } else { &mut fit }) += 1;
+        for policy in Policy::BOTH {
+            let limits = planned.limits(policy);
+            assert!(limits.iter().all(|row| row.windows(2).all(|pair| pair[1] <= pair[0])));
+            assert_eq!(limits[0][0] < 0, profile.refusal() == Some(refused::UNFIT));
+            *(if limits[0][0] < 0 { &mut unfit } else { &mut fit }) += 1;
+        }
     }
     assert!(fit > 100 && unfit > 100);
+}
+
+/// By 2005 a level fits exactly if its average sums and its safe sums each meet every deadline to come; by 2008 their mixed ones do. So no limit of
+/// 2005 is lower, and at level 0 they are the same. Along the order those of 2008 never fall, those of 2005 may.
+#[test]
+fn two_tests_apart() {
+    let mut draw = Draw::new(17);
+    let (mut higher, mut falls) = (0, 0);
+    for image in accepted(&mut draw, 400) {
+        let planned = Planned::of(&accept(&image).expect("accepted"));
+        for calls in [&Reference as &dyn Calls, &Product] {
+            let [mixed, apart] = common::POLICIES.map(|policy| plan(calls, &image, policy));
+            assert_eq!((&mixed.order, &mixed.worst), (&apart.order, &apart.worst));
+            for cell in 0..planned.n * planned.levels {
+                let (i, q) = (cell / planned.levels, cell % planned.levels);
+                let meets =
+                    |t: i64, sum: &dyn Fn(usize) -> i64| (i..planned.n).all(|k| t + sum(k) <= planned.deadline[k]);
+                let fits = |t: i64| meets(t, &|k| planned.average(i, k, q)) && meets(t, &|k| planned.safe(i, k, q));
+                let limit = i64::from(apart.limits[cell]);
+                assert_eq!([fits(limit), fits(limit + 1)], [true, false], "{i} {q}");
+                let limit = i64::from(mixed.limits[cell]);
+                let mixes = |t: i64| meets(t, &|k| planned.mixed(i, k, q));
+                assert_eq!([mixes(limit), mixes(limit + 1)], [true, false], "{i} {q}");
+                assert!(
+                    mixed.limits[cell] <= apart.limits[cell] && (q > 0 || mixed.limits[cell] == apart.limits[cell])
+                );
+                higher += usize::from(mixed.limits[cell] < apart.limits[cell]);
+                if let Some(after) = mixed.limits.get(cell + planned.levels) {
+                    assert!(mixed.limits[cell] <= *after);
+                    falls += usize::from(apart.limits[cell] > apart.limits[cell + planned.levels]);
+                }
+            }
+        }
+    }
+    println!("{higher} limits higher than those of 2008, {falls} above the next");
+    assert!(higher > 1000 && falls > 100, "{higher} {falls}");
 }
 
 /// A refreshed image is accepted, and differs in averages only.
@@ -144,7 +182,7 @@ fn totals_of_two_recordings_add_up() {
     let mut draw = Draw::new(15);
     let mut all = Totals::default();
     for image in accepted(&mut draw, 300) {
-        let plan = plan(&Reference, &image);
+        let plan = plan(&Reference, &image, draw.policy());
         let counts = [draw.index(12), draw.index(12)];
         let [first, second] = counts.map(|count| drawn_frames(&mut draw, &plan, count));
         for calls in [&Reference as &dyn Calls, &Product] {
@@ -167,7 +205,7 @@ fn a_line_is_a_dry_run() {
     let mut draw = Draw::new(16);
     let (mut in_time, mut coasted) = (0, 0);
     for image in accepted(&mut draw, 400) {
-        let plan = plan(&Reference, &image);
+        let plan = plan(&Reference, &image, draw.policy());
         let Counts { n, levels, .. } = plan.counts;
         let deadlines = Planned::of(&accept(&image).expect("accepted")).deadline;
         for durations in drawn_frames(&mut draw, &plan, 12) {

@@ -1,15 +1,16 @@
 //! A body repeated: all sides against the unrolled profile, whose order, limits, coast bounds and cycles are those of any profile; repeated once it
-//! is the plain cycle; summaries join.
+//! is the plain cycle; summaries join. By both policies.
 
 mod common;
 
 use common::body_plan;
 use nyokazerubi_host::calls::{
     refused, BodyDried, BodyRun, BodyTables, Calls, Counts, Dried, ABSENT_BOUND, ABSENT_LONG, LONGEST_COAST,
+    POLICY_2008,
 };
 use nyokazerubi_host::draw::{Draw, Pace, Size, PACES};
 use nyokazerubi_host::reference::{
-    accept_but_unfit, asked, Limits, Longest, Planned, Profile, Summary, Sums, Unrolled,
+    accept_but_unfit, asked, Limits, Longest, Planned, Policy, Profile, Summary, Sums, Unrolled,
 };
 use nyokazerubi_host::text::BodyPlan;
 
@@ -22,7 +23,7 @@ fn accepted(draw: &mut Draw, count: usize, most: usize) -> Vec<(Vec<u8>, u32, Pr
         let image = draw.body_image(size, repeats);
         let Ok(profile) = accept_but_unfit(&image) else { continue };
         let few = profile.n * repeats as usize <= most;
-        if few && BodyPlan::of(&nyokazerubi_host::calls::Reference, &image, repeats).is_ok() {
+        if few && BodyPlan::of(&nyokazerubi_host::calls::Reference, &image, repeats, POLICY_2008).is_ok() {
             bodies.push((image, repeats, profile));
         }
     }
@@ -75,7 +76,8 @@ fn cycle_is_unrolled(calls: &dyn Calls, image: &[u8], plan: &BodyPlan, unrolled:
     let wanted = unrolled.cycle(durations);
     let positions = plan.positions();
     let (mut order, mut given, mut marks) = (vec![0; plan.body.n as usize], vec![9; positions], vec![9; positions]);
-    let dried = calls.body_dry_frame(image, plan.body.repeats, durations, &mut order, &mut given, &mut marks);
+    let (repeats, policy) = (plan.body.repeats, plan.body.policy);
+    let dried = calls.body_dry_frame(image, repeats, policy, durations, &mut order, &mut given, &mut marks);
     assert_eq!((dried, given, marks), (Ok(wanted.0), wanted.1.clone(), wanted.2.clone()));
     assert_eq!(order, plan.order[..order.len()]);
     assert_eq!(by_turns(calls, plan, durations), wanted);
@@ -84,32 +86,42 @@ fn cycle_is_unrolled(calls: &dyn Calls, image: &[u8], plan: &BodyPlan, unrolled:
 #[test]
 fn unrolled() {
     let mut draw = Draw::new(21);
-    let (mut coasted, mut overrun, mut late) = (0, 0, 0);
     let (bodies, sides) = (accepted(&mut draw, 250, 40), common::sides());
-    for (image, repeats, profile) in &bodies {
-        let unrolled = Unrolled::of(profile, *repeats as usize);
-        let worst: Vec<u32> = unrolled.planned.worst.iter().flatten().map(|&time| time as u32).collect();
-        let cycles: Vec<Vec<u32>> =
-            PACES.iter().filter(|&&pace| pace != Pace::Absent).map(|&pace| draw.durations(&worst, pace)).collect();
-        for (_, calls) in &sides {
-            let plan = body_plan(&**calls, image, *repeats);
-            plan_is_unrolled(&**calls, &plan, &unrolled);
+    for policy in Policy::BOTH {
+        let (mut coasted, mut overrun, mut late, mut falls) = (0, 0, 0, 0);
+        for (image, repeats, profile) in &bodies {
+            let unrolled = Unrolled::of(profile, *repeats as usize, policy);
+            let worst: Vec<u32> = unrolled.planned.worst.iter().flatten().map(|&time| time as u32).collect();
+            let cycles: Vec<Vec<u32>> =
+                PACES.iter().filter(|&&pace| pace != Pace::Absent).map(|&pace| draw.durations(&worst, pace)).collect();
+            for (_, calls) in &sides {
+                let plan = body_plan(&**calls, image, *repeats, policy.year());
+                assert_eq!(plan.body.policy, policy.year());
+                plan_is_unrolled(&**calls, &plan, &unrolled);
+                for durations in &cycles {
+                    cycle_is_unrolled(&**calls, image, &plan, &unrolled, durations);
+                }
+            }
             for durations in &cycles {
-                cycle_is_unrolled(&**calls, image, &plan, &unrolled, durations);
+                let (cycle, given, marks) = unrolled.cycle(durations);
+                coasted += marks.iter().filter(|&&mark| mark == 0).count();
+                overrun += usize::from(cycle.overrun);
+                late += usize::from(cycle.late);
+                if !cycle.overrun {
+                    demand_three(&unrolled, durations, &given, cycle);
+                }
             }
+            let fall = |i: usize| (0..unrolled.levels()).any(|q| unrolled.limit(i + 1, q) < unrolled.limit(i, q));
+            falls += usize::from((0..unrolled.positions() - 1).any(fall));
         }
-        for durations in &cycles {
-            let (cycle, given, marks) = unrolled.cycle(durations);
-            coasted += marks.iter().filter(|&&mark| mark == 0).count();
-            overrun += usize::from(cycle.overrun);
-            late += usize::from(cycle.late);
-            if !cycle.overrun {
-                demand_three(&unrolled, durations, &given, cycle);
-            }
-        }
+        println!(
+            "{}: {} bodies, {coasted} actions coasted, {overrun} overrun, {late} late, limits fall in {falls}",
+            policy.year(),
+            bodies.len()
+        );
+        assert!(coasted > 3000 && overrun > 100 && late > 10);
+        assert!(if policy == Policy::Mixed { falls == 0 } else { falls > 20 });
     }
-    println!("{} bodies, {coasted} actions coasted, {overrun} overrun, {late} late", bodies.len());
-    assert!(coasted > 3000 && overrun > 100 && late > 10);
 }
 
 /// Within worst no deadline is missed, nothing is late, and every level is that of the manager asked before the action.
@@ -139,8 +151,8 @@ fn unfit_by_every_order() {
         }
         let misses = Unrolled::every_order(&profile, repeats as usize).into_iter().all(|misses| misses);
         for (name, calls) in &sides {
-            let refusal = BodyPlan::of(&**calls, &image, repeats).err();
-            assert_eq!(refusal, misses.then_some(refused::UNFIT), "{name}: {profile:?} {repeats} times");
+            let refusals = common::POLICIES.map(|policy| BodyPlan::of(&**calls, &image, repeats, policy).err());
+            assert_eq!(refusals, [misses.then_some(refused::UNFIT); 2], "{name}: {profile:?} {repeats} times");
         }
         *(if misses { &mut unfit } else { &mut fit }) += 1;
     }
@@ -155,14 +167,15 @@ fn once_is_the_plain_cycle() {
     while trials < 300 {
         let size = draw.pick(&[Size::Tiny, Size::Small, Size::Small, Size::Large, Size::Extreme]);
         let image = draw.body_image(size, 1);
-        if BodyPlan::of(&nyokazerubi_host::calls::Fast, &image, 1).is_err() {
+        if BodyPlan::of(&nyokazerubi_host::calls::Fast, &image, 1, POLICY_2008).is_err() {
             continue;
         }
         trials += 1;
         let pace = draw.pick(&[Pace::Zero, Pace::Within, Pace::Worst, Pace::Over]);
-        for (_, calls) in &sides {
+        let both = sides.iter().flat_map(|(_, calls)| common::POLICIES.map(|policy| (calls, policy)));
+        for (calls, policy) in both {
             let calls = &**calls;
-            let (plan, body) = (common::plan(calls, &image), body_plan(calls, &image, 1));
+            let (plan, body) = (common::plan(calls, &image, policy), body_plan(calls, &image, 1, policy));
             let Counts { n, levels, cycle } = plan.counts;
             assert_eq!((body.body.n as usize, body.body.levels as usize, body.body.cycle), (n, levels, cycle));
             assert_eq!((&body.order[..n], &body.worst[..n * levels]), (&plan.order[..], &plan.worst[..]));
@@ -179,7 +192,7 @@ fn once_is_the_plain_cycle() {
             let mut plain = (vec![9; n], vec![9; n]);
             let dried = calls.dry_run(n, levels, plan.tables(), &durations, &mut plain.0, &mut plain.1);
             let mut ours = (vec![9; n], vec![9; n], vec![9; n]);
-            let framed = calls.body_dry_frame(&image, 1, &durations, &mut ours.2, &mut ours.0, &mut ours.1);
+            let framed = calls.body_dry_frame(&image, 1, policy, &durations, &mut ours.2, &mut ours.0, &mut ours.1);
             let wanted = |Dried { decisions, end, overrun, late }| BodyDried {
                 decisions,
                 end: end.into(),
@@ -196,21 +209,32 @@ fn once_is_the_plain_cycle() {
 /// A stretch is the join of its parts; joining is associative, with the empty stretch neutral; equal bodies are those joined one by one.
 #[test]
 fn summaries_join() {
+    for policy in Policy::BOTH {
+        join(policy);
+    }
+}
+
+fn join(policy: Policy) {
     let mut draw = Draw::new(24);
     for (_, _, profile) in accepted(&mut draw, 200, 60) {
         let planned = Planned::of(&profile);
+        let stretch = |i: usize, k: usize, q: usize| Sums::stretch(&planned, policy, i, k, q);
         for q in 0..planned.levels {
             for (i, k) in (0..planned.n).flat_map(|i| (i..planned.n).map(move |k| (i, k))) {
                 for cut in i..k {
-                    let parts = Sums::stretch(&planned, i, cut, q).joined(Sums::stretch(&planned, cut + 1, k, q));
-                    assert_eq!(parts, Sums::stretch(&planned, i, k, q));
+                    assert_eq!(stretch(i, cut, q).joined(stretch(cut + 1, k, q), policy), stretch(i, k, q));
                 }
+            }
+            // To the end it is what a limit takes off the cycle.
+            for i in 0..planned.n {
+                let limit = profile.cycle - stretch(i, planned.n - 1, q).taken(policy);
+                assert_eq!(limit, planned.limit(policy, i, q));
             }
         }
     }
     let sums = |draw: &mut Draw| {
         let mut word = || i64::from(draw.word() as u32 >> draw.between(0, 31));
-        Sums { average: word(), lowest: word(), mix: word(), worst: word() }
+        Sums { average: word(), lowest: word(), third: word(), worst: word() }
     };
     for _ in 0..2000 {
         let drawn = sums(&mut draw);
@@ -222,12 +246,12 @@ fn summaries_join() {
                 Summary::Of(drawn)
             }
         });
-        assert_eq!(a.join(b).join(c), a.join(b.join(c)));
-        assert_eq!((a.join(Summary::Empty), Summary::Empty.join(a)), (a, a));
+        assert_eq!(a.join(b, policy).join(c, policy), a.join(b.join(c, policy), policy));
+        assert_eq!((a.join(Summary::Empty, policy), Summary::Empty.join(a, policy)), (a, a));
         let mut joined = Summary::Empty;
         for many in 0..12 {
-            assert_eq!(drawn.bodies(many), joined);
-            joined = joined.join(Summary::Of(drawn));
+            assert_eq!(drawn.bodies(many, policy), joined);
+            joined = joined.join(Summary::Of(drawn), policy);
         }
     }
 }

@@ -2,7 +2,7 @@
 
 mod common;
 
-use nyokazerubi_host::calls::{Answer, Calls, Counts, Reading, Refused};
+use nyokazerubi_host::calls::{Answer, Calls, Counts, Reading, Refused, POLICY_2008};
 use nyokazerubi_host::text::{self, BodyPlan};
 use std::fs;
 use std::path::Path;
@@ -28,14 +28,22 @@ fn text(folder: &Path, name: &str, ending: &str) -> String {
     String::from_utf8(bytes(folder, name, ending)).expect("plain text")
 }
 
-fn programs(calls: &dyn Calls) -> usize {
-    let folder = common::vectors("test_cases");
-    let names = cases(&folder, ".plan");
+/// The year of the policy that a case has, that of 2008 where it has none.
+fn policy(folder: &Path, name: &str) -> u32 {
+    if !folder.join(format!("{name}.policy")).exists() {
+        return POLICY_2008;
+    }
+    text(folder, name, "policy").trim().parse().expect("a year")
+}
+
+/// Both programs on the cases of a folder.
+fn programs(calls: &dyn Calls, folder: &Path) -> usize {
+    let names = cases(folder, ".plan");
     for name in &names {
-        let image = bytes(&folder, name, "profile");
-        let durations = bytes(&folder, name, "durations");
-        assert_eq!(text::plan(calls, &image), text(&folder, name, "plan"), "plan of {name}");
-        assert_eq!(text::dry_run(calls, &image, &durations), text(&folder, name, "dry"), "dry run of {name}");
+        let (image, policy) = (bytes(folder, name, "profile"), policy(folder, name));
+        let durations = bytes(folder, name, "durations");
+        assert_eq!(text::plan(calls, &image, policy), text(folder, name, "plan"), "plan of {name}");
+        assert_eq!(text::dry_run(calls, &image, policy, &durations), text(folder, name, "dry"), "dry run of {name}");
     }
     names.len()
 }
@@ -49,9 +57,9 @@ fn recordings(calls: &dyn Calls) -> usize {
 fn recordings_in(calls: &dyn Calls, folder: &Path) -> usize {
     let names = cases(folder, ".rehearse");
     for name in &names {
-        let image = bytes(folder, name, "profile");
-        let recording = bytes(folder, name, "recording");
-        assert_eq!(text::rehearse(calls, &image, &recording), text(folder, name, "rehearse"), "rehearsal of {name}");
+        let (image, policy) = (bytes(folder, name, "profile"), policy(folder, name));
+        let lines = text::rehearse(calls, &image, policy, &bytes(folder, name, "recording"));
+        assert_eq!(lines, text(folder, name, "rehearse"), "rehearsal of {name}");
     }
     names.len()
 }
@@ -67,18 +75,18 @@ fn bodies_in(calls: &dyn Calls, folder: &Path) -> usize {
     for name in &names {
         let image = bytes(folder, name, "body");
         let repeats = text(folder, name, "repeats").trim().parse().expect("a number of repeats");
-        let limits = text(folder, name, "limits");
-        match BodyPlan::of(calls, &image, repeats) {
+        let (limits, policy) = (text(folder, name, "limits"), policy(folder, name));
+        match BodyPlan::of(calls, &image, repeats, policy) {
             Err(refused) => assert_eq!(limits, format!("{refused}\n"), "plan of {name}"),
             Ok(plan) => body(calls, folder, name, &plan, &limits),
         }
         // Where all positions are told, they are what the program prints.
-        let printed = text::repeat_plan(calls, &image, repeats);
+        let printed = text::repeat_plan(calls, &image, repeats, policy);
         if limits.lines().count() + 1 == printed.lines().count() {
             assert_eq!(printed.split_once('\n').expect("a first line").1, limits, "program on {name}");
         }
         if folder.join(format!("{name}.dry")).exists() {
-            let dry = text::repeat_dry_run(calls, &image, repeats, &bytes(folder, name, "durations"));
+            let dry = text::repeat_dry_run(calls, &image, repeats, policy, &bytes(folder, name, "durations"));
             assert_eq!(dry, text(folder, name, "dry"), "dry run of {name}");
         }
     }
@@ -133,9 +141,9 @@ fn faults(calls: &dyn Calls, folder: &Path) -> usize {
     let names = cases(folder, ".plan");
     for name in &names {
         let (image, plan) = (bytes(folder, name, "profile"), text(folder, name, "plan"));
-        assert_eq!(text::plan(calls, &image), plan, "plan of {name}");
+        assert_eq!(text::plan(calls, &image, POLICY_2008), plan, "plan of {name}");
         if plan.starts_with("refused") {
-            assert_eq!(text::dry_run(calls, &image, &[]), plan, "dry run of {name}");
+            assert_eq!(text::dry_run(calls, &image, POLICY_2008, &[]), plan, "dry run of {name}");
             assert_eq!(calls.check(&image), Err(refusal(&plan)), "check of {name}");
         }
     }
@@ -201,8 +209,17 @@ fn readings(calls: &dyn Calls) -> usize {
 
 #[test]
 fn programs_agree() {
+    let folder = common::vectors("test_cases");
     for (name, calls) in common::sides() {
-        assert!(programs(&*calls) >= 71, "{name}");
+        assert!(programs(&*calls, &folder) >= 71, "{name}");
+    }
+}
+
+#[test]
+fn policies_agree() {
+    let Some(folder) = common::vectors_of_request("test_policies", "e5") else { return };
+    for (name, calls) in common::sides() {
+        assert_eq!(programs(&*calls, &folder), 37, "{name}");
     }
 }
 

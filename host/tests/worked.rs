@@ -4,7 +4,7 @@ mod common;
 
 use common::plan;
 use nyokazerubi_host::boundary::{Fault, Line, Opened, Refusal, Run, Totals, BOUNDARY};
-use nyokazerubi_host::calls::{refused, Calls, Counts, Reading};
+use nyokazerubi_host::calls::{refused, Calls, Counts, Reading, POLICY_2005, POLICY_2008};
 use nyokazerubi_host::product::Product;
 use nyokazerubi_host::text;
 use std::fs;
@@ -12,19 +12,19 @@ use std::mem::size_of;
 use std::path::Path;
 
 /// Durations four bytes each, every position's at both levels.
-fn twice(durations: [u32; 3]) -> Vec<u8> {
+fn twice<const N: usize>(durations: [u32; N]) -> Vec<u8> {
     durations.iter().flat_map(|duration| [duration.to_be_bytes(); 2]).flatten().collect()
 }
 
 fn dry(calls: &dyn Calls, durations: [u32; 3]) -> String {
-    text::dry_run(calls, &common::three(20), &twice(durations))
+    text::dry_run(calls, &common::three(20), POLICY_2008, &twice(durations))
 }
 
 fn three(calls: &dyn Calls) {
     let image = common::three(20);
     assert_eq!(image[..6], [0x10, 0x64, 0x00, 0x00, 0x00, 0xa0]);
     assert_eq!(image.len(), 78);
-    assert_eq!(text::plan(calls, &image), "3 2 20\n0 0 8 0\n1 1 12 6\n2 2 16 12\n");
+    assert_eq!(text::plan(calls, &image, POLICY_2008), "3 2 20\n0 0 8 0\n1 1 12 6\n2 2 16 12\n");
 
     // Cases 1 to 3.
     assert_eq!(dry(calls, [6, 8, 4]), "0 0 1 1\n1 1 1 1\n2 2 0 1\n3 18 0 0\n");
@@ -33,12 +33,12 @@ fn three(calls: &dyn Calls) {
 
     // The same as a recording; each of its frames begins at time 0.
     let recording = [twice([6, 8, 4]), twice([0, 8, 8]), twice([8, 4, 8])].concat();
-    assert_eq!(text::rehearse(calls, &image, &recording), "3 0 18 0 0\n2 1 16 0 0\n3 0 20 0 0\n3 8 0 0\n");
-    assert_eq!(text::rehearse(calls, &image, &[]), "0 0 0 0\n");
-    assert_eq!(text::rehearse(calls, &image, &recording[1..]), "refused 14\n");
+    assert_eq!(text::rehearse(calls, &image, POLICY_2008, &recording), "3 0 18 0 0\n2 1 16 0 0\n3 0 20 0 0\n3 8 0 0\n");
+    assert_eq!(text::rehearse(calls, &image, POLICY_2008, &[]), "0 0 0 0\n");
+    assert_eq!(text::rehearse(calls, &image, POLICY_2008, &recording[1..]), "refused 14\n");
 
     // Cases 4 and 5: position 1 at a time.
-    let plan = plan(calls, &image);
+    let plan = plan(calls, &image, POLICY_2008);
     for (time, level, late) in [(6, 1, false), (7, 0, false), (12, 0, false), (13, 0, true)] {
         let (start, _) = calls.start(3, 2);
         let (first, _) = calls.ask(start, &plan.order, &plan.limits, &plan.bounds);
@@ -60,11 +60,11 @@ fn three(calls: &dyn Calls) {
 
 /// Case 8.
 fn order(calls: &dyn Calls) {
-    assert_eq!(plan(calls, &common::case_8()).order, [0, 2, 1]);
+    assert_eq!(plan(calls, &common::case_8(), POLICY_2008).order, [0, 2, 1]);
 }
 
 fn encoder(calls: &dyn Calls) {
-    let plan = plan(calls, &common::encoder());
+    let plan = plan(calls, &common::encoder(), POLICY_2008);
     assert_eq!(plan.counts, Counts { n: 9, levels: 8, cycle: 320_000 });
     assert_eq!(plan.order, [0, 1, 2, 3, 4, 5, 6, 7, 8]);
     assert_eq!(plan.limits[8..11], [168_000, 69_000, -31_000]);
@@ -72,7 +72,7 @@ fn encoder(calls: &dyn Calls) {
 
 /// Coast bounds of Three by hand, and those that reach past the end.
 fn bounds(calls: &dyn Calls) {
-    let plan = plan(calls, &common::three(20));
+    let plan = plan(calls, &common::three(20), POLICY_2008);
     let bound = |i: usize, q: usize, r: usize| plan.bounds[(i * 2 + q) * 16 + r - 1];
     assert_eq!([bound(0, 0, 1), bound(0, 0, 2), bound(0, 0, 3)], [8, 8, 8]);
     assert_eq!([bound(0, 1, 1), bound(0, 1, 2), bound(0, 1, 3)], [0, -2, -4]);
@@ -98,15 +98,47 @@ fn refused_start(calls: &dyn Calls) {
 fn twice_three(calls: &dyn Calls) {
     let image = common::three(40);
     let wanted = "3 2 40 2\n0 0 16 2\n1 1 20 8\n2 2 24 14\n3 3 28 20\n4 4 32 26\n5 5 36 32\n";
-    assert_eq!(text::repeat_plan(calls, &image, 2), wanted);
-    assert_eq!(text::repeat_plan(calls, &common::three(23), 2), "refused 9\n");
-    assert_eq!(text::repeat_plan(calls, &image, 0), "refused 19\n");
-    assert_eq!(text::repeat_plan(calls, &common::case_8(), 1), "refused 19\n");
+    assert_eq!(text::repeat_plan(calls, &image, 2, POLICY_2008), wanted);
+    assert_eq!(text::repeat_plan(calls, &common::three(23), 2, POLICY_2008), "refused 9\n");
+    assert_eq!(text::repeat_plan(calls, &image, 0, POLICY_2008), "refused 19\n");
+    assert_eq!(text::repeat_plan(calls, &common::case_8(), 1, POLICY_2008), "refused 19\n");
     // The encoder's own plan, once; its image 1,620 times in its cycle is unfit.
-    let once = text::repeat_plan(calls, &common::encoder(), 1);
-    let plain = text::plan(calls, &common::encoder());
+    let once = text::repeat_plan(calls, &common::encoder(), 1, POLICY_2008);
+    let plain = text::plan(calls, &common::encoder(), POLICY_2008);
     assert_eq!(once.split_once('\n').expect("lines").1, plain.split_once('\n').expect("lines").1);
-    assert_eq!(text::repeat_plan(calls, &common::encoder(), 2), "refused 9\n");
+    assert_eq!(text::repeat_plan(calls, &common::encoder(), 2, POLICY_2008), "refused 9\n");
+}
+
+/// By the policy of 2005: a chain whose limits fall along the order, Three, and Three twice by hand.
+fn policy_of_2005(calls: &dyn Calls) {
+    let image = common::falling();
+    assert_eq!(text::plan(calls, &image, POLICY_2005), "4 2 20\n0 0 6 0\n1 1 14 4\n2 2 16 14\n3 3 18 6\n");
+    let dry = |durations: [u32; 4]| text::dry_run(calls, &image, POLICY_2005, &twice(durations));
+    // From position 1 on, at time 8, a coast tested at its ends alone would hold level 0 over position 2, where level 1 fits.
+    assert_eq!(dry([8, 2, 3, 2]), "0 0 1 1\n1 1 0 1\n2 2 1 1\n3 3 0 1\n4 15 0 0\n");
+    assert_eq!(text::plan(calls, &image, POLICY_2008), "4 2 20\n0 0 6 -10\n1 1 14 -2\n2 2 16 4\n3 3 18 6\n");
+    let mixed = text::dry_run(calls, &image, POLICY_2008, &twice([8, 2, 2, 2]));
+    assert_eq!(mixed, "0 0 0 1\n1 1 0 0\n2 2 0 1\n3 3 0 0\n2 14 0 0\n");
+
+    let three = common::three(20);
+    assert_eq!(text::plan(calls, &three, POLICY_2005), "3 2 20\n0 0 8 2\n1 1 12 8\n2 2 16 12\n");
+    let dried = text::dry_run(calls, &three, POLICY_2005, &twice([6, 8, 4]));
+    assert_eq!(dried, "0 0 1 1\n1 1 1 0\n2 2 0 1\n2 18 0 0\n");
+    let recording = [twice([6, 8, 4]), twice([8, 4, 8])].concat();
+    assert_eq!(text::rehearse(calls, &three, POLICY_2005, &recording), "2 0 18 0 0\n2 1 20 0 0\n2 4 0 0\n");
+
+    // At level 1 the averages of all to come, up to 36, or 8 and 4 for each after it, whichever is more.
+    let wanted = "3 2 40 2\n0 0 16 4\n1 1 20 10\n2 2 24 16\n3 3 28 22\n4 4 32 28\n5 5 36 32\n";
+    assert_eq!(text::repeat_plan(calls, &common::three(40), 2, POLICY_2005), wanted);
+
+    for year in [0, 2004, 2006, 2007, 2009, u32::MAX] {
+        assert_eq!(text::plan(calls, &three, year), "refused 20\n");
+        assert_eq!(text::dry_run(calls, &three, year, &[]), "refused 20\n");
+        assert_eq!(text::rehearse(calls, &three, year, &[0]), "refused 20\n");
+        assert_eq!(text::repeat_plan(calls, &three, 1, year), "refused 20\n");
+        assert_eq!(text::plan(calls, &common::three(11), year), "refused 9\n");
+        assert_eq!(text::repeat_plan(calls, &three, 0, year), "refused 19\n");
+    }
 }
 
 /// The archive is of the boundary that the header declares.
@@ -135,7 +167,7 @@ fn examples() {
     let frames = [[6, 8, 4], [0, 8, 8], [0, 0, 16_777_216], [8, 4, 8]];
     assert_eq!(file("three.recording"), frames.map(twice).concat());
     let text = "3 0 18 0 0\n2 1 16 0 0\nrefused 16\n3 0 20 0 0\n3 8 0 0\n";
-    assert_eq!(text::rehearse(&Product, &file("three.image"), &file("three.recording")), text);
+    assert_eq!(text::rehearse(&Product, &file("three.image"), POLICY_2008, &file("three.recording")), text);
 }
 
 /// The product's own profile of the encoder, and a lent image that is too short or longer.
@@ -163,5 +195,6 @@ fn values_hold() {
         bounds(calls);
         refused_start(calls);
         twice_three(calls);
+        policy_of_2005(calls);
     }
 }

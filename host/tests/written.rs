@@ -11,7 +11,7 @@ fn vectors_are_written() {
     assert!(written.cases >= 300 && written.traces >= 24 && written.readings >= 40, "{written:?}");
     assert!(written.recordings >= 27 && written.bodies >= 60 && written.bytes < 1_600_000, "{written:?}");
     let page = fs::read_to_string(folder.join("README.md")).expect("README.md");
-    for refusal in ["1", "2", "3", "4", "5 64", "5 0", "6 0", "7 0", "8 0", "9", "16", "17"] {
+    for refusal in ["1", "2", "3", "4", "5 64", "5 0", "6 0", "7 0", "8 0", "9", "16", "17", "20"] {
         assert!(page.contains(&format!("| refused {refusal} |\n")), "refused {refusal}");
     }
     // Others than the first of all are at fault too.

@@ -1,4 +1,4 @@
--- What the frame answers: refused by the image, by the room or by the durations, and not. Assumes nothing.
+-- What the frame answers: refused by planning, by the room or by the durations, and not. Assumes nothing.
 use Prim.Native.Nat.{ℕ, _*_, _≤_, _<_}
 use mathlib.Core.Path.{_≡_, refl, sym, ap, _∙_}
 use mathlib.Core.Bool.{false}
@@ -12,18 +12,18 @@ use Rattle.rules.specs.Numbers.{most-actions, most-levels, longest-coast, refus
 use Rattle.rules.specs.Words.{tab}
 use Rattle.rules.specs.Image.{profile}
 use Rattle.rules.specs.Limits.{LentTables, planner-tables}
-use Rattle.rules.specs.Refusals.{Ground, _when_, First, AtFault, Refuses, Tight, image-checks}
+use Rattle.rules.specs.Refusals.{Ground, _when_, First, AtFault, Refuses, Tight}
 use Rattle.rules.specs.Run.{Run}
 use Rattle.rules.specs.Dry.{LongEntry, dry-call, frame-call}
 use Rattle.rules.proofs.Differences.{not-above}
-use Rattle.rules.proofs.Refusals.{Sound, accepted-sound, accepted-parts, Blameless, blameless, handed-on, handed-back, refuses-stops, refuses-goes-on, image-numbered}
+use Rattle.rules.proofs.Refusals.{first-parts, Sound, Blameless, blameless, handed-on, handed-back, refuses-stops, refuses-goes-on}
 use Rattle.rules.proofs.Accepted.{some-level, not-unfit}
 use Rattle.rules.specs.declared.Fault.{Fault}
 use Rattle.fields.specs.Fields.{splice}
 use Rattle.fields.proofs.Tabs.{tab-ext}
 use Rattle.planner.specs.declared.Planned.{Planned}
 use Rattle.planner.specs.Planning.{plan-rooms, with-fronts, Plans}
-use Rattle.planner.proofs.Answers.{kept-old, kept-new, by-number}
+use Rattle.planner.proofs.Answers.{kept-old, kept-new, by-number, plan-checks, plan-numbered, passed-sound}
 use Rattle.planner.proofs.Reading.{reads-order}
 use Rattle.run.specs.declared.dry.Dried.{Dried}
 use Rattle.run.specs.Dry.{DryLists, dry-rooms, Dries}
@@ -97,9 +97,9 @@ module _ {s : List ℕ} (h : Sound s) {T : LentTables} (sized : Sized T) (durati
 abbrev pub refused : Fault → Framed
 refused f = record { refusal = f; n = 0; decisions = 0; end = 0; overrun = false; late = false }
 
-module _ (s durations : List ℕ) (before : FrameLists) where
+module _ (s : List ℕ) (policy : ℕ) (durations : List ℕ) (before : FrameLists) where
   abbrev whole : List Ground
-  whole = frame-call s durations (frame-rooms (profile s .n) (profile s .levels) durations before)
+  whole = frame-call s policy durations (frame-rooms (profile s .n) (profile s .levels) durations before)
 
   abbrev rest : List Ground
   rest = own (profile s .n) (profile s .levels) durations before
@@ -110,7 +110,7 @@ module _ (s durations : List ℕ) (before : FrameLists) where
 
   frames-not : {after : FrameLists} {r : Framed} (f : Fault) → Refuses whole f → f .number ≢ 0
       → after .order ≡ before .order → after .levels ≡ before .levels → after .decided ≡ before .decided
-      → r ≡ refused f → Frames s durations before after r
+      → r ≡ refused f → Frames s policy durations before after r
   frames-not f p some a b c e = rw e (record {
     number = p .number;
     action = p .action;
@@ -147,26 +147,34 @@ zeros-sized = record {
   bounds-room = omega (arith, length-replicate (most-actions * most-levels * longest-coast) (pos 0));
 }
 
-pub record Planning (s : List ℕ) (lent : LentTables) (p : Planned) : Type 0 where
-  pub plans : Plans s zeros lent p
+pub record Planning (s : List ℕ) (policy : ℕ) (lent : LentTables) (p : Planned) : Type 0 where
+  pub plans : Plans s policy zeros lent p
   pub sized : Sized lent
 
-module _ {s : List ℕ} {lent : LentTables} {p : Planned} (P : Planning s lent p) where
+module _ {s : List ℕ} {policy : ℕ} {lent : LentTables} {p : Planned} (P : Planning s policy lent p) where
+  -- planning has room for every profile, so it judges no more than these
+  abbrev checks : List Ground
+  checks = plan-checks s policy
+
   abbrev plan-room : List Ground
   plan-room = refused-room when Tight (plan-rooms (profile s .n) (profile s .levels) zeros) ∷ []
 
-  parts : (First (image-checks s) (p .refusal .number) × (p .refusal .number ≢ 0)) ⊎ (Sound s × First plan-room (p .refusal .number))
-  parts = accepted-parts s plan-room (p .refusal .number) (P .plans .number)
+  parts : (First checks (p .refusal .number) × (p .refusal .number ≢ 0)) ⊎ (First checks 0 × First plan-room (p .refusal .number))
+  parts = first-parts checks plan-room (p .refusal .number) (plan-numbered s policy) (P .plans .number)
 
-  by-image : p .refusal .number ≢ 0 → First (image-checks s) (p .refusal .number)
-  by-image some = ⊎-elim (λ x. x .0) (λ x. absurd (⊎-elim (λ t. never-tight (x .0) zeros-sized (t .0)) (λ t. some (t .1)) (x .1))) parts
+  by-checks : p .refusal .number ≢ 0 → First checks (p .refusal .number)
+  by-checks some =
+      ⊎-elim (λ x. x .0) (λ x. absurd (⊎-elim (λ t. never-tight (passed-sound s policy (x .0)) zeros-sized (t .0)) (λ t. some (t .1)) (x .1))) parts
 
   -- the image's action
-  named : AtFault (image-checks s) (p .refusal .action)
-  named = handed-back (image-checks s) plan-room (p .refusal .action) ((λ a z. z), tt) (P .plans .action)
+  named : AtFault checks (p .refusal .action)
+  named = handed-back checks plan-room (p .refusal .action) ((λ a z. z), tt) (P .plans .action)
+
+  passed : p .refusal .number ≡ 0 → First checks 0
+  passed none = ⊎-elim (λ x. absurd (x .1 none)) (λ x. x .0) parts
 
   pub sound : p .refusal .number ≡ 0 → Sound s
-  sound none = ⊎-elim (λ x. absurd (x .1 none)) (λ x. x .0) parts
+  sound none = passed-sound s policy (passed none)
 
   pub n-is : p .refusal .number ≡ 0 → p .n ≡ profile s .n
   n-is none = rw none at (P .plans .n)
@@ -174,24 +182,24 @@ module _ {s : List ℕ} {lent : LentTables} {p : Planned} (P : Planning s lent p
   levels-are : p .refusal .number ≡ 0 → p .levels ≡ profile s .levels
   levels-are none = rw none at (P .plans .levels)
 
-  -- the answers: refused by the image, by the order's room, by the dry run, and not
+  -- the answers: refused by planning, by the order's room, by the dry run, and not
   module _ (durations : List ℕ) (before : FrameLists) where
-    pub image-refused : {r : Framed} → p .refusal .number ≢ 0 → r ≡ refused (p .refusal) → Frames s durations before before r
-    image-refused some e =
-        frames-not s durations before (p .refusal)
-        (refuses-stops (image-checks s) (rest s durations before) (p .refusal) (record { number = by-image some; action = named }) some)
+    pub plan-refused : {r : Framed} → p .refusal .number ≢ 0 → r ≡ refused (p .refusal) → Frames s policy durations before before r
+    plan-refused some e =
+        frames-not s policy durations before (p .refusal)
+        (refuses-stops checks (rest s policy durations before) (p .refusal) (record { number = by-checks some; action = named }) some)
         some refl refl refl e
 
-    then-own : p .refusal .number ≡ 0 → {k : ℕ} → First (rest s durations before) k
-        → Refuses (whole s durations before) (record { number = k; action = most-actions })
+    then-own : p .refusal .number ≡ 0 → {k : ℕ} → First (rest s policy durations before) k
+        → Refuses (whole s policy durations before) (record { number = k; action = most-actions })
     then-own none {k} f =
-        refuses-goes-on (image-checks s) (rest s durations before) _ (image-numbered s) (accepted-sound s .1 (sound none))
-        (blameless (rest s durations before) k (no-blame s durations before) f)
+        refuses-goes-on checks (rest s policy durations before) _ (plan-numbered s policy) (passed none)
+        (blameless (rest s policy durations before) k (no-blame s policy durations before) f)
 
     pub order-refused : {r : Framed} → p .refusal .number ≡ 0 → length (before .order) < p .n
-        → r ≡ refused (record { number = refused-room; action = most-actions }) → Frames s durations before before r
+        → r ≡ refused (record { number = refused-room; action = most-actions }) → Frames s policy durations before before r
     order-refused none l e =
-        frames-not s durations before _
+        frames-not s policy durations before _
         (then-own none (inl (inr (inl (omega (arith, n-is none))), refl))) (λ z. omega arith) refl refl refl e
 
     module _ (after : FrameLists) {q : Dried} (none : p .refusal .number ≡ 0) (room : p .n ≤ length (before .order))
@@ -199,18 +207,18 @@ module _ {s : List ℕ} {lent : LentTables} {p : Planned} (P : Planning s lent p
       dries′ : Dries (profile s .n) (profile s .levels) (unordered lent) durations (dry-lists before) (dry-lists after) q
       dries′ = rw (n-is none, levels-are none) at dries
 
-      own-is : First (rest s durations before) (q .refusal .number)
+      own-is : First (rest s policy durations before) (q .refusal .number)
       own-is = own-of-dry (sound none) (P .sized) durations before (q .refusal .number) (omega (arith, n-is none)) (dries′ .refused)
 
       pub dry-refused : {r : Framed} → q .refusal .number ≢ 0 → after .order ≡ before .order
           → r ≡ refused (record { number = q .refusal .number; action = most-actions })
-          → Frames s durations before after r
+          → Frames s policy durations before after r
       dry-refused some same e =
-          frames-not s durations before _ (then-own none own-is) some same
+          frames-not s policy durations before _ (then-own none own-is) some same
           (dries′ .levels ∙ sym (kept-old (q .refusal .number) _ (before .levels) some))
           (dries′ .decided ∙ sym (kept-old (q .refusal .number) _ (before .decided) some)) e
 
-      written : lent ≡ with-fronts zeros (planner-tables (profile s) (P .plans .o))
+      written : lent ≡ with-fronts zeros (planner-tables policy (profile s) (P .plans .o))
       written = rw none at (P .plans .tables-are)
 
       level : 0 < profile s .levels
@@ -220,26 +228,26 @@ module _ {s : List ℕ} {lent : LentTables} {p : Planned} (P : Planning s lent p
         abbrev answer : Framed
         answer = record { refusal = p .refusal; n = p .n; decisions = q .decisions; end = q .end; overrun = q .overrun; late = q .late }
 
-        cycled : Cycled (profile s) durations (P .plans .o) before after answer
+        cycled : Cycled policy (profile s) durations (P .plans .o) before after answer
         cycled =
             let o = P .plans .o in
-            let ends = same-end s durations o zeros written level in
+            let ends = same-end s policy durations o zeros written level in
             record {
-              levels = rw dry-none at (dries′ .levels) ∙ ap (splice (before .levels) 0) (same-levels s durations o zeros written level);
-              decided = rw dry-none at (dries′ .decided) ∙ ap (splice (before .decided) 0) (same-marks s durations o zeros written level);
+              levels = rw dry-none at (dries′ .levels) ∙ ap (splice (before .levels) 0) (same-levels s policy durations o zeros written level);
+              decided = rw dry-none at (dries′ .decided) ∙ ap (splice (before .decided) 0) (same-marks s policy durations o zeros written level);
               decisions = rw dry-none at (dries′ .decisions) ∙ ap (λ (r : Run). r .decisions) ends;
               end = rw dry-none at (dries′ .end) ∙ ap (λ (r : Run). r .clock) ends;
               overrun = rw dry-none at (dries′ .overrun) ∙ ap (λ (r : Run). r .overrun) ends;
               late = rw dry-none at (dries′ .late) ∙ ap (λ (r : Run). r .late) ends;
             }
 
-        pub framed : after .order ≡ splice (before .order) 0 (tab (λ k. getD (lent .order) k 0) (p .n)) → Frames s durations before after answer
+        pub framed : after .order ≡ splice (before .order) 0 (tab (λ k. getD (lent .order) k 0) (p .n)) → Frames s policy durations before after answer
         framed e =
-            let listed = reads-order (profile s) (P .plans .o) zeros written in
-            let given : First (whole s durations before) (p .refusal .number) = rw none (then-own none (rw dry-none at own-is) .number) in
+            let listed = reads-order policy (profile s) (P .plans .o) zeros written in
+            let given : First (whole s policy durations before) (p .refusal .number) = rw none (then-own none (rw dry-none at own-is) .number) in
             record {
               number = given;
-              action = handed-on (image-checks s) (rest s durations before) _ _ (no-blame s durations before) named given;
+              action = handed-on checks (rest s policy durations before) _ _ (no-blame s policy durations before) named given;
               n = kept-new _ _ _ none (n-is none);
               o = P .plans .o;
               the-order = P .plans .the-order;

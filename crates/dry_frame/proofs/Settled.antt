@@ -6,11 +6,11 @@ use mathlib.Core.List.{List, [], _∷_}
 use mathlib.Core.Logic.{⊎-elim}
 use native.Mathlib.Nat.{le-refl}
 use native.Mathlib.Omega.{arith}
-use Rattle.rules.specs.Numbers.{refused-duration, refused-room}
+use Rattle.rules.specs.Numbers.{refused-duration, refused-room, refused-policy}
 use Rattle.rules.specs.Words.{tab, one-if}
 use Rattle.rules.specs.Image.{profile}
 use Rattle.rules.specs.Limits.{LentTables, planner-tables}
-use Rattle.rules.specs.Refusals.{_when_, Tight}
+use Rattle.rules.specs.Refusals.{_when_, Tight, UnknownPolicy}
 use Rattle.rules.specs.Run.{Run, decides}
 use Rattle.rules.specs.Dry.{LongEntry, frame-call}
 use Rattle.rules.specs.declared.Fault.{Fault}
@@ -40,14 +40,14 @@ lists order levels decided = record { order = order; levels = levels; decided = 
 pub lists-one : {a a′ b b′ c c′ : List ℕ} → a ≡ a′ → b ≡ b′ → c ≡ c′ → lists a b c ≡ lists a′ b′ c′
 lists-one p q r = cc
 
-module _ {s durations : List ℕ} {before after₁ after₂ : FrameLists} {r t : Framed}
-    (x : Frames s durations before after₁ r) (y : Frames s durations before after₂ t) where
+module _ {s : List ℕ} {policy : ℕ} {durations : List ℕ} {before after₁ after₂ : FrameLists} {r t : Framed}
+    (x : Frames s policy durations before after₁ r) (y : Frames s policy durations before after₂ t) where
   abbrev room : List (ℕ × ℕ)
   room = frame-rooms (profile s .n) (profile s .levels) durations before
 
   refusal : r .refusal ≡ t .refusal
   refusal =
-      refuses-one (frame-call s durations room) (r .refusal) (t .refusal)
+      refuses-one (frame-call s policy durations room) (r .refusal) (t .refusal)
       (record { number = x .number; action = x .action })
       (record { number = y .number; action = y .action })
 
@@ -57,27 +57,27 @@ module _ {s durations : List ℕ} {before after₁ after₂ : FrameLists} {r t :
   -- without a refusal the image is sound
   sound : r .refusal .number ≡ 0 → Sound s
   sound none =
-      let own = refused-room when Tight room ∷ refused-duration when LongEntry (profile s .n * profile s .levels) durations ∷ [] in
+      let own = refused-policy when UnknownPolicy policy ∷ refused-room when Tight room ∷ refused-duration when LongEntry (profile s .n * profile s .levels) durations ∷ [] in
       ⊎-elim (λ p. absurd (p .1 none)) (λ p. p .0) (accepted-parts s own (r .refusal .number) (x .number))
 
   order-one : r .refusal .number ≡ 0 → tab (x .o .at) (profile s .n) ≡ tab (y .o .at) (profile s .n)
   order-one none = tab-ext (x .o .at) (y .o .at) (profile s .n) (order-settled (x .the-order none) (y .the-order (sym number ∙ none)))
 
   -- the two orders give one cycle: the same tables would lie in memory
-  run-one : r .refusal .number ≡ 0 → (i : ℕ) → i ≤ profile s .n → run-at s durations (x .o) i ≡ run-at s durations (y .o) i
+  run-one : r .refusal .number ≡ 0 → (i : ℕ) → i ≤ profile s .n → run-at s policy durations (x .o) i ≡ run-at s policy durations (y .o) i
   run-one none i l =
       let level : 0 < profile s .levels = some-level (profile s) (x .o) (sound none .not-count) in
-      sym (same-run s durations (x .o) none-held refl level i l)
-      ∙ same-run s durations (y .o) none-held (ap (with-fronts none-held) tables-one) level i l
+      sym (same-run s policy durations (x .o) none-held refl level i l)
+      ∙ same-run s policy durations (y .o) none-held (ap (with-fronts none-held) tables-one) level i l
     where
       none-held : LentTables
       none-held = record { order = []; limits = []; worst = []; bounds = [] }
 
-      tables-one : planner-tables (profile s) (x .o) ≡ planner-tables (profile s) (y .o)
-      tables-one = tables-settled (sound none .not-count) (x .the-order none) (y .the-order (sym number ∙ none))
+      tables-one : planner-tables policy (profile s) (x .o) ≡ planner-tables policy (profile s) (y .o)
+      tables-one = tables-settled policy (sound none .not-count) (x .the-order none) (y .the-order (sym number ∙ none))
 
   last-one : {A : Type 0} (f : Run → A) → r .refusal .number ≡ 0
-      → f (run-at s durations (x .o) (profile s .n)) ≡ f (run-at s durations (y .o) (profile s .n))
+      → f (run-at s policy durations (x .o) (profile s .n)) ≡ f (run-at s policy durations (y .o) (profile s .n))
   last-one f none = ap f (run-one none (profile s .n) (le-refl _))
 
   answer : r ≡ t

@@ -1,4 +1,4 @@
-// A frame run dry: an image is planned and its cycle run over given durations, in one call. Demand 3 is its promise.
+// A frame run dry: an image is planned by a policy and its cycle run over given durations, in one call. Demand 3 is its promise.
 use rules::Fault;
 ghost use mathlib.Core.Path.{_≡_};
 ghost use mathlib.Core.Bool.{false};
@@ -40,16 +40,17 @@ fn unblamed(number: u32) -> Framed
     })
 }
 
-// Plans the image, runs its cycle over n by L durations by position, and writes the order, the levels given and the decided marks. A refusal
+// Plans the image by the policy, runs its cycle over n by L durations by position, and writes the order, the levels given and the decided marks. A refusal
 // leaves the slices untouched, so the order is kept apart until the durations are judged.
 pub fn dry_frame(
     image: &[u8],
+    policy: u32,
     durations: &[u32],
     order: &mut [u8],
     given: &mut [u8],
     marks: &mut [u8],
 ) -> Framed
-    ensures { λ r. ⌜ Frames (now (image .entry)) (now (durations .entry))
+    ensures { λ r. ⌜ Frames (now (image .entry)) policy (now (durations .entry))
         (record { order = now (order .entry); levels = now (given .entry); decided = now (marks .entry) })
         (record { order = now (order .exit); levels = now (given .exit); decided = now (marks .exit) }) r ⌝ }
 {
@@ -58,7 +59,14 @@ pub fn dry_frame(
     let mut limits = [0i32; 512];
     let mut worst = [0u32; 512];
     let mut bounds = [0i32; 8192];
-    let planned = planner::plan(image, &mut actions, &mut limits, &mut worst, &mut bounds);
+    let planned = planner::plan(
+        image,
+        policy,
+        &mut actions,
+        &mut limits,
+        &mut worst,
+        &mut bounds,
+    );
     let refusal = planned.refusal;
     if refusal.number != 0 {
         return refused(refusal);

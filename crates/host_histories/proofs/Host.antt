@@ -58,17 +58,18 @@ traced-by-value (HostTraced.more {m = m} {r = r} h on rest) = Traced.more (answe
 
 -- ---- demand 3
 
-module _ {s : List ℕ} {B T : LentTables} {p : Planned} {b : Started} {l : List HostMade} {r : Run} (c : HostCycle s B T p b l r) where
-  pub cycle-by-value : CameraCycle s B T p b (map by-value l) r
+module _ {s : List ℕ} {policy : ℕ} {B T : LentTables} {p : Planned} {b : Started} {l : List HostMade} {r : Run}
+    (c : HostCycle s policy B T p b l r) where
+  pub cycle-by-value : CameraCycle s policy B T p b (map by-value l) r
   cycle-by-value = record { plans = c .plans; planned = c .planned; starts = c .starts; traced = traced-by-value (c .traced) }
 
   -- Demand 3 of the boundary's calls, where no accepted report's duration is above worst at the level answered.
   pub host-keeps : WithinAnswered (tables (profile s) (c .plans .o)) 0 (host-clocks l) (host-askings l)
-      → CameraKeeps s (c .plans .o) (map by-value l) r
+      → CameraKeeps s policy (c .plans .o) (map by-value l) r
   unfolding cycle-by-value
   host-keeps = camera-keeps cycle-by-value
 
   -- The same from the overrun mark.
-  pub host-unmarked : r .overrun ≡ false → CameraKeeps s (c .plans .o) (map by-value l) r
+  pub host-unmarked : r .overrun ≡ false → CameraKeeps s policy (c .plans .o) (map by-value l) r
   unfolding cycle-by-value
   host-unmarked = camera-unmarked cycle-by-value

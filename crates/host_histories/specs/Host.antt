@@ -50,10 +50,10 @@ host-askings l = made-askings (map by-value l)
 abbrev pub host-clocks : List HostMade → List ℕ
 host-clocks l = made-clocks (map by-value l)
 
--- A cycle as a host calls it: `nyokazerubi_plan`, not refused; `nyokazerubi_start` with the counts that it answers, of which b is the number and
--- the record left; then askings and reports on what was planned.
-pub record HostCycle (s : List ℕ) (B T : LentTables) (p : Planned) (b : Started) (l : List HostMade) (r : Run) : Type 0 where
-  pub plans : Plans s B T p
+-- A cycle as a host calls it: `nyokazerubi_plan` by a policy, not refused; `nyokazerubi_start` with the counts that it answers, of which b is the
+-- number and the record left; then askings and reports on what was planned.
+pub record HostCycle (s : List ℕ) (policy : ℕ) (B T : LentTables) (p : Planned) (b : Started) (l : List HostMade) (r : Run) : Type 0 where
+  pub plans : Plans s policy B T p
   pub planned : p .refusal .number ≡ 0
   pub starts : start-of b ≡ start (p .n) (p .levels)
   pub traced : HostTraced T (b .run) l r

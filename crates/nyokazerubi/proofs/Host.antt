@@ -7,7 +7,7 @@ use mathlib.Core.Logic.{_≢_}
 use lib.Dec.{eqb}
 use Rattle.rules.specs.Limits.{LentTables}
 use Rattle.rules.specs.Run as rules
-use Rattle.rules.specs.Repeat.{LentBody, positions, no-body, body-tests, body-start, body-ask-refusal, body-ask, body-report-refusal, body-report}
+use Rattle.rules.specs.Repeat.{LentBody, positions, no-body, known-tests, body-start, body-ask-refusal, body-ask, body-report-refusal, body-report}
 use Rattle.rules.specs.Refusals.{first}
 use Rattle.rules.specs.declared.Body.{Body}
 use Rattle.rules.specs.declared.Refusal.{Refusal}
@@ -91,11 +91,11 @@ zero-actions = record { clock = 0; body = no-body; position = 0; level = 0; left
 pub body-start-refused : (b : Body) {r : BodyRun} {k : Refusal} → (r .body, next-flat (steps-of r) k) ≡ body-start b → k .number ≢ 0
     → r ≡ zero-actions
 unfolding body-start rules.begun
-body-start-refused b {r} {k} e some = by (eqb (first (body-tests b)) 0) e
+body-start-refused b {r} {k} e some = by (eqb (first (known-tests b)) 0) e
   where
     by : (c : Bool) → (r .body, next-flat (steps-of r) k) ≡ cond {A = Body × rules.Next} c
         (b, record { number = 0; run = rules.begun (positions b) (b .levels) 0 })
-        (no-body, record { number = first (body-tests b); run = rules.begun 0 0 0 })
+        (no-body, record { number = first (known-tests b); run = rules.begun 0 0 0 })
         → r ≡ zero-actions
     by true e = absurd (some (λ i. e i .1 .number))
     by false e = body-run-one (λ i. e i .0) (λ i. e i .1 .run)

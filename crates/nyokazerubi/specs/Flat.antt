@@ -20,7 +20,7 @@ use Rattle.nyokazerubi.specs.declared.readings.Read.{Read}
 
 -- The version of the boundary.
 abbrev pub boundary : ℕ
-boundary = 4
+boundary = 5
 
 -- ---- starting and reporting
 

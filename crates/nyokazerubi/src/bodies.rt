@@ -23,15 +23,16 @@ ghost use Rattle.nyokazerubi.specs.Flat.{next-flat, Asks, asked-left};
 pub extern "C" fn nyokazerubi_plan_body(
     image: &[u8],
     repeats: u32,
+    policy: u32,
     order: &mut [u8],
     summaries: &mut [u32],
     worst_by_position: &mut [u32],
 ) -> BodyPlanned
-    ensures { λ r. ⌜ PlansBody (now (image .entry)) repeats
+    ensures { λ r. ⌜ PlansBody (now (image .entry)) repeats policy
         (record { order = now (order .entry); summaries = now (summaries .entry); worst = now («worst_by_position» .entry) })
         (record { order = now (order .exit); summaries = now (summaries .exit); worst = now («worst_by_position» .exit) }) r ⌝ }
 {
-    repeat_planner::plan(image, repeats, order, summaries, worst_by_position)
+    repeat_planner::plan(image, repeats, policy, order, summaries, worst_by_position)
 }
 
 #[no_mangle]
@@ -152,14 +153,15 @@ pub extern "C" fn nyokazerubi_body_report(
 pub extern "C" fn nyokazerubi_body_dry_frame(
     image: &[u8],
     repeats: u32,
+    policy: u32,
     durations: &[u32],
     order: &mut [u8],
     given: &mut [u8],
     marks: &mut [u8],
 ) -> BodyFramed
-    ensures { λ r. ⌜ BodyFrames (now (image .entry)) repeats (now (durations .entry))
+    ensures { λ r. ⌜ BodyFrames (now (image .entry)) repeats policy (now (durations .entry))
         (record { order = now (order .entry); levels = now (given .entry); decided = now (marks .entry) })
         (record { order = now (order .exit); levels = now (given .exit); decided = now (marks .exit) }) r ⌝ }
 {
-    repeat_frame::dry_frame(image, repeats, durations, order, given, marks)
+    repeat_frame::dry_frame(image, repeats, policy, durations, order, given, marks)
 }

@@ -26,7 +26,7 @@ pub mod recordings;
 pub mod runs;
 
 // The version of this boundary: of its calls, their parameters and the layout of its records. It goes up by 1 when one of them changes.
-pub const BOUNDARY: u32 = 4;
+pub const BOUNDARY: u32 = 5;
 
 #[no_mangle]
 pub extern "C" fn nyokazerubi_boundary() -> u32
@@ -113,16 +113,17 @@ pub extern "C" fn nyokazerubi_lookup_refusal(image: &[u8], action: usize) -> Fau
 #[no_mangle]
 pub extern "C" fn nyokazerubi_plan(
     image: &[u8],
+    policy: u32,
     order: &mut [u8],
     limits: &mut [i32],
     worst_by_position: &mut [u32],
     bounds: &mut [i32],
 ) -> Planned
-    ensures { λ r. ⌜ Plans (now (image .entry))
+    ensures { λ r. ⌜ Plans (now (image .entry)) policy
         (record { order = now (order .entry); limits = now (limits .entry); worst = now («worst_by_position» .entry); bounds = now (bounds .entry) })
         (record { order = now (order .exit); limits = now (limits .exit); worst = now («worst_by_position» .exit); bounds = now (bounds .exit) }) r ⌝ }
 {
-    planner::plan(image, order, limits, worst_by_position, bounds)
+    planner::plan(image, policy, order, limits, worst_by_position, bounds)
 }
 
 #[no_mangle]
@@ -157,16 +158,17 @@ pub extern "C" fn nyokazerubi_dry_run(
 #[no_mangle]
 pub extern "C" fn nyokazerubi_dry_frame(
     image: &[u8],
+    policy: u32,
     durations: &[u32],
     order: &mut [u8],
     given: &mut [u8],
     marks: &mut [u8],
 ) -> Framed
-    ensures { λ r. ⌜ Frames (now (image .entry)) (now (durations .entry))
+    ensures { λ r. ⌜ Frames (now (image .entry)) policy (now (durations .entry))
         (record { order = now (order .entry); levels = now (given .entry); decided = now (marks .entry) })
         (record { order = now (order .exit); levels = now (given .exit); decided = now (marks .exit) }) r ⌝ }
 {
-    dry_frame::dry_frame(image, durations, order, given, marks)
+    dry_frame::dry_frame(image, policy, durations, order, given, marks)
 }
 
 // ---- the refresh

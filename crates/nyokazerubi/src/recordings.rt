@@ -8,17 +8,26 @@ ghost use Rattle.recording.specs.Recording.{Opens, totals-of, Rehearses};
 #[no_mangle]
 pub extern "C" fn nyokazerubi_open_recording(
     image: &[u8],
+    policy: u32,
     bytes: usize,
     order: &mut [u8],
     limits: &mut [i32],
     worst_by_position: &mut [u32],
     bounds: &mut [i32],
 ) -> Opened
-    ensures { λ r. ⌜ Opens (now (image .entry)) bytes
+    ensures { λ r. ⌜ Opens (now (image .entry)) policy bytes
         (record { order = now (order .entry); limits = now (limits .entry); worst = now («worst_by_position» .entry); bounds = now (bounds .entry) })
         (record { order = now (order .exit); limits = now (limits .exit); worst = now («worst_by_position» .exit); bounds = now (bounds .exit) }) r ⌝ }
 {
-    recording::open(image, bytes, order, limits, worst_by_position, bounds)
+    recording::open(
+        image,
+        policy,
+        bytes,
+        order,
+        limits,
+        worst_by_position,
+        bounds,
+    )
 }
 
 #[no_mangle]

@@ -1,27 +1,33 @@
--- A row of eight worked from the row after it holds the rules' limits, and so does the table that the rows go to. Assumes nothing.
-use Prim.Native.Nat.{ℕ, suc, _+_, _*_, _≤_, _<_, zero-le}
-use mathlib.Core.Path.{_≡_, sym, ap, _∙_}
+-- Worked from what the row after it carries, the limits of a position are the rules', of either policy, and so is the table that they go to.
+-- Assumes nothing.
+use Prim.Native.Nat.{ℕ, zero, suc, _+_, _*_, _≤_, _<_, zero-le}
+use mathlib.Core.Path.{_≡_, refl, sym, ap, ap₂, _∙_}
+use mathlib.Core.Bool.{Bool, true, false, cond}
 use mathlib.Core.List.{List}
 use native.Mathlib.Nat.{mul-le-mul-right}
 use native.Mathlib.Numerals.{add-one}
 use native.Mathlib.Decide.{decLt}
 use native.Mathlib.Omega.{arith}
+use borrow.Author.Tests.{ne-eqb}
+use lib.Dec.{eqb}
 use lib.IntN.{ℤ, pos, _-ℤ_}
 use lib.ListN.{length, getD, getD-replicate}
 use lib.Signed.{mag}
-use Rattle.rules.specs.Numbers.{last-clock, clock-end}
+use Rattle.rules.specs.Numbers.{last-clock, clock-end, policy-2005}
 use Rattle.rules.specs.Words.{minZ, tab, rows}
-use Rattle.rules.specs.Limits.{Tables, limit}
-use Rattle.rules.proofs.Limits.Signed.{at-most-less}
+use Rattle.rules.specs.Limits.{Tables, safe, average, limit, limit-of-sums, limit-2005, limit-by}
+use Rattle.rules.proofs.Limits.Signed.{AtMost, at-most-min, at-most-less, at-most-sooner, settled}
 use Rattle.rules.proofs.Limits.Mixed.{Sound}
 use Rattle.rules.proofs.Limits.Rows.{limit-last-row, limit-row-after}
-use Rattle.rules.proofs.Limits.Range.{Small, limit-range}
+use Rattle.rules.proofs.Limits.Range.{Small, average-range}
+use Rattle.rules.proofs.Limits.Parts.{average-last, average-row, safe-last, safe-row, level-0-2005}
+use Rattle.rules.proofs.Limits.Years.{of-either, range-by}
 use Rattle.fields.specs.Fields.{splice}
 use Rattle.fields.proofs.Strides.{stride-more}
 use Rattle.fields.proofs.Splice.{getD-splice}
 use Rattle.fields.proofs.Cats.{cat-from, from-none, from-more, from-done}
 use Rattle.fields.proofs.Tabs.{tab-ext, length-tab, getD-tab}
-use Rattle.plan_entry.specs.Rows.{limit-of, limits-of, row-of-eight, row-of, after-last, SmallRow}
+use Rattle.plan_entry.specs.Rows.{latest-start, limit-of, carried-of, rooms-of, limits-of, row-of-eight, row-of, after-last, SmallRow}
 use Rattle.plan_entry.proofs.Signed.{lesser-left}
 
 -- n positions and so many levels, with the rule and the ranges of an accepted profile
@@ -38,111 +44,222 @@ pub record Position (S : Tables) (levels i : ℕ) (average worst : ℕ → ℕ) 
   pub averages : (q : ℕ) → q < levels → average q ≡ S .average i q
   pub worsts : (q : ℕ) → q < levels → worst q ≡ S .worst i q
 
+-- what the row of position i carries at level q: of the rules' limit and of the limit of the averages alone
+abbrev pub carried-at : ℕ → Tables → ℕ → ℕ → ℤ
+carried-at policy S i q = carried-of policy q (limit-by policy S i q) (limit-of-sums S (average S) i q)
+
 -- the row at position i, or the one after the last
-pub record RowAt (S : Tables) (n levels i : ℕ) (row : List ℤ) : Type 0 where
-  pub limits : (q : ℕ) → q < levels → i < n → getD row q (pos 0) ≡ limit S i q
+pub record RowAt (policy : ℕ) (S : Tables) (n levels i : ℕ) (row : List ℤ) : Type 0 where
+  pub carries : (q : ℕ) → q < levels → i < n → getD row q (pos 0) ≡ carried-at policy S i q
   pub after : (q : ℕ) → q < levels → n ≤ i → getD row q (pos 0) ≡ pos last-clock
 
--- The loop before it works the position in front of i: the row at i, and the rows from i on in the lent table.
-pub record Worked (S : Tables) (n levels : ℕ) (out₀ : List ℤ) (i : ℕ) (next out : List ℤ) : Type 0 where
-  pub row : RowAt S n levels i next
-  pub table : out ≡ splice out₀ (i * levels) (cat-from (λ k. tab (limit S k) levels) i n)
+-- The loop before it works the position in front of i: the row at i, and the limits from i on in the lent table.
+pub record Worked (policy : ℕ) (S : Tables) (n levels : ℕ) (out₀ : List ℤ) (i : ℕ) (next out : List ℤ) : Type 0 where
+  pub row : RowAt policy S n levels i next
+  pub table : out ≡ splice out₀ (i * levels) (cat-from (λ k. tab (limit-by policy S k) levels) i n)
 
 eight-at : (f : ℕ → ℤ) (levels q : ℕ) → q < levels → getD (row-of-eight f levels) q (pos 0) ≡ f q
 unfolding row-of-eight
 eight-at f levels q h =
     getD-splice _ 0 (tab f levels) zero-le q q (pos 0) (omega arith) (omega (arith, length-tab f levels)) ∙ getD-tab f levels q (pos 0) h
 
--- at the last position a limit is deadline - worst
-last-limit : (deadline worst average m : ℕ) → deadline ≤ m → average ≤ worst
-    → limit-of deadline (pos m) (pos m) worst average ≡ pos deadline -ℤ pos worst
-last-limit deadline worst average m h k =
-    let top : minZ (pos deadline) (pos m) ≡ pos deadline = lesser-left (pos deadline) (pos m) (λ t c a. omega arith) in
-    rw top (lesser-left (pos deadline -ℤ pos worst) (pos m -ℤ pos average)
-    (λ t c a. at-most-less t c (pos m) average .1 (omega (arith, at-most-less t c (pos deadline) worst .0 a))))
+-- ---- a step
 
-module _ {S : Tables} {n levels : ℕ} (lawful : Lawful S n levels) where
+-- no start at the worst time is later than one at the average
+by-worst : (x : ℤ) (worst average : ℕ) → average ≤ worst → minZ (x -ℤ pos average) (x -ℤ pos worst) ≡ x -ℤ pos worst
+by-worst x worst average h = settled _ _ (λ t b. (
+  (λ a. at-most-min t b (x -ℤ pos average) (x -ℤ pos worst) .0 a .1),
+  (λ a. at-most-min t b (x -ℤ pos average) (x -ℤ pos worst) .1
+      (at-most-less t b x average .1 (at-most-sooner (t + average) (t + worst) b x (omega arith) (at-most-less t b x worst .0 a)), a)),
+))
+
+-- In 2008 the limit after it needs no deadline beside it: what ends by the deadline at the worst time does so at the average.
+by-after : (deadline worst average : ℕ) (first after : ℤ) → average ≤ worst
+    → minZ (latest-start deadline first worst) (after -ℤ pos average) ≡ limit-of deadline first worst (latest-start deadline after average)
+by-after deadline worst average first after h = settled _ _ (λ t b. (there t b, back t b))
+  where
+    safe : ℤ
+    safe = latest-start deadline first worst
+
+    room : ℤ
+    room = latest-start deadline after average
+
+    there : (t b : ℕ) → AtMost t b (minZ safe (after -ℤ pos average)) → AtMost t b (minZ room safe)
+    there t b a =
+        let p = at-most-min t b safe (after -ℤ pos average) .0 a in
+        let own = at-most-min (t + worst) b (pos deadline) first .0 (at-most-less t b (minZ (pos deadline) first) worst .0 (p .0)) .0 in
+        at-most-min t b room safe .1 (
+          at-most-less t b (minZ (pos deadline) after) average .1
+              (at-most-min (t + average) b (pos deadline) after .1 (omega arith, at-most-less t b after average .0 (p .1))),
+          p .0,
+        )
+
+    back : (t b : ℕ) → AtMost t b (minZ room safe) → AtMost t b (minZ safe (after -ℤ pos average))
+    back t b a =
+        let p = at-most-min t b room safe .0 a in
+        let both = at-most-min (t + average) b (pos deadline) after .0 (at-most-less t b (minZ (pos deadline) after) average .0 (p .0)) in
+        at-most-min t b safe (after -ℤ pos average) .1 (p .1, at-most-less t b after average .1 (both .1))
+
+above : (q : ℕ) → eqb (suc q) 0 ≡ false
+above q = ne-eqb (suc q) 0 (omega arith)
+
+-- the step at position i from what the row after it carries, and at the last position from a number that its deadline is not above
+module _ (S : Tables) (sound : Sound S) (policy i : ℕ) where
+  abbrev step : ℕ → ℤ → ℤ → ℤ
+  step q first after = limit-of (S .deadline i) first (S .worst i q) (latest-start (S .deadline i) after (S .average i q))
+
+  module _ (l : suc i < S .n) where
+    safe-is : (q : ℕ) → latest-start (S .deadline i) (limit-2005 S (suc i) 0) (S .worst i q) ≡ limit-of-sums S (safe S) i q
+    safe-is q = rw (level-0-2005 S (suc i) 0 sound l) (sym (safe-row S i q l))
+
+    limit-2005-is : (q : ℕ) → q < S .levels
+        → step q (limit-2005 S (suc i) 0) (cond (eqb q 0) (limit-2005 S (suc i) q) (limit-of-sums S (average S) (suc i) q)) ≡ limit-2005 S i q
+    unfolding limit-2005
+    limit-2005-is zero m =
+        by-worst (minZ (pos (S .deadline i)) (limit-2005 S (suc i) 0)) (S .worst i 0) (S .average i 0) (sound .ordered i 0 (omega arith) m)
+        ∙ safe-is 0
+        ∙ sym (level-0-2005 S i 0 sound (omega arith))
+    limit-2005-is (suc q) m = rw (above q) (ap₂ minZ (sym (average-row S i (suc q) l)) (safe-is (suc q)))
+
+    limit-before : (q : ℕ) → q < S .levels → step q (carried-at policy S (suc i) 0) (carried-at policy S (suc i) q) ≡ limit-by policy S i q
+    limit-before q m = by (eqb policy policy-2005)
+      where
+        by : (b : Bool) → let f : ℕ → ℕ → ℤ = cond b (limit-2005 S) (limit S) in
+            step q (cond b (f (suc i) 0) (f (suc i) 0)) (cond b (cond (eqb q 0) (f (suc i) q) (limit-of-sums S (average S) (suc i) q)) (f (suc i) q)) ≡ f i q
+        by true = limit-2005-is q m
+        by false =
+            sym (by-after (S .deadline i) (S .worst i q) (S .average i q) (limit S (suc i) 0) (limit S (suc i) q) (sound .ordered i q (omega arith) m))
+            ∙ sym (limit-row-after S sound i q m l)
+
+    -- and the room, where it is carried on
+    room-before : (q : ℕ) (x : ℤ)
+        → carried-of policy q x (latest-start (S .deadline i) (carried-at policy S (suc i) q) (S .average i q)) ≡ carried-of policy q x (limit-of-sums S (average S) i q)
+    room-before q x = by (eqb policy policy-2005) q
+      where
+        by : (b : Bool) (q : ℕ) → let f : ℕ → ℕ → ℤ = cond b (limit-2005 S) (limit S) in
+            let after = cond b (cond (eqb q 0) (f (suc i) q) (limit-of-sums S (average S) (suc i) q)) (f (suc i) q) in
+            cond b (cond (eqb q 0) x (latest-start (S .deadline i) after (S .average i q))) x ≡ cond b (cond (eqb q 0) x (limit-of-sums S (average S) i q)) x
+        by true zero = refl
+        by true (suc q) = rw (above q) (sym (average-row S i (suc q) l))
+        by false q = refl
+
+  module _ (l : suc i ≡ S .n) (top : ℕ) (under : S .deadline i ≤ top) where
+    ends : minZ (pos (S .deadline i)) (pos top) ≡ pos (S .deadline i)
+    ends = lesser-left (pos (S .deadline i)) (pos top) (λ t c a. omega arith)
+
+    limit-last : (q : ℕ) → q < S .levels → step q (pos top) (pos top) ≡ limit-by policy S i q
+    unfolding limit-2005
+    limit-last q m = rw ends (of-either (λ f. minZ (pos (S .deadline i) -ℤ pos (S .average i q)) (pos (S .deadline i) -ℤ pos (S .worst i q)) ≡ f i q) S policy
+        (ap₂ minZ (sym (average-last S i q l)) (sym (safe-last S i q l)))
+        (by-worst (pos (S .deadline i)) (S .worst i q) (S .average i q) (sound .ordered i q (omega arith) m) ∙ sym (limit-last-row S sound i q m l)))
+
+    room-last : (q : ℕ) → latest-start (S .deadline i) (pos top) (S .average i q) ≡ limit-of-sums S (average S) i q
+    room-last q = rw ends (sym (average-last S i q l))
+
+module _ {S : Tables} {n levels : ℕ} (lawful : Lawful S n levels) (policy : ℕ) where
   in-levels : (q : ℕ) → q < levels → q < S .levels
   in-levels q m = omega (arith, lawful .levels-are)
 
-  pub limit-near : (i q : ℕ) → i < n → q < levels → mag (limit S i q) < clock-end
-  limit-near i q l m = limit-range S (lawful .sound) (lawful .small) i q (in-levels q m) (omega (arith, lawful .positions))
+  pub limit-near : (i q : ℕ) → i < n → q < levels → mag (limit-by policy S i q) < clock-end
+  limit-near i q l m = range-by S (lawful .sound) policy (lawful .small) i q (omega (arith, lawful .positions)) (in-levels q m)
+
+  carried-near : (i q : ℕ) → i < n → q < levels → mag (carried-at policy S i q) < clock-end
+  carried-near i q l m = by (eqb policy policy-2005) (eqb q 0) (limit-by policy S i q) (limit-near i q l m)
+    where
+      by : (b z : Bool) (x : ℤ) → mag x < clock-end → mag (cond b (cond z x (limit-of-sums S (average S) i q)) x) < clock-end
+      by true true x h = h
+      by true false x h = average-range S (lawful .sound) (lawful .small) i q (omega (arith, lawful .positions)) (in-levels q m)
+      by false z x h = h
 
   -- ---- a row
 
-  pub row-none : {row : List ℤ} → row ≡ after-last → RowAt S n levels n row
+  pub row-none : {row : List ℤ} → row ≡ after-last → RowAt policy S n levels n row
   row-none e = record {
-    limits = λ q m l. let no-such : ⊥ = omega arith in absurd no-such;
+    carries = λ q m l. let no-such : ⊥ = omega arith in absurd no-such;
     after = λ q m l. rw e (getD-replicate 8 q (pos last-clock) (pos 0) (omega (arith, lawful .most)));
   }
 
   -- the row at i from the row at j, which is after it
   module _ {next : List ℤ} {average worst : ℕ → ℕ} {deadline : ℕ} (i j : ℕ) (e : j ≡ i + 1) (h : j ≤ n)
-      (was : RowAt S n levels j next) (at : Position S levels i average worst deadline) where
+      (was : RowAt policy S n levels j next) (at : Position S levels i average worst deadline) where
     here : i < S .n
     here = omega (arith, lawful .positions)
+
+    s : j ≡ suc i
+    s = e ∙ add-one i
 
     near : (q : ℕ) → q < levels → mag (getD next q (pos 0)) < clock-end
     near q m = go (decLt j n)
       where
         go : Dec (j < n) → mag (getD next q (pos 0)) < clock-end
-        go (yes l) = rw (was .limits q m l) (limit-near j q l m)
+        go (yes l) = rw (was .carries q m l) (carried-near j q l m)
         go (no l) = rw (was .after q m (omega arith)) (omega arith)
 
     pub row-small : SmallRow next average worst deadline levels
     row-small q m =
         let short = lawful .small .time i q here (in-levels q m) in
+        let due : deadline ≤ last-clock = omega (arith, at .due, lawful .small .due i here) in
         record {
-          due = omega (arith, at .due, lawful .small .due i here);
-          first-near = near 0 (omega arith);
-          after-near = near q m;
-          worst-short = omega (arith, at .worsts q m);
-          average-short = omega (arith, at .averages q m, lawful .sound .ordered i q here (in-levels q m));
+          by-worst = record { due = due; near = near 0 (omega arith); short = omega (arith, at .worsts q m) };
+          by-average = record {
+            due = due;
+            near = near q m;
+            short = omega (arith, at .averages q m, lawful .sound .ordered i q here (in-levels q m));
+          };
         }
 
-    pub limit-is : (q : ℕ) → q < levels → limits-of next average worst deadline q ≡ limit S i q
+    pub limit-is : (q : ℕ) → q < levels → limits-of next average worst deadline q ≡ limit-by policy S i q
     limit-is q m = rw (at .due, at .averages q m, at .worsts q m) (go (decLt j n))
       where
-        s : j ≡ suc i
-        s = e ∙ add-one i
+        go : Dec (j < n) → step S (lawful .sound) policy i q (getD next 0 (pos 0)) (getD next q (pos 0)) ≡ limit-by policy S i q
+        go (yes l) = rw (was .carries 0 (omega arith) l, was .carries q m l, s)
+            (limit-before S (lawful .sound) policy i (omega (arith, lawful .positions)) q (in-levels q m))
+        go (no l) = rw (was .after 0 (omega arith) (omega arith), was .after q m (omega arith))
+            (limit-last S (lawful .sound) policy i (omega (arith, lawful .positions)) last-clock (lawful .small .due i here) q (in-levels q m))
 
-        go : Dec (j < n) → limit-of (S .deadline i) (getD next 0 (pos 0)) (getD next q (pos 0)) (S .worst i q) (S .average i q) ≡ limit S i q
-        go (yes l) = rw (was .limits 0 (omega arith) l, was .limits q m l, s)
-            (sym (limit-row-after S (lawful .sound) i q (in-levels q m) (omega (arith, lawful .positions))))
-        go (no l) =
-            let last = limit-last-row S (lawful .sound) i q (in-levels q m) (omega (arith, lawful .positions)) in
-            rw (was .after 0 (omega arith) (omega arith), was .after q m (omega arith), last)
-            (last-limit (S .deadline i) (S .worst i q) (S .average i q) last-clock (lawful .small .due i here)
-            (lawful .sound .ordered i q here (in-levels q m)))
+    carried-is : (q : ℕ) → q < levels
+        → carried-of policy q (limits-of next average worst deadline q) (rooms-of next average deadline q) ≡ carried-at policy S i q
+    carried-is q m = rw (limit-is q m, at .due, at .averages q m) (go (decLt j n))
+      where
+        go : Dec (j < n) → carried-of policy q (limit-by policy S i q) (latest-start (S .deadline i) (getD next q (pos 0)) (S .average i q))
+            ≡ carried-at policy S i q
+        go (yes l) = rw (was .carries q m l, s)
+            (room-before S (lawful .sound) policy i (omega (arith, lawful .positions)) q (limit-by policy S i q))
+        go (no l) = rw (was .after q m (omega arith))
+            (ap (carried-of policy q (limit-by policy S i q))
+            (room-last S (lawful .sound) policy i (omega (arith, lawful .positions)) last-clock (lawful .small .due i here) q))
 
-    pub row-is : {row : List ℤ} → row ≡ row-of next average worst deadline levels → RowAt S n levels i row
+    pub row-is : {row : List ℤ} → row ≡ row-of policy next average worst deadline levels → RowAt policy S n levels i row
     row-is is = record {
-      limits = λ q m l. rw is (eight-at (limits-of next average worst deadline) levels q m ∙ limit-is q m);
+      carries = λ q m l. rw is (eight-at _ levels q m ∙ carried-is q m);
       after = λ q m l. let no-such : ⊥ = omega arith in absurd no-such;
     }
 
   -- ---- the loop: before it, a turn from position j down to i, and after it
 
-  pub worked-none : (out : List ℤ) {next : List ℤ} → next ≡ after-last → Worked S n levels out n next out
-  worked-none out e = record { row = row-none e; table = from-none (λ k. tab (limit S k) levels) out (n * levels) n }
+  abbrev limits : ℕ → List ℤ
+  limits k = tab (limit-by policy S k) levels
+
+  pub worked-none : (out : List ℤ) {next : List ℤ} → next ≡ after-last → Worked policy S n levels out n next out
+  worked-none out e = record { row = row-none e; table = from-none limits out (n * levels) n }
 
   pub worked-more : (out₀ : List ℤ) {next out row out′ : List ℤ} {average worst : ℕ → ℕ} {deadline : ℕ} (i j : ℕ) → j ≡ i + 1 → j ≤ n
-      → n * levels ≤ length out₀ → Worked S n levels out₀ j next out → Position S levels i average worst deadline
-      → row ≡ row-of next average worst deadline levels → out′ ≡ splice out (i * levels) (tab (limits-of next average worst deadline) levels)
-      → Worked S n levels out₀ i row out′
+      → n * levels ≤ length out₀ → Worked policy S n levels out₀ j next out → Position S levels i average worst deadline
+      → row ≡ row-of policy next average worst deadline levels → out′ ≡ splice out (i * levels) (tab (limits-of next average worst deadline) levels)
+      → Worked policy S n levels out₀ i row out′
   worked-more out₀ {next = next} {out = out} {average = average} {worst = worst} {deadline = deadline} i j e h room was at is stored =
-      let same = tab-ext (limits-of next average worst deadline) (limit S i) levels (limit-is i j e h (was .row) at) in
+      let same = tab-ext (limits-of next average worst deadline) (limit-by policy S i) levels (limit-is i j e h (was .row) at) in
       record {
         row = row-is i j e h (was .row) at is;
-        table = from-more (λ k. tab (limit S k) levels) levels (λ k. length-tab (limit S k) levels) out₀ i j n (j * levels) (i * levels) e h
+        table = from-more limits levels (λ k. length-tab (limit-by policy S k) levels) out₀ i j n (j * levels) (i * levels) e h
             (ap (λ (k : ℕ). k * levels) e ∙ stride-more i levels)
             (omega (arith, mul-le-mul-right levels h))
             (was .table)
             (stored ∙ ap (splice out (i * levels)) same);
       }
 
-  pub worked-done : (out₀ : List ℤ) {next out : List ℤ} (i : ℕ) → i ≡ 0 → Worked S n levels out₀ i next out
-      → out ≡ splice out₀ 0 (rows (limit S) n levels)
+  pub worked-done : (out₀ : List ℤ) {next out : List ℤ} (i : ℕ) → i ≡ 0 → Worked policy S n levels out₀ i next out
+      → out ≡ splice out₀ 0 (rows (limit-by policy S) n levels)
   worked-done out₀ i e w =
       let start : i * levels ≡ 0 = ap (λ (k : ℕ). k * levels) e ∙ omega arith in
-      from-done (λ k. tab (limit S k) levels) out₀ 0 i n (i * levels) e start (w .table)
+      from-done limits out₀ 0 i n (i * levels) e start (w .table)

@@ -1,28 +1,43 @@
--- Limits by rows of eight: the row at a position from the row after it.
+-- Limits by rows of eight: the limits of a position, and what its row carries on, from the row after it.
 use Prim.Native.Nat.{ℕ, _≤_, _<_}
+use mathlib.Core.Bool.{cond}
 use mathlib.Core.List.{List}
+use lib.Dec.{eqb}
 use lib.IntN.{ℤ, pos, _-ℤ_}
 use lib.ListN.{getD, replicate}
 use lib.Signed.{mag}
-use Rattle.rules.specs.Numbers.{most-levels, last-clock, clock-end, longest-time}
+use Rattle.rules.specs.Numbers.{most-levels, last-clock, clock-end, longest-time, policy-2005}
 use Rattle.rules.specs.Words.{minZ, tab}
 use Rattle.fields.specs.Fields.{splice}
 
--- A limit by the limits after it, `first` at level 0 and `after` at its own level: the lesser of min (deadline, first) - worst and
--- after - average.
-abbrev pub limit-of : ℕ → ℤ → ℤ → ℕ → ℕ → ℤ
-limit-of deadline first after worst average = minZ (minZ (pos deadline) first -ℤ pos worst) (after -ℤ pos average)
+-- the latest start of an action that takes so long and ends by its deadline and by `after`
+abbrev pub latest-start : ℕ → ℤ → ℕ → ℤ
+latest-start deadline after time = minZ (pos deadline) after -ℤ pos time
 
--- the same by the row after it, at each level
+-- A limit, of either policy: the lesser of `room`, the latest start at the average, and the latest start at the worst time before `first`, the
+-- limit of level 0 after it.
+abbrev pub limit-of : ℕ → ℤ → ℕ → ℤ → ℤ
+limit-of deadline first worst room = minZ room (latest-start deadline first worst)
+
+-- What the row carries on to the position before it: the limit, but in 2005 above level 0 the room, which is of the averages alone.
+abbrev pub carried-of : ℕ → ℕ → ℤ → ℤ → ℤ
+carried-of policy level limit room = cond (eqb policy policy-2005) (cond (eqb level 0) limit room) limit
+
+-- ---- by the row after it, at each level
+
+abbrev pub rooms-of : List ℤ → (ℕ → ℕ) → ℕ → ℕ → ℤ
+rooms-of next average deadline q = latest-start deadline (getD next q (pos 0)) (average q)
+
 abbrev pub limits-of : List ℤ → (ℕ → ℕ) → (ℕ → ℕ) → ℕ → ℕ → ℤ
-limits-of next average worst deadline q = limit-of deadline (getD next 0 (pos 0)) (getD next q (pos 0)) (worst q) (average q)
+limits-of next average worst deadline q = limit-of deadline (getD next 0 (pos 0)) (worst q) (rooms-of next average deadline q)
 
 -- a row of eight: f at each level, then 0
 unfoldable pub row-of-eight : (ℕ → ℤ) → ℕ → List ℤ
 row-of-eight f levels = splice (replicate most-levels (pos 0)) 0 (tab f levels)
 
-abbrev pub row-of : List ℤ → (ℕ → ℕ) → (ℕ → ℕ) → ℕ → ℕ → List ℤ
-row-of next average worst deadline levels = row-of-eight (limits-of next average worst deadline) levels
+abbrev pub row-of : ℕ → List ℤ → (ℕ → ℕ) → (ℕ → ℕ) → ℕ → ℕ → List ℤ
+row-of policy next average worst deadline levels =
+    row-of-eight (λ q. carried-of policy q (limits-of next average worst deadline q) (rooms-of next average deadline q)) levels
 
 -- the row after the last position: the latest deadline, which no limit is above
 abbrev pub after-last : List ℤ
@@ -30,13 +45,14 @@ after-last = replicate most-levels (pos last-clock)
 
 -- ---- numbers so small that every difference fits in 32 bits with a sign
 
-pub record SmallLimit (deadline : ℕ) (first after : ℤ) (worst average : ℕ) : Type 0 where
+pub record SmallStart (deadline : ℕ) (after : ℤ) (time : ℕ) : Type 0 where
   pub due : deadline ≤ last-clock
-  pub first-near : mag first < clock-end
-  pub after-near : mag after < clock-end
-  pub worst-short : worst ≤ longest-time
-  pub average-short : average ≤ longest-time
+  pub near : mag after < clock-end
+  pub short : time ≤ longest-time
+
+pub record SmallLimit (next : List ℤ) (average worst : ℕ → ℕ) (deadline q : ℕ) : Type 0 where
+  pub by-worst : SmallStart deadline (getD next 0 (pos 0)) (worst q)
+  pub by-average : SmallStart deadline (getD next q (pos 0)) (average q)
 
 abbrev pub SmallRow : List ℤ → (ℕ → ℕ) → (ℕ → ℕ) → ℕ → ℕ → Type 0
-SmallRow next average worst deadline levels =
-    (q : ℕ) → q < levels → SmallLimit deadline (getD next 0 (pos 0)) (getD next q (pos 0)) (worst q) (average q)
+SmallRow next average worst deadline levels = (q : ℕ) → q < levels → SmallLimit next average worst deadline q

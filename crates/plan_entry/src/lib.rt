@@ -7,7 +7,7 @@ ghost use lib.Signed.{mag};
 ghost use Rattle.rules.specs.Numbers.{most-levels, longest-coast};
 ghost use Rattle.rules.specs.Words.{minZ};
 ghost use Rattle.fields.specs.Fields.{splice};
-ghost use Rattle.plan_entry.specs.Rows.{limit-of, after-last, SmallLimit};
+ghost use Rattle.plan_entry.specs.Rows.{latest-start, limit-of, carried-of, after-last, SmallStart};
 ghost use Rattle.plan_entry.specs.Bounds.{bound-by, bounds-by, bound-in, signed-end, Spares};
 
 fn lesser(a: i32, b: i32) -> i32
@@ -25,15 +25,32 @@ fn minus(limit: i32, time: u32) -> i32
 
 // ---- limits
 
-// A limit by the limits after it, `first` at level 0 and `after` at its own level.
-pub fn limit_of(deadline: u32, first: i32, after: i32, worst: u32, average: u32) -> i32
-    requires { ⌜ SmallLimit deadline first after worst average ⌝ }
-    ensures { λ r. ⌜ r ≡ limit-of deadline first after worst average ⌝ }
+// The latest start of an action that takes `time` and ends by its deadline and by `after`.
+pub fn latest_start(deadline: u32, after: i32, time: u32) -> i32
+    requires { ⌜ SmallStart deadline after time ⌝ }
+    ensures { λ r. ⌜ r ≡ latest-start deadline after time ⌝ }
 {
-    lesser(
-        minus(lesser(deadline as i32, first), worst),
-        minus(after, average),
-    )
+    minus(lesser(deadline as i32, after), time)
+}
+
+// A limit by the limit of level 0 after it, `first`, and by `room`, the latest start at the average.
+pub fn limit_of(deadline: u32, first: i32, worst: u32, room: i32) -> i32
+    requires { ⌜ SmallStart deadline first worst ⌝ }
+    ensures { λ r. ⌜ r ≡ limit-of deadline first worst room ⌝ }
+{
+    let safe = latest_start(deadline, first, worst);
+    lesser(room, safe)
+}
+
+// What a row carries on to the position before it: the limit, but in 2005 the averages alone. The worst times are met at level 0, where it is
+// the limit of either policy.
+pub fn carried(policy: u32, level: usize, limit: i32, room: i32) -> i32
+    ensures { λ r. ⌜ r ≡ carried-of policy level limit room ⌝ }
+{
+    if policy != rules::POLICY_2005 {
+        return limit;
+    }
+    if level == 0 { limit } else { room }
 }
 
 // The row after the last position. It is never the lesser, so that the last row is worked as any other.

@@ -9,7 +9,7 @@ use lib.ListN.{getD}
 use Rattle.rules.specs.Words.{tab}
 use Rattle.rules.specs.Image.{due, average-of, worst-of, profile}
 use Rattle.rules.specs.Order.{Order}
-use Rattle.rules.specs.Limits.{Tables, tables, limit, LentTables}
+use Rattle.rules.specs.Limits.{Tables, tables, limit-by, LentTables}
 use Rattle.rules.proofs.Refusals.{Sound, accepted-sound}
 use Rattle.rules.proofs.Accepted.{some-level, tables-sound, tables-small}
 use Rattle.rules.proofs.Speed.Reading.{times-small}
@@ -26,11 +26,11 @@ use Rattle.plan_entry.proofs.Limits.{Lawful, Position, Worked, limit-is, worked
 use Rattle.plan_entry.proofs.Sixteens.{Bounded, bounded-more}
 use Rattle.plan_tables.specs.Filling.{PlanInput, EntriesFit, Works, RowsFilled}
 
--- The loop before it works the position in front of i: the row of limits at i, and the rows from i on in the three tables.
-pub record Back (S : Tables) (n L : ℕ) (lent : LentTables) (i : ℕ) (next : List ℤ) (now : LentTables) : Type 0 where
-  pub worked : Worked S n L (lent .limits) i next (now .limits)
+-- The loop before it works the position in front of i: the row at i, and the rows from i on in the three tables.
+pub record Back (policy : ℕ) (S : Tables) (n L : ℕ) (lent : LentTables) (i : ℕ) (next : List ℤ) (now : LentTables) : Type 0 where
+  pub worked : Worked policy S n L (lent .limits) i next (now .limits)
   pub stored : now .worst ≡ splice (lent .worst) (i * L) (cat-from (λ k. tab (S .worst k) L) i n)
-  pub bounded : Bounded S n L (lent .bounds) i (now .bounds)
+  pub bounded : Bounded policy S n L (lent .bounds) i (now .bounds)
 
 module _ {s : List ℕ} {n L cycle : ℕ} {actions : List ℕ} {o : Order (profile s .n)} (g : PlanInput s n L cycle actions o) where
   sound : Sound s
@@ -66,37 +66,37 @@ module _ {s : List ℕ} {n L cycle : ℕ} {actions : List ℕ} {o : Order (profi
 
 -- ---- the loop: before it, a turn from position j down to i, and after it
 
-module _ {S : Tables} {n L : ℕ} (lawful : Lawful S n L) (lent : LentTables) where
-  pub back-none : {next : List ℤ} → next ≡ after-last → Back S n L lent n next lent
+module _ {S : Tables} {n L : ℕ} (lawful : Lawful S n L) (policy : ℕ) (lent : LentTables) where
+  pub back-none : {next : List ℤ} → next ≡ after-last → Back policy S n L lent n next lent
   back-none e = record {
-    worked = worked-none lawful (lent .limits) e;
+    worked = worked-none lawful policy (lent .limits) e;
     stored = from-none (λ k. tab (S .worst k) L) (lent .worst) (n * L) n;
-    bounded = from-none (bounds-from S (limit S) L) (lent .bounds) (n * (L * 16)) n;
+    bounded = from-none (bounds-from S (limit-by policy S) L) (lent .bounds) (n * (L * 16)) n;
   }
 
   pub back-more : {s : List ℕ} {a deadline : ℕ} {next row : List ℤ} {before after : LentTables} (i j : ℕ) → j ≡ i + 1 → j ≤ n
-      → EntriesFit (n * L) lent → Back S n L lent j next before → Position S L i (average-of s a) (worst-of s a) deadline
-      → Works s L a deadline next (i * L) (n * L) before after row → Back S n L lent i row after
+      → EntriesFit (n * L) lent → Back policy S n L lent j next before → Position S L i (average-of s a) (worst-of s a) deadline
+      → Works s L policy a deadline next (i * L) (n * L) before after row → Back policy S n L lent i row after
   back-more {s} {a} {before = before} i j e h room was at is =
       let same = tab-ext (worst-of s a) (S .worst i) L (at .worsts) in
       record {
-        worked = worked-more lawful (lent .limits) i j e h (room .limits-room) (was .worked) at (is .row-is) (is .limits-are);
+        worked = worked-more lawful policy (lent .limits) i j e h (room .limits-room) (was .worked) at (is .row-is) (is .limits-are);
         stored = from-more (λ k. tab (S .worst k) L) L (λ k. length-tab (S .worst k) L) (lent .worst) i j n (j * L) (i * L) e h
             (ap (λ (k : ℕ). k * L) e ∙ stride-more i L)
             (omega (arith, mul-le-mul-right L h, room .worst-room))
             (was .stored)
             (is .worst-is ∙ ap (splice (before .worst) (i * L)) same);
-        bounded = bounded-more lawful (lent .bounds) (room .bounds-room) i j e h (was .bounded) _ (worst-of s a)
-            (limit-is lawful i j e h (was .worked .row) at) (at .worsts) (is .bounds-are);
+        bounded = bounded-more lawful policy (lent .bounds) (room .bounds-room) i j e h (was .bounded) _ (worst-of s a)
+            (limit-is lawful policy i j e h (was .worked .row) at) (at .worsts) (is .bounds-are);
       }
 
-pub back-done : {s : List ℕ} {n L : ℕ} (o : Order (profile s .n)) (lent : LentTables) {next : List ℤ} {after : LentTables} (i : ℕ) → i ≡ 0
-    → Lawful (tables (profile s) o) n L → Back (tables (profile s) o) n L lent i next after → RowsFilled s n L lent after o
-back-done {s} {n} {L} o lent i e lawful b =
+pub back-done : {s : List ℕ} {n L : ℕ} (policy : ℕ) (o : Order (profile s .n)) (lent : LentTables) {next : List ℤ} {after : LentTables} (i : ℕ) → i ≡ 0
+    → Lawful (tables (profile s) o) n L → Back policy (tables (profile s) o) n L lent i next after → RowsFilled s policy n L lent after o
+back-done {s} {n} {L} policy o lent i e lawful b =
     let S = tables (profile s) o in
     let start : (m : ℕ) → i * m ≡ 0 = λ m. ap (λ (k : ℕ). k * m) e ∙ omega arith in
     record {
-      limits-are = worked-done lawful (lent .limits) i e (b .worked);
+      limits-are = worked-done lawful policy (lent .limits) i e (b .worked);
       worst-is = from-done (λ k. tab (S .worst k) L) (lent .worst) 0 i n (i * L) e (start L) (b .stored);
-      bounds-are = from-done (bounds-from S (limit S) L) (lent .bounds) 0 i n (i * (L * 16)) e (start (L * 16)) (b .bounded);
+      bounds-are = from-done (bounds-from S (limit-by policy S) L) (lent .bounds) 0 i n (i * (L * 16)) e (start (L * 16)) (b .bounded);
     }

@@ -8,7 +8,7 @@ use Rattle.rules.specs.Numbers.{longest-coast}
 use Rattle.rules.specs.Words.{cat, tab, rows}
 use Rattle.rules.specs.Image.{average-of, worst-of, profile}
 use Rattle.rules.specs.Order.{Order}
-use Rattle.rules.specs.Limits.{tables, limit, LentTables, coast-bounds, planner-tables}
+use Rattle.rules.specs.Limits.{tables, limit-by, LentTables, coast-bounds, planner-tables}
 use Rattle.rules.specs.Refusals.{Accepted}
 use Rattle.fields.specs.Fields.{splice}
 use Rattle.image_fields.specs.Reading.{HasRecord}
@@ -33,7 +33,7 @@ pub record EntriesFit (entries : ℕ) (lent : LentTables) : Type 0 where
   pub worst-room : entries ≤ length (lent .worst)
   pub bounds-room : entries * longest-coast ≤ length (lent .bounds)
 
--- what the row of action a is worked from: its record, the row of limits after it, and the coast bounds of the position after it
+-- what the row of action a is worked from: its record, the row after it, and the coast bounds of the position after it
 pub record CanWork (s : List ℕ) (L a due : ℕ) (next : List ℤ) (from entries : ℕ) (lent : LentTables) : Type 0 where
   pub present : HasRecord s L a
   pub small : SmallRow next (average-of s a) (worst-of s a) due L
@@ -41,20 +41,20 @@ pub record CanWork (s : List ℕ) (L a due : ℕ) (next : List ℤ) (from entrie
   pub inside : from + L ≤ entries
   pub room : EntriesFit entries lent
 
--- the row worked, and stored in the tables of limits, worst times and coast bounds
-pub record Works (s : List ℕ) (L a due : ℕ) (next : List ℤ) (from entries : ℕ) (before after : LentTables) (row : List ℤ) : Type 0 where
-  pub row-is : row ≡ row-of next (average-of s a) (worst-of s a) due L
+-- the limits worked and stored, with the worst times and the coast bounds, and the row that is carried on
+pub record Works (s : List ℕ) (L policy a due : ℕ) (next : List ℤ) (from entries : ℕ) (before after : LentTables) (row : List ℤ) : Type 0 where
+  pub row-is : row ≡ row-of policy next (average-of s a) (worst-of s a) due L
   pub limits-are : after .limits ≡ splice (before .limits) from (tab (limits-of next (average-of s a) (worst-of s a) due) L)
   pub worst-is : after .worst ≡ splice (before .worst) from (tab (worst-of s a) L)
   pub bounds-are : after .bounds
       ≡ splice (before .bounds) (from * longest-coast)
       (cat (λ q. bounds-by (limits-of next (average-of s a) (worst-of s a) due q) (worst-of s a q) (bound-in (before .bounds) entries (from + q + L))) L)
 
--- all rows stored, of the order o: n positions at L levels
-pub record RowsFilled (s : List ℕ) (n L : ℕ) (before after : LentTables) (o : Order (profile s .n)) : Type 0 where
-  pub limits-are : after .limits ≡ splice (before .limits) 0 (rows (limit (tables (profile s) o)) n L)
+-- all rows stored, by a policy and of the order o: n positions at L levels
+pub record RowsFilled (s : List ℕ) (policy n L : ℕ) (before after : LentTables) (o : Order (profile s .n)) : Type 0 where
+  pub limits-are : after .limits ≡ splice (before .limits) 0 (rows (limit-by policy (tables (profile s) o)) n L)
   pub worst-is : after .worst ≡ splice (before .worst) 0 (rows (tables (profile s) o .worst) n L)
-  pub bounds-are : after .bounds ≡ splice (before .bounds) 0 (coast-bounds (tables (profile s) o) n L)
+  pub bounds-are : after .bounds ≡ splice (before .bounds) 0 (coast-bounds (tables (profile s) o) (limit-by policy (tables (profile s) o)) n L)
 
 -- lent tables with others written at their fronts; their tails are kept
 abbrev pub with-fronts : LentTables → LentTables → LentTables
@@ -65,6 +65,6 @@ with-fronts lent new = record {
   bounds = splice (lent .bounds) 0 (new .bounds);
 }
 
--- all four tables written, of the order o
-abbrev pub AllFilled : (s : List ℕ) (before after : LentTables) → Order (profile s .n) → Type 0
-AllFilled s before after o = after ≡ with-fronts before (planner-tables (profile s) o)
+-- all four tables written, by a policy and of the order o
+abbrev pub AllFilled : (s : List ℕ) (policy : ℕ) (before after : LentTables) → Order (profile s .n) → Type 0
+AllFilled s policy before after o = after ≡ with-fronts before (planner-tables policy (profile s) o)

@@ -7,11 +7,12 @@ ghost use Rattle.rules.specs.Image.{profile};
 ghost use Rattle.rules.specs.Order.{Order};
 ghost use Rattle.plan_tables.specs.Filling.{PlanInput, SomePlanInput, EntriesFit, CanWork, Works, RowsFilled, AllFilled};
 
-// The row of limits at the position from entry `from` on, for action a, from the row after it; the finished row goes to the lent table, and
-// so do the worst times and the coast bounds.
+// The limits at the position from entry `from` on, for action a, from the row after it, with the worst times and the coast bounds, to the lent
+// tables; and what this row carries on.
 fn work_row(
     image: &[u8],
     levels: usize,
+    policy: u32,
     a: usize,
     due: u32,
     next: [i32; rules::MOST_LEVELS],
@@ -23,17 +24,20 @@ fn work_row(
 ) -> [i32; rules::MOST_LEVELS]
     requires { ⌜ CanWork (now image) levels a due next from entries
         (record { order = []; limits = now limits; worst = now worst; bounds = now bounds }) ⌝ }
-    ensures { λ r. ⌜ Works (now (image .entry)) levels a due next from entries
+    ensures { λ r. ⌜ Works (now (image .entry)) levels policy a due next from entries
         (record { order = []; limits = now (limits .entry); worst = now (worst .entry); bounds = now (bounds .entry) })
         (record { order = []; limits = now (limits .exit); worst = now (worst .exit); bounds = now (bounds .exit) }) r ⌝ }
 {
+    let first = next[0];
     let mut here = [0i32; rules::MOST_LEVELS];
     let mut q = 0;
     while q < levels {
         let average = read::average_at(image, levels, a, q);
         let longest = read::worst_at(image, levels, a, q);
-        let limit = plan_entry::limit_of(due, next[0], next[q], longest, average);
-        here[q] = limit;
+        let after = next[q];
+        let room = plan_entry::latest_start(due, after, average);
+        let limit = plan_entry::limit_of(due, first, longest, room);
+        here[q] = plan_entry::carried(policy, q, limit, room);
         limits[from + q] = limit;
         worst[from + q] = longest;
         plan_entry::bounds_of(limit, longest, from + q, levels, entries, bounds);
@@ -48,6 +52,7 @@ fn work(
     n: usize,
     levels: usize,
     cycle: u32,
+    policy: u32,
     actions: &[u8; rules::MOST_ACTIONS],
     limits: &mut [i32],
     worst: &mut [u32],
@@ -56,7 +61,7 @@ fn work(
     requires { ⌜ SomePlanInput (now image) n levels cycle (now actions) ⌝ }
     requires { ⌜ EntriesFit (n * levels) (record { order = []; limits = now limits; worst = now worst; bounds = now bounds }) ⌝ }
     ensures { λ r. ⌜ ((o : Order (profile (now (image .entry)) .n)) → PlanInput (now (image .entry)) n levels cycle (now (actions .entry)) o
-        → RowsFilled (now (image .entry)) n levels
+        → RowsFilled (now (image .entry)) policy n levels
         (record { order = []; limits = now (limits .entry); worst = now (worst .entry); bounds = now (bounds .entry) })
         (record { order = []; limits = now (limits .exit); worst = now (worst .exit); bounds = now (bounds .exit) }) o) ⌝ }
 {
@@ -71,6 +76,7 @@ fn work(
         let here = work_row(
             image,
             levels,
+            policy,
             a,
             due,
             next,
@@ -90,6 +96,7 @@ pub fn fill(
     n: usize,
     levels: usize,
     cycle: u32,
+    policy: u32,
     actions: &[u8; rules::MOST_ACTIONS],
     order: &mut [u8],
     limits: &mut [i32],
@@ -100,10 +107,20 @@ pub fn fill(
     requires { ⌜ (n ≤ length (now order))
         × EntriesFit (n * levels) (record { order = now order; limits = now limits; worst = now worst; bounds = now bounds }) ⌝ }
     ensures { λ r. ⌜ ((o : Order (profile (now (image .entry)) .n)) → PlanInput (now (image .entry)) n levels cycle (now (actions .entry)) o
-        → AllFilled (now (image .entry))
+        → AllFilled (now (image .entry)) policy
         (record { order = now (order .entry); limits = now (limits .entry); worst = now (worst .entry); bounds = now (bounds .entry) })
         (record { order = now (order .exit); limits = now (limits .exit); worst = now (worst .exit); bounds = now (bounds .exit) }) o) ⌝ }
 {
     fields::copy_front(actions, n, order);
-    work(image, n, levels, cycle, actions, limits, worst, bounds);
+    work(
+        image,
+        n,
+        levels,
+        cycle,
+        policy,
+        actions,
+        limits,
+        worst,
+        bounds,
+    );
 }

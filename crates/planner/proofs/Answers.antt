@@ -2,17 +2,18 @@
 use Prim.Native.Nat.{ℕ, _*_, _≤_}
 use mathlib.Core.Path.{_≡_, refl}
 use mathlib.Core.List.{List, [], _∷_, _++_}
-use mathlib.Core.Logic.{inl, inr, _≢_}
+use mathlib.Core.Logic.{inl, inr, ⊎-elim, _≢_}
+use native.Mathlib.Decide.{ℕ-discrete}
 use native.Mathlib.Omega.{arith}
 use borrow.Author.Tests.{ne-eqb}
 use lib.ListN.{length}
-use Rattle.rules.specs.Numbers.{refused-room}
+use Rattle.rules.specs.Numbers.{refused-room, refused-policy}
 use Rattle.rules.specs.Image.{profile}
 use Rattle.rules.specs.Order.{Order}
 use Rattle.rules.specs.Limits.{LentTables}
-use Rattle.rules.specs.Refusals.{Ground, _when_, First, AtFault, Tight, Accepted, kept, image-checks}
+use Rattle.rules.specs.Refusals.{Ground, _when_, First, AtFault, Tight, UnknownPolicy, Accepted, kept, image-checks}
 use Rattle.rules.proofs.Differences.{not-above}
-use Rattle.rules.proofs.Refusals.{first-stops, first-goes-on, first-parts, handed-on, image-numbered}
+use Rattle.rules.proofs.Refusals.{Numbered, Sound, accepted-parts, first-stops, first-goes-on, first-parts, handed-on, image-numbered}
 use Rattle.image_check.specs.declared.Checked.{Checked}
 use Rattle.image_check.specs.Checks.{Judged}
 use Rattle.planner.specs.declared.Planned.{Planned}
@@ -31,20 +32,44 @@ kept-new k new old h e = rw h e
 pub by-number : (n : ℕ) → Order n
 by-number n = record { at = λ k. k; pos = λ a. a; at-lt = λ k l. l; pos-lt = λ a l. l; pos-at = λ k l. refl; at-pos = λ a l. refl }
 
--- ---- room
+-- ---- a refusal after another
 
--- 17, after 1 to 9
-abbrev room-check : List ℕ → LentTables → List Ground
-room-check s lent = refused-room when Tight (plan-rooms (profile s .n) (profile s .levels) lent) ∷ []
+-- the first of two: the second row's stands where the first gives none
+pub first-both : (row rest : List Ground) (k m : ℕ) {r : ℕ} → Numbered row → First row k → First rest m → r ≡ kept k m k → First (row ++ rest) r
+first-both row rest k m numbered p q e = rw e (by (ℕ-discrete k 0))
+  where
+    by : Dec (k ≡ 0) → First (row ++ rest) (kept k m k)
+    by (yes none) = rw none (first-goes-on row rest m numbered (rw none at p) q)
+    by (no some) = rw (ne-eqb k 0 some) (first-stops row rest k p some)
+
+-- ---- what planning judges before the room: the image's, then 20
+
+abbrev pub plan-checks : List ℕ → ℕ → List Ground
+plan-checks s policy = image-checks s ++ (refused-policy when UnknownPolicy policy ∷ [])
+
+pub plan-numbered : (s : List ℕ) (policy : ℕ) → Numbered (plan-checks s policy)
+plan-numbered s policy = omega arith
+
+pub passed-sound : (s : List ℕ) (policy : ℕ) → First (plan-checks s policy) 0 → Sound s
+passed-sound s policy p = ⊎-elim (λ x. absurd (x .1 refl)) (λ x. x .0) (accepted-parts s (refused-policy when UnknownPolicy policy ∷ []) 0 p)
+
+-- ---- the call's own, 20 and 17, after 1 to 9
+
+abbrev own-checks : ℕ → ℕ → ℕ → LentTables → List Ground
+own-checks policy n L lent = refused-policy when UnknownPolicy policy ∷ refused-room when Tight (plan-rooms n L lent) ∷ []
+
+abbrev own : List ℕ → ℕ → LentTables → List Ground
+own s policy lent = own-checks policy (profile s .n) (profile s .levels) lent
 
 module _ (n L : ℕ) (lent : LentTables) where
   pub record Roomy : Type 0 where
     pub order-room : n ≤ length (lent .order)
     pub entries-room : EntriesFit (n * L) lent
 
-  pub roomy : First (refused-room when Tight (plan-rooms n L lent) ∷ []) 0 → Roomy
-  roomy (inl p) = absurd (omega arith)
-  roomy (inr p) = record {
+  pub roomy : (policy : ℕ) → First (own-checks policy n L lent) 0 → Roomy
+  roomy policy (inl p) = absurd (omega arith)
+  roomy policy (inr (_, inl p)) = absurd (omega arith)
+  roomy policy (inr (_, inr p)) = record {
     order-room = not-above (λ h. p .0 (inl h));
     entries-room = record {
       limits-room = not-above (λ h. p .0 (inr (inl h)));
@@ -53,20 +78,21 @@ module _ (n L : ℕ) (lent : LentTables) where
     };
   }
 
--- ---- by what the check of the image answers: refused with 1 to 9, or judged for 17
+-- ---- by what the check of the image answers: refused with 1 to 9, or judged for 20 and 17
 
-module _ {s : List ℕ} {r : Checked} (a : Judged s r) (lent : LentTables) where
-  -- 17 blames no action, so the action is the check's
-  named : {k : ℕ} → First (image-checks s ++ room-check s lent) k → AtFault (image-checks s ++ room-check s lent) (r .refusal .action)
-  named p = handed-on (image-checks s) (room-check s lent) _ _ ((λ a z. z), tt) (a .action) p
+module _ {s : List ℕ} {r : Checked} (a : Judged s r) (policy : ℕ) (lent : LentTables) where
+  -- 20 and 17 blame no action, so the action is the check's
+  named : {k : ℕ} → First (image-checks s ++ own s policy lent) k → AtFault (image-checks s ++ own s policy lent) (r .refusal .action)
+  named p = handed-on (image-checks s) (own s policy lent) _ _ ((λ a z. z), ((λ a z. z), tt)) (a .action) p
 
-  pub image-refused : r .refusal .number ≢ 0 → Admits s lent r
+  pub image-refused : r .refusal .number ≢ 0 → Admits s policy lent r
   image-refused some =
-      let number = first-stops (image-checks s) (room-check s lent) (r .refusal .number) (a .number) some in
+      let number = first-stops (image-checks s) (own s policy lent) (r .refusal .number) (a .number) some in
       record { number = number; action = named number; found = λ none. absurd (some none) }
 
-  pub room-judged : {k : ℕ} → r .refusal .number ≡ 0 → First (refused-room when Tight (plan-rooms (r .n) (r .levels) lent) ∷ []) k
-      → Admits s lent (record {
+  pub own-judged : (unknown tight : ℕ) {k : ℕ} → r .refusal .number ≡ 0 → First (refused-policy when UnknownPolicy policy ∷ []) unknown
+      → First (refused-room when Tight (plan-rooms (r .n) (r .levels) lent) ∷ []) tight → k ≡ kept unknown tight unknown
+      → Admits s policy lent (record {
         refusal = record { number = k; action = r .refusal .action };
         n = r .n;
         levels = r .levels;
@@ -74,9 +100,11 @@ module _ {s : List ℕ} {r : Checked} (a : Judged s r) (lent : LentTables) where
         order = r .order;
         unfit = r .unfit;
       })
-  room-judged {k} none p =
+  own-judged unknown tight {k} none p q e =
       let found = a .accepted none in
-      let number = first-goes-on (image-checks s) (room-check s lent) k (image-numbered s) (rw none at (a .number)) (rw (found .n, found .levels) at p) in
+      let given = first-both (refused-policy when UnknownPolicy policy ∷ []) (refused-room when Tight (plan-rooms (r .n) (r .levels) lent) ∷ []) unknown tight
+      (omega arith, tt) p q e in
+      let number = first-goes-on (image-checks s) (own s policy lent) k (image-numbered s) (rw none at (a .number)) (rw (found .n, found .levels) at given) in
       record {
         number = number;
         action = named number;
@@ -85,8 +113,8 @@ module _ {s : List ℕ} {r : Checked} (a : Judged s r) (lent : LentTables) where
 
 -- ---- by what both checks answer
 
-module _ {s : List ℕ} {lent : LentTables} {r : Checked} (a : Admits s lent r) where
-  pub refused-plans : {p : Planned} → r .refusal .number ≢ 0 → p ≡ record { refusal = r .refusal; n = 0; levels = 0; cycle = 0 } → Plans s lent lent p
+module _ {s : List ℕ} {policy : ℕ} {lent : LentTables} {r : Checked} (a : Admits s policy lent r) where
+  pub refused-plans : {p : Planned} → r .refusal .number ≢ 0 → p ≡ record { refusal = r .refusal; n = 0; levels = 0; cycle = 0 } → Plans s policy lent lent p
   refused-plans some e = rw e (record {
     number = a .number;
     action = a .action;
@@ -99,9 +127,9 @@ module _ {s : List ℕ} {lent : LentTables} {r : Checked} (a : Admits s lent r) 
   })
 
   module _ (none : r .refusal .number ≡ 0) where
-    -- the image is accepted, and 17 is not given
-    parts : Accepted s × First (room-check s lent) 0
-    parts = elim (first-parts (image-checks s) (room-check s lent) 0 (image-numbered s) (rw none at (a .number))) [
+    -- the image is accepted, and neither 20 nor 17 is given
+    parts : Accepted s × First (own s policy lent) 0
+    parts = elim (first-parts (image-checks s) (own s policy lent) 0 (image-numbered s) (rw none at (a .number))) [
       | inl x ↦ absurd (x .1 refl)
       | inr x ↦ x
     ]
@@ -115,11 +143,11 @@ module _ {s : List ℕ} {lent : LentTables} {r : Checked} (a : Admits s lent r) 
     some-input = (a .found none .order .0, input)
 
     pub has-room : Roomy (r .n) (r .levels) lent
-    has-room = let found = a .found none in rw (found .n, found .levels) (roomy _ _ lent (parts .1))
+    has-room = let found = a .found none in rw (found .n, found .levels) (roomy _ _ lent policy (parts .1))
 
     pub all-written : {after : LentTables}
-        → ((o : Order (profile s .n)) → PlanInput s (r .n) (r .levels) (r .cycle) (r .order) o → AllFilled s lent after o)
-        → Plans s lent after (record { refusal = r .refusal; n = r .n; levels = r .levels; cycle = r .cycle })
+        → ((o : Order (profile s .n)) → PlanInput s (r .n) (r .levels) (r .cycle) (r .order) o → AllFilled s policy lent after o)
+        → Plans s policy lent after (record { refusal = r .refusal; n = r .n; levels = r .levels; cycle = r .cycle })
     all-written filled =
         let found = a .found none in
         record {

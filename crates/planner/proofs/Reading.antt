@@ -7,21 +7,22 @@ use lib.ListN.{getD}
 use Rattle.rules.specs.Numbers.{longest-coast}
 use Rattle.rules.specs.Image.{Profile}
 use Rattle.rules.specs.Order.{Order}
-use Rattle.rules.specs.Limits.{LentTables, tables, limit, coast-bound, planner-tables, planned}
+use Rattle.rules.specs.Limits.{LentTables, tables, limit-by, coast-bound, planner-tables, planned}
 use Rattle.rules.specs.Run.{lent}
 use Rattle.rules.specs.Dry.{cell}
 use Rattle.rules.proofs.Demand.Alike.{Alike}
 use Rattle.fields.proofs.Written.{tab-written, rows-written, blocks-written}
 use Rattle.planner.specs.Planning.{with-fronts}
 
-module _ (F : Profile) (o : Order (F .n)) (before : LentTables) {after : LentTables} (e : after ≡ with-fronts before (planner-tables F o)) where
+module _ (policy : ℕ) (F : Profile) (o : Order (F .n)) (before : LentTables) {after : LentTables}
+    (e : after ≡ with-fronts before (planner-tables policy F o)) where
   pub reads-order : (j : ℕ) → j < F .n → getD (after .order) j 0 ≡ o .at j
   reads-order j l = tab-written (o .at) (before .order) (F .n) 0 (ap (λ (x : LentTables). x .order) e) j l
 
-  pub reads-plan : Alike longest-coast (lent (F .n) (F .levels) after) (planned (tables F o))
+  pub reads-plan : Alike longest-coast (lent (F .n) (F .levels) after) (planned policy (tables F o))
   unfolding lent
   reads-plan =
-      let limit-of = limit (tables F o) in
+      let limit-of = limit-by policy (tables F o) in
       record {
         n = refl;
         levels = refl;

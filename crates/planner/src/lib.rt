@@ -6,8 +6,8 @@ use rules::Refusal;
 ghost use mathlib.Core.Path.{_≡_};
 ghost use mathlib.Core.List.{[], _∷_};
 ghost use Prim.Native.Nat.{_≤_};
-ghost use Rattle.rules.specs.Numbers.{most-actions, most-levels, refused-room};
-ghost use Rattle.rules.specs.Refusals.{_when_, First, Tight};
+ghost use Rattle.rules.specs.Numbers.{most-actions, most-levels, refused-room, refused-policy};
+ghost use Rattle.rules.specs.Refusals.{_when_, First, Tight, UnknownPolicy, kept};
 ghost use Rattle.planner.specs.Planning.{plan-rooms, Plans, Admits};
 
 // The answer of planning: with a refusal all else is 0; without one what the header says.
@@ -17,6 +17,21 @@ pub struct Planned {
     pub n: usize,
     pub levels: usize,
     pub cycle: u32,
+}
+
+// 20 for a policy other than those of 2008 and 2005.
+pub fn policy_refusal(policy: u32) -> Refusal
+    ensures { λ r. ⌜ First (refused-policy when UnknownPolicy policy ∷ []) (r .number) ⌝ }
+{
+    if policy == rules::POLICY_2008 {
+        return Refusal { number: 0 };
+    }
+    if policy == rules::POLICY_2005 {
+        return Refusal { number: 0 };
+    }
+    Refusal {
+        number: rules::REFUSED_POLICY,
+    }
 }
 
 // 17 where a lent table is shorter than needed.
@@ -53,17 +68,33 @@ fn tight(
     Refusal { number: 0 }
 }
 
-// What the check of the image answers, with 17 after 1 to 9.
-fn with_room(image: &[u8], order: &[u8], limits: &[i32], worst: &[u32], bounds: &[i32]) -> Checked
-    ensures { λ r. ⌜ Admits (now (image .entry))
+// The refusal that comes first: the second stands where there is no first.
+pub fn first_of(first: Refusal, second: Refusal) -> Refusal
+    ensures { λ r. ⌜ r .number ≡ kept (first .number) (second .number) (first .number) ⌝ }
+{
+    if first.number == 0 { second } else { first }
+}
+
+// What the check of the image answers, with 20 and 17 after 1 to 9.
+fn with_room(
+    image: &[u8],
+    policy: u32,
+    order: &[u8],
+    limits: &[i32],
+    worst: &[u32],
+    bounds: &[i32],
+) -> Checked
+    ensures { λ r. ⌜ Admits (now (image .entry)) policy
         (record { order = now (order .entry); limits = now (limits .entry); worst = now (worst .entry); bounds = now (bounds .entry) }) r ⌝ }
 {
     let mut checked = whole::checked(image);
     if checked.refusal.number != 0 {
         return checked;
     }
+    let unknown = policy_refusal(policy);
     let room = tight(checked.n, checked.levels, order, limits, worst, bounds);
-    checked.refusal.number = room.number;
+    let own = first_of(unknown, room);
+    checked.refusal.number = own.number;
     checked
 }
 
@@ -79,19 +110,20 @@ fn refused(refusal: Fault) -> Planned
     }
 }
 
-// Plans an image. A refusal leaves the tables untouched, and what they have beyond what is needed stays.
+// Plans an image by the policy of 2008 or of 2005. A refusal leaves the tables untouched, and what they have beyond what is needed stays.
 pub fn plan(
     image: &[u8],
+    policy: u32,
     order: &mut [u8],
     limits: &mut [i32],
     worst: &mut [u32],
     bounds: &mut [i32],
 ) -> Planned
-    ensures { λ r. ⌜ Plans (now (image .entry))
+    ensures { λ r. ⌜ Plans (now (image .entry)) policy
         (record { order = now (order .entry); limits = now (limits .entry); worst = now (worst .entry); bounds = now (bounds .entry) })
         (record { order = now (order .exit); limits = now (limits .exit); worst = now (worst .exit); bounds = now (bounds .exit) }) r ⌝ }
 {
-    let checked = with_room(image, order, limits, worst, bounds);
+    let checked = with_room(image, policy, order, limits, worst, bounds);
     let refusal = checked.refusal;
     if refusal.number != 0 {
         return refused(refusal);
@@ -105,6 +137,7 @@ pub fn plan(
         n,
         levels,
         cycle,
+        policy,
         &actions,
         order,
         limits,

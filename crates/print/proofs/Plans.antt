@@ -7,12 +7,12 @@ use native.Mathlib.Nat.{mul-le-mul}
 use native.Mathlib.Omega.{arith}
 use lib.IntN.{ℤ, pos}
 use lib.ListN.{length, getD}
-use Rattle.rules.specs.Numbers.{most-actions, most-levels, refused-room}
+use Rattle.rules.specs.Numbers.{most-actions, most-levels, refused-room, refused-policy}
 use Rattle.rules.specs.Words.{cat}
 use Rattle.rules.specs.Image.{profile}
-use Rattle.rules.specs.Limits.{LentTables, tables, limit, planner-tables}
-use Rattle.rules.specs.Refusals.{Ground, Tight, _when_, First, Refuses, image-checks}
-use Rattle.rules.proofs.Refusals.{Sound, accepted-sound, accepted-parts, handed-back}
+use Rattle.rules.specs.Limits.{LentTables, tables, limit-by, planner-tables}
+use Rattle.rules.specs.Refusals.{Ground, Tight, _when_, First, Refuses, UnknownPolicy, image-checks}
+use Rattle.rules.proofs.Refusals.{Sound, accepted-sound, accepted-parts, first-stops, first-goes-on, handed-on, handed-back, image-numbered}
 use Rattle.rules.proofs.Differences.{not-above}
 use Rattle.fields.proofs.Cats.{cat-ext}
 use Rattle.fields.proofs.Tabs.{tab-ext}
@@ -24,7 +24,7 @@ use Rattle.text.specs.Digits.{decimal, signed, line}
 use Rattle.text.specs.Put.{Puts}
 use Rattle.text.proofs.Puts.{put-as}
 use Rattle.print_lines.specs.Lines.{fault-text}
-use Rattle.print.specs.Plan.{counts-line, position-line, plan-text, TellsPlan}
+use Rattle.print.specs.Plan.{counts-line, position-line, plan-text, told-call, TellsPlan}
 
 -- ---- an accepted image has at most 64 actions and 8 levels
 
@@ -58,9 +58,12 @@ pub record Ample (lent : LentTables) : Type 0 where
   pub worst-room : 512 ≤ length (lent .worst)
   pub bounds-room : 8192 ≤ length (lent .bounds)
 
-module _ {s : List ℕ} {before after : LentTables} {r : Planned} (p : Plans s before after r) where
+module _ {s : List ℕ} {policy : ℕ} {before after : LentTables} {r : Planned} (p : Plans s policy before after r) where
+  abbrev unknown : Ground
+  unknown = refused-policy when UnknownPolicy policy
+
   abbrev own : List Ground
-  own = refused-room when Tight (plan-rooms (profile s .n) (profile s .levels) before) ∷ []
+  own = unknown ∷ refused-room when Tight (plan-rooms (profile s .n) (profile s .levels) before) ∷ []
 
   parts : (First (image-checks s) (r .refusal .number) × (r .refusal .number ≢ 0)) ⊎ (Sound s × First own (r .refusal .number))
   parts = accepted-parts s own (r .refusal .number) (p .number)
@@ -79,16 +82,16 @@ module _ {s : List ℕ} {before after : LentTables} {r : Planned} (p : Plans s b
     counts = rw (n-is, levels-are) (few (⊎-elim (λ x. absurd (x .1 none)) (λ x. x .0) parts))
 
     text-is : counts-line (r .n) (r .levels) (r .cycle) ++ cat (told (after .order) (after .limits) (r .levels)) (r .n)
-        ≡ plan-text (profile s .n) (profile s .levels) (profile s .cycle) (p .o .at) (limit (tables (profile s) (p .o)))
+        ≡ plan-text (profile s .n) (profile s .levels) (profile s .cycle) (p .o .at) (limit-by policy (tables (profile s) (p .o)))
     text-is =
         let n : ℕ = profile s .n in
         let L : ℕ = profile s .levels in
-        let written : after ≡ with-fronts before (planner-tables (profile s) (p .o)) = rw none at (p .tables-are) in
+        let written : after ≡ with-fronts before (planner-tables policy (profile s) (p .o)) = rw none at (p .tables-are) in
         rw (n-is, levels-are, cycle-is)
         (ap (λ (x : List ℕ). counts-line n L (profile s .cycle) ++ x)
         (cat-ext _ _ n
         (λ i b. position-ext i _ _ L (tab-written (p .o .at) (before .order) n 0 (ap (λ (T : LentTables). T .order) written) i b)
-        (λ q c. rows-written (limit (tables (profile s) (p .o))) (before .limits) n L (pos 0) (ap (λ (T : LentTables). T .limits) written) i q b c))))
+        (λ q c. rows-written (limit-by policy (tables (profile s) (p .o))) (before .limits) n L (pos 0) (ap (λ (T : LentTables). T .limits) written) i q b c))))
 
   module _ (room : Ample before) where
     enough : Sound s → Tight (plan-rooms (profile s .n) (profile s .levels) before) → ⊥
@@ -99,18 +102,24 @@ module _ {s : List ℕ} {before after : LentTables} {r : Planned} (p : Plans s b
         (⊎-elim (λ t. omega (arith, k .cells, room .worst-room))
         (⊎-elim (λ t. omega (arith, k .cells, room .bounds-room)) (λ t. t))))
 
-    by-image : First (image-checks s) (r .refusal .number)
-    by-image =
-        ⊎-elim (λ x. x .0)
-        (λ x. ⊎-elim (λ t. absurd (enough (x .0) (t .0))) (λ t. rw (t .1) (accepted-sound s .1 (x .0))) (x .1))
+    -- after the image's refusals 20 alone is left
+    left : Sound s → First own (r .refusal .number) → First (unknown ∷ []) (r .refusal .number)
+    left h = ⊎-elim (λ t. inl t) (λ t. inr (t .0, ⊎-elim (λ u. absurd (enough h (u .0))) (λ u. u .1) (t .1)))
+
+    number-is : First (told-call s policy) (r .refusal .number)
+    number-is =
+        ⊎-elim (λ x. first-stops (image-checks s) (unknown ∷ []) (r .refusal .number) (x .0) (x .1))
+        (λ x. first-goes-on (image-checks s) (unknown ∷ []) (r .refusal .number) (image-numbered s) (accepted-sound s .1 (x .0)) (left (x .0) (x .1)))
         parts
 
-    -- the image's refusal, its action with it
-    given : Refuses (image-checks s) (r .refusal)
-    given = record { number = by-image; action = handed-back (image-checks s) own (r .refusal .action) ((λ a z. z), tt) (p .action) }
+    -- its action is the image's
+    given : Refuses (told-call s policy) (r .refusal)
+    given =
+        let image = handed-back (image-checks s) own (r .refusal .action) ((λ a z. z), ((λ a z. z), tt)) (p .action) in
+        record { number = number-is; action = handed-on (image-checks s) (unknown ∷ []) _ (r .refusal .action) ((λ a z. z), tt) image number-is }
 
     module _ {out out′ : List ℕ} {k : ℕ} where
-      pub plan-refused : r .refusal .number ≢ 0 → Puts out 0 (fault-text (r .refusal)) out′ k → TellsPlan s out out′ k
+      pub plan-refused : r .refusal .number ≢ 0 → Puts out 0 (fault-text (r .refusal)) out′ k → TellsPlan s policy out out′ k
       plan-refused some put = record {
         refusal = r .refusal;
         given = given;
@@ -120,7 +129,7 @@ module _ {s : List ℕ} {before after : LentTables} {r : Planned} (p : Plans s b
       }
 
       pub plan-told : r .refusal .number ≡ 0
-          → Puts out 0 (counts-line (r .n) (r .levels) (r .cycle) ++ cat (told (after .order) (after .limits) (r .levels)) (r .n)) out′ k → TellsPlan s out out′ k
+          → Puts out 0 (counts-line (r .n) (r .levels) (r .cycle) ++ cat (told (after .order) (after .limits) (r .levels)) (r .n)) out′ k → TellsPlan s policy out out′ k
       plan-told none put = record {
         refusal = r .refusal;
         given = given;

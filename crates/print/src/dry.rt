@@ -42,9 +42,9 @@ fn put_end(out: &mut [u8], at: usize, framed: Framed) -> usize
     put_four(out, at, framed.decisions, framed.end, overrun, late)
 }
 
-// Position, action, level and decided; then decisions, end, overrun, late.
-pub fn dry_text(image: &[u8], bytes: &[u8], out: &mut [u8]) -> usize
-    ensures { λ r. ⌜ TellsDry (now (image .entry)) (durations (now (bytes .entry))) (now (out .entry)) (now (out .exit)) r ⌝ }
+// Position, action, level and decided, by the policy; then decisions, end, overrun, late.
+pub fn dry_text(image: &[u8], policy: u32, bytes: &[u8], out: &mut [u8]) -> usize
+    ensures { λ r. ⌜ TellsDry (now (image .entry)) policy (durations (now (bytes .entry))) (now (out .entry)) (now (out .exit)) r ⌝ }
 {
     let mut durations = [0u32; 512];
     let count = recording_bytes::take_durations(bytes, &mut durations);
@@ -53,6 +53,7 @@ pub fn dry_text(image: &[u8], bytes: &[u8], out: &mut [u8]) -> usize
     let mut marks = [0u8; 64];
     let framed = dry_frame::dry_frame(
         image,
+        policy,
         &durations[..count],
         &mut order,
         &mut given,

@@ -85,15 +85,22 @@ fn put_positions(
     to
 }
 
-// Actions, levels, cycle; then position, action and limits by level.
-pub fn plan_text(image: &[u8], out: &mut [u8]) -> usize
-    ensures { λ r. ⌜ TellsPlan (now (image .entry)) (now (out .entry)) (now (out .exit)) r ⌝ }
+// Actions, levels, cycle; then position, action and the limits of the policy by level.
+pub fn plan_text(image: &[u8], policy: u32, out: &mut [u8]) -> usize
+    ensures { λ r. ⌜ TellsPlan (now (image .entry)) policy (now (out .entry)) (now (out .exit)) r ⌝ }
 {
     let mut order = [0u8; 64];
     let mut limits = [0i32; 512];
     let mut worst = [0u32; 512];
     let mut bounds = [0i32; 8192];
-    let planned = planner::plan(image, &mut order, &mut limits, &mut worst, &mut bounds);
+    let planned = planner::plan(
+        image,
+        policy,
+        &mut order,
+        &mut limits,
+        &mut worst,
+        &mut bounds,
+    );
     let refusal = planned.refusal;
     if refusal.number != 0 {
         return put_fault(out, 0, refusal);

@@ -3,10 +3,10 @@ use Prim.Native.Nat.{ℕ}
 use mathlib.Core.Path.{_≡_, refl, sym, ap, _∙_}
 use mathlib.Core.List.{List, [], _∷_}
 use mathlib.Core.Logic.{⊎-elim}
-use Rattle.rules.specs.Numbers.{refused-trace, refused-room}
+use Rattle.rules.specs.Numbers.{refused-trace, refused-room, refused-policy}
 use Rattle.rules.specs.Image.{profile}
 use Rattle.rules.specs.Limits.{LentTables, planner-tables}
-use Rattle.rules.specs.Refusals.{Ground, _when_, Tight}
+use Rattle.rules.specs.Refusals.{Ground, _when_, Tight, UnknownPolicy}
 use Rattle.rules.specs.Recording as rules
 use Rattle.rules.specs.Recording.{Ran, ran-of, with-frame, NotFrames, recording-call, recorded-call}
 use Rattle.rules.specs.declared.Fault.{Fault}
@@ -24,16 +24,17 @@ made-one : {a a′ : Fault} {b b′ c c′ d d′ e e′ : ℕ} → a ≡ a′ �
     (record { refusal = a′; n = b′; levels = c′; «frame_bytes» = d′; frames = e′ })
 made-one p q r s t = cc
 
-module _ {s : List ℕ} {bytes : ℕ} {before after₁ after₂ : LentTables} {r t : Opened} (x : Opens s bytes before after₁ r) (y : Opens s bytes before after₂ t) where
+module _ {s : List ℕ} {policy bytes : ℕ} {before after₁ after₂ : LentTables} {r t : Opened}
+    (x : Opens s policy bytes before after₁ r) (y : Opens s policy bytes before after₂ t) where
   abbrev rooms : List (ℕ × ℕ)
   rooms = plan-rooms (profile s .n) (profile s .levels) before
 
   abbrev own : List Ground
-  own = refused-trace when NotFrames (profile s .n) (profile s .levels) bytes ∷ refused-room when Tight rooms ∷ []
+  own = refused-policy when UnknownPolicy policy ∷ refused-trace when NotFrames (profile s .n) (profile s .levels) bytes ∷ refused-room when Tight rooms ∷ []
 
   refusal : r .refusal ≡ t .refusal
   refusal =
-      refuses-one (recording-call s bytes rooms) (r .refusal) (t .refusal)
+      refuses-one (recording-call s policy bytes rooms) (r .refusal) (t .refusal)
       (record { number = x .number; action = x .action })
       (record { number = y .number; action = y .action })
 
@@ -51,8 +52,8 @@ module _ {s : List ℕ} {bytes : ℕ} {before after₁ after₂ : LentTables} {r
       (kept-one _ _ _ _ 0 number (λ _. refl) (x .a-frame) (y .a-frame))
       (kept-one _ _ _ _ 0 number (λ _. refl) (x .frames) (y .frames))
 
-  tables-one : r .refusal .number ≡ 0 → planner-tables (profile s) (x .o) ≡ planner-tables (profile s) (y .o)
-  tables-one none = tables-settled (sound none .not-count) (x .the-order none) (y .the-order (sym number ∙ none))
+  tables-one : r .refusal .number ≡ 0 → planner-tables policy (profile s) (x .o) ≡ planner-tables policy (profile s) (y .o)
+  tables-one none = tables-settled policy (sound none .not-count) (x .the-order none) (y .the-order (sym number ∙ none))
 
   -- Two results that satisfy the contract on the same input are equal.
   pub open-settled : (r ≡ t) × (after₁ ≡ after₂)

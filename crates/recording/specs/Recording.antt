@@ -9,7 +9,7 @@ use lib.ListN.{length, getD}
 use Rattle.rules.specs.Numbers.{longest-coast}
 use Rattle.rules.specs.Image.{profile}
 use Rattle.rules.specs.Order.{Order, TheOrder}
-use Rattle.rules.specs.Limits.{Tables, limit, LentTables, planner-tables}
+use Rattle.rules.specs.Limits.{Tables, limit-by, LentTables, planner-tables}
 use Rattle.rules.specs.Refusals.{First, AtFault, kept, Short, CountsOut}
 use Rattle.rules.specs.Dry.{cell}
 use Rattle.rules.specs.Demand.{Policy, clock, Kept}
@@ -23,18 +23,18 @@ use Rattle.recording.specs.declared.Counted.{Counted}
 
 -- ---- the recording
 
--- The answer to an image s and a recording of so many bytes, and what it leaves of the lent tables: the planner's at their fronts, whose tails
--- are kept, and with a refusal all that was there. Without one the order is the profile's; with one o counts for nothing.
-pub record Opens (s : List ℕ) (bytes : ℕ) (before after : LentTables) (r : Opened) : Type 0 where
-  pub number : First (recording-call s bytes (plan-rooms (profile s .n) (profile s .levels) before)) (r .refusal .number)
-  pub action : AtFault (recording-call s bytes (plan-rooms (profile s .n) (profile s .levels) before)) (r .refusal .action)
+-- The answer to an image s, a policy and a recording of so many bytes, and what it leaves of the lent tables: the planner's at their fronts,
+-- whose tails are kept, and with a refusal all that was there. Without one the order is the profile's; with one o counts for nothing.
+pub record Opens (s : List ℕ) (policy bytes : ℕ) (before after : LentTables) (r : Opened) : Type 0 where
+  pub number : First (recording-call s policy bytes (plan-rooms (profile s .n) (profile s .levels) before)) (r .refusal .number)
+  pub action : AtFault (recording-call s policy bytes (plan-rooms (profile s .n) (profile s .levels) before)) (r .refusal .action)
   pub n : r .n ≡ kept (r .refusal .number) (profile s .n) 0
   pub levels : r .levels ≡ kept (r .refusal .number) (profile s .levels) 0
   pub a-frame : r .«frame_bytes» ≡ kept (r .refusal .number) (frame-bytes (profile s .n) (profile s .levels)) 0
   pub frames : r .frames ≡ kept (r .refusal .number) (bytes / frame-bytes (profile s .n) (profile s .levels)) 0
   pub o : Order (profile s .n)
   pub the-order : r .refusal .number ≡ 0 → TheOrder (profile s) o
-  pub tables-are : after ≡ kept (r .refusal .number) (with-fronts before (planner-tables (profile s) o)) before
+  pub tables-are : after ≡ kept (r .refusal .number) (with-fronts before (planner-tables policy (profile s) o)) before
 
 -- ---- a frame
 
@@ -90,11 +90,12 @@ pub record HasRoom (n L : ℕ) (T : LentTables) : Type 0 where
 
 -- ---- demand 3
 
--- What a frame of these durations keeps, given `levels`, that ended with the line r: every deadline, the asked manager's level by the mixed
--- limits at each position, and the fewest decisions of all ways of coasting that can't differ; and the late mark is not set.
-pub record FrameKeeps (S : Tables) (d levels : List ℕ) (r : Ran) : Type 0 where
+-- What a frame of these durations keeps, given `levels`, that ended with the line r: every deadline, the asked manager's level by the limits of
+-- the policy chosen by its year at each position, and the fewest decisions of all ways of coasting that can't differ; and the late mark is not
+-- set.
+pub record FrameKeeps (year : ℕ) (S : Tables) (d levels : List ℕ) (r : Ran) : Type 0 where
   pub policy : Policy S
-  pub mixed : policy .limit ≡ limit S
+  pub chosen : policy .limit ≡ limit-by year S
   pub kept : Kept longest-coast policy 0 (λ j. cell d (S .levels) j (getD levels j 0)) (λ j. getD levels j 0) (r .decisions)
   pub ends : r .end ≡ clock 0 (λ j. cell d (S .levels) j (getD levels j 0)) (S .n)
   pub no-late : r .late ≡ false

@@ -1,4 +1,4 @@
-// Recordings: an image is planned once, and then frames are run dry over its tables one at a time, each from time 0, and counted.
+// Recordings: an image is planned once, by a policy, and then frames are run dry over its tables one at a time, each from time 0, and counted.
 //
 // A recording is frames one after another, and nothing else. A frame is n by L durations, by position, then level, four bytes each, high byte
 // first. No call takes more of a recording than its length and one frame.
@@ -11,8 +11,8 @@ ghost use mathlib.Core.Path.{_≡_};
 ghost use mathlib.Core.Bool.{true, false};
 ghost use mathlib.Core.List.{[], _∷_, _++_};
 ghost use mathlib.Core.Logic.{_≢_};
-ghost use Rattle.rules.specs.Numbers.{most-actions, most-frames, refused-turn, refused-trace};
-ghost use Rattle.rules.specs.Refusals.{_when_, First, Refuses, image-checks};
+ghost use Rattle.rules.specs.Numbers.{most-actions, most-frames, refused-turn, refused-trace, refused-policy};
+ghost use Rattle.rules.specs.Refusals.{_when_, First, Refuses, UnknownPolicy, image-checks};
 ghost use Rattle.rules.specs.Run.{begun, ended};
 ghost use Rattle.rules.specs.Dry.{cell, dry-call};
 ghost use Rattle.rules.specs.Recording.{durations, with-frame, totals-fit};
@@ -62,38 +62,45 @@ fn unopened(refusal: Fault) -> Opened
     }
 }
 
-// The refusal of a recording whose length is not that of its frames: the image's, else 14.
-fn length_refusal(image: &[u8]) -> Fault
-    ensures { λ r. ⌜ Refuses (image-checks (now (image .entry)) ++ (refused-trace when Unit {0} ∷ [])) r ⌝ }
+// The refusal of a recording whose length is not that of its frames: the image's, then 20, else 14.
+fn length_refusal(image: &[u8], policy: u32) -> Fault
+    ensures { λ r. ⌜ Refuses
+        (image-checks (now (image .entry)) ++ (refused-policy when UnknownPolicy policy ∷ refused-trace when Unit {0} ∷ [])) r ⌝ }
 {
     let refusal = image_check::check(image);
     if refusal.number != 0 {
         return refusal;
     }
-    Fault {
+    let unknown = planner::policy_refusal(policy);
+    let length = Refusal {
         number: rules::REFUSED_TRACE,
+    };
+    let own = planner::first_of(unknown, length);
+    Fault {
+        number: own.number,
         action: rules::NO_ACTION,
     }
 }
 
-// Plans an image for a recording of so many bytes. A refusal leaves the tables untouched, so the length is judged before planning, by what the
-// header says: 14 comes after the image's refusals and before 17.
+// Plans an image by a policy for a recording of so many bytes. A refusal leaves the tables untouched, so the length is judged before planning,
+// by what the header says: 14 comes after the image's refusals and 20, and before 17.
 pub fn open(
     image: &[u8],
+    policy: u32,
     bytes: usize,
     order: &mut [u8],
     limits: &mut [i32],
     worst: &mut [u32],
     bounds: &mut [i32],
 ) -> Opened
-    ensures { λ r. ⌜ Opens (now (image .entry)) bytes
+    ensures { λ r. ⌜ Opens (now (image .entry)) policy bytes
         (record { order = now (order .entry); limits = now (limits .entry); worst = now (worst .entry); bounds = now (bounds .entry) })
         (record { order = now (order .exit); limits = now (limits .exit); worst = now (worst .exit); bounds = now (bounds .exit) }) r ⌝ }
 {
     if !whole_frames(image, bytes) {
-        return unopened(length_refusal(image));
+        return unopened(length_refusal(image, policy));
     }
-    let planned = planner::plan(image, order, limits, worst, bounds);
+    let planned = planner::plan(image, policy, order, limits, worst, bounds);
     let refusal = planned.refusal;
     if refusal.number != 0 {
         return unopened(refusal);

@@ -87,9 +87,9 @@ fn rehearse_frames(
     print_lines::put_totals(out, start, totals)
 }
 
-// The text of the recording at a descriptor that `open_read` answered, against an image. What does not fit into `out` is written to the descriptor
-// `to`; the answer is how much of `out` is still to be written.
-pub fn rehearse(image: &[u8], recording: i32, out: &mut [u8], to: i32) -> usize
+// The text of the recording at a descriptor that `open_read` answered, against an image by a policy. What does not fit into `out` is written to the
+// descriptor `to`; the answer is how much of `out` is still to be written.
+pub fn rehearse(image: &[u8], policy: u32, recording: i32, out: &mut [u8], to: i32) -> usize
     ensures { λ r. ⌜ Counts r (now (out .exit)) ⌝ }
 {
     let mut order = [0u8; 64];
@@ -98,6 +98,7 @@ pub fn rehearse(image: &[u8], recording: i32, out: &mut [u8], to: i32) -> usize
     let mut bounds = [0i32; 8192];
     let opened = recording::open(
         image,
+        policy,
         files::file_length(recording),
         &mut order,
         &mut limits,

@@ -95,9 +95,9 @@ module _ {b : Body} {T : LentBody} {place after t q end : ℕ} (S : Setting b T 
       let many : suc (end - rest) ≤ longest-coast = omega (arith, short) in
       omega (arith, l, mul-le-mul-right most-entry many, S .early)
 
-  few-later : (r m : ℕ) → m < b .repeats → let y = later-of (stretch-at (T .summaries) r) m in (y .lowest ≤ greatest-later) × (y .mix ≤ greatest-later)
+  few-later : (r m : ℕ) → m < b .repeats → let y = later-of (b .policy) (stretch-at (T .summaries) r) m in (y .lowest ≤ greatest-later) × (y .mix ≤ greatest-later)
   few-later r m l =
-      later-few (stretch-at (T .summaries) r) m (S .few-numbers (r * summary-numbers)) (S .few-numbers (r * summary-numbers + 1))
+      later-few (b .policy) (stretch-at (T .summaries) r) m (S .few-numbers (r * summary-numbers)) (S .few-numbers (r * summary-numbers + 1))
       (S .few-numbers (r * summary-numbers + 2)) (omega (arith, l, S .summarised .counts .few-repeats))
 
   first-row : (r : ℕ) → r < b .levels → r * summary-numbers + summary-numbers ≤ length (T .summaries)
@@ -105,12 +105,12 @@ module _ {b : Body} {T : LentBody} {place after t q end : ℕ} (S : Setting b T 
 
   -- ---- the decision itself
 
-  module _ {own above : Room} (own-is : own ≡ room-left (b .cycle) t (later-of (stretch-at (T .summaries) q) after))
-      (above-is : suc q < b .levels → above ≡ room-left (b .cycle) t (later-of (stretch-at (T .summaries) (suc q)) after)) where
+  module _ {own above : Room} (own-is : own ≡ room-left (b .cycle) t (later-of (b .policy) (stretch-at (T .summaries) q) after))
+      (above-is : suc q < b .levels → above ≡ room-left (b .cycle) t (later-of (b .policy) (stretch-at (T .summaries) (suc q)) after)) where
     pub first-near : (w : ℕ) → w ≤ most-entry → Near (narrowed-by own w)
     first-near w l =
         let few = few-later q after (S .summarised .fewer) in
-        room-near (b .cycle) t w (later-of (stretch-at (T .summaries) q) after) (S .summarised .counts .cycle-in) (omega (arith, l, S .early)) (few .0) (few .1)
+        room-near (b .cycle) t w (later-of (b .policy) (stretch-at (T .summaries) q) after) (S .summarised .counts .cycle-in) (omega (arith, l, S .early)) (few .0) (few .1)
         own-is
 
     pub first-coast : ((x : ℕ) → Standing b x place after → leZ (pos t) (lent-plan b T .limit x q) ≡ true)
@@ -133,7 +133,7 @@ module _ {b : Body} {T : LentBody} {place after t q end : ℕ} (S : Setting b T 
           begins = t + w;
           late = omega (arith, S .few-times (place * b .levels + q));
           rooms = record {
-            own = later-room (b .cycle) t w (later-of (stretch-at (T .summaries) q) after) own-is;
+            own = later-room (b .cycle) t w (later-of (b .policy) (stretch-at (T .summaries) q) after) own-is;
             above = above-is;
           };
           granted = λ x s. rw (all, none, row) (granted-first b T t x q s (fits x s) (low x s));
@@ -159,7 +159,7 @@ module _ {b : Body} {T : LentBody} {place after t q end : ℕ} (S : Setting b T 
     }
       where
         nears : {room : Room} (r begins : ℕ) → r < b .levels → b .n * b .levels ≤ here .entry → begins ≤ latest
-            → room ≡ room-left (b .cycle) begins (later-of (stretch-at (T .summaries) r) (here .after)) → Nears (T .summaries) r (here .after) room
+            → room ≡ room-left (b .cycle) begins (later-of (b .policy) (stretch-at (T .summaries) r) (here .after)) → Nears (b .policy) (T .summaries) r (here .after) room
         nears r begins l h early is = record {
           whole = first-row r l;
           some = turning h .0;
@@ -230,7 +230,7 @@ module _ {b : Body} {T : LentBody} {place after t q end : ℕ} (S : Setting b T 
           near = λ k l.
               let few = few-later q (here .after) after-few in
               let all : b .n * most-entry ≤ most-actions * most-entry = mul-le-mul-right most-entry (S .summarised .counts .few) in
-              room-near (b .cycle) (L .begins) k (later-of (stretch-at (T .summaries) q) (here .after)) (S .summarised .counts .cycle-in)
+              room-near (b .cycle) (L .begins) k (later-of (b .policy) (stretch-at (T .summaries) q) (here .after)) (S .summarised .counts .cycle-in)
               (omega (arith, l, all, in-time (L .begins) (here .rest) (L .few) (L .late))) (few .0) (few .1) (L .rooms .own);
         }
 

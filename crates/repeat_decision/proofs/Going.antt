@@ -61,16 +61,16 @@ leaves-room {b} counts summed fewer level early = record {
 
 -- what is read there is the limit of the lent plan
 pub reads-limit : {b : Body} (T : LentBody) {x place after : ℕ} (t q : ℕ) → Standing b x place after
-    → leZ (pos t) (pos (b .cycle) -ℤ pos (mix-of (T .summaries) (place * b .levels + q) q after)) ≡ leZ (pos t) (lent-plan b T .limit x q)
+    → leZ (pos t) (pos (b .cycle) -ℤ pos (mix-of (b .policy) (T .summaries) (place * b .levels + q) q after)) ≡ leZ (pos t) (lent-plan b T .limit x q)
 reads-limit T t q s = ap (leZ (pos t)) (sym (limit-read T q s))
 
 -- the room there is that limit, and by the bodies after it
 pub reads-room : {b : Body} (T : LentBody) {x place after : ℕ} (t q entry : ℕ) → stretch-at (T .summaries) entry .average ≤ most-entry → t ≤ latest
     → entry ≡ place * b .levels + q → Standing b x place after
-    → fits-in (stretch-at (T .summaries) entry) (room-left (b .cycle) t (later-of (stretch-at (T .summaries) q) after)) ≡ leZ (pos t) (lent-plan b T .limit x q)
+    → fits-in (stretch-at (T .summaries) entry) (room-left (b .cycle) t (later-of (b .policy) (stretch-at (T .summaries) q) after)) ≡ leZ (pos t) (lent-plan b T .limit x q)
 reads-room {b} T {after = after} t q entry small early e s =
-    room-is-limit (b .cycle) t (stretch-at (T .summaries) entry) (stretch-at (T .summaries) q) after small early
-    ∙ ap (λ (y : ℕ). leZ (pos t) (pos (b .cycle) -ℤ pos (mix-of (T .summaries) y q after))) e
+    room-is-limit (b .cycle) t (stretch-at (T .summaries) entry) (b .policy) (stretch-at (T .summaries) q) after small early
+    ∙ ap (λ (y : ℕ). leZ (pos t) (pos (b .cycle) -ℤ pos (mix-of (b .policy) (T .summaries) y q after))) e
     ∙ reads-limit T t q s
 
 -- why a coast stops, and why it goes on
@@ -101,8 +101,8 @@ not-last b q place e h same = let row = ap (λ (k : ℕ). k * b .levels) same in
 
 -- the room where a position begins, and at the decision that of the level above
 pub record Roomed (b : Body) (T : LentBody) (t q begins : ℕ) (r : Reached) : Type 0 where
-  pub own : r .own ≡ room-left (b .cycle) begins (later-of (stretch-at (T .summaries) q) (r .after))
-  pub above : suc q < b .levels → r .above ≡ room-left (b .cycle) t (later-of (stretch-at (T .summaries) (suc q)) (r .after))
+  pub own : r .own ≡ room-left (b .cycle) begins (later-of (b .policy) (stretch-at (T .summaries) q) (r .after))
+  pub above : suc q < b .levels → r .above ≡ room-left (b .cycle) t (later-of (b .policy) (stretch-at (T .summaries) (suc q)) (r .after))
 
 pub rooms-moved : {b : Body} {T : LentBody} {t q begins : ℕ} {x y : Reached} → x ≡ y → Roomed b T t q begins y → Roomed b T t q begins x
 rooms-moved e r = rw e r
@@ -246,7 +246,7 @@ module _ (b : Body) (T : LentBody) (t i q : ℕ) where
 
       roomed : (k : ℕ) → Roomed b T t q (begins + sum k time) (walked b (T .worst) r k)
       roomed k = record {
-        own = later-room (b .cycle) begins (sum k time) (later-of (stretch-at (T .summaries) q) (r .after)) (R .own);
+        own = later-room (b .cycle) begins (sum k time) (later-of (b .policy) (stretch-at (T .summaries) q) (r .after)) (R .own);
         above = R .above;
       }
 

@@ -51,7 +51,7 @@ pub record Summarised (b : Body) (summaries : List ℕ) (place after : ℕ) : Ty
 pub record Fits (b : Body) (summaries : List ℕ) (place after t : ℕ) (f : Fit) : Type 0 where
   pub levels : (x : ℕ) → Standing b x place after
       → f .levels ≡ fitting-levels (lent-plan b (record { order = []; summaries = summaries; worst = [] })) t x
-  pub own : 0 < f .levels → f .own ≡ room-left (b .cycle) t (later-of (stretch-at summaries (f .levels - 1)) after)
+  pub own : 0 < f .levels → f .own ≡ room-left (b .cycle) t (later-of (b .policy) (stretch-at summaries (f .levels - 1)) after)
 
 -- a level, and a time, before the bodies that come after some place
 pub record MayRise (b : Body) (summaries : List ℕ) (q after t : ℕ) : Type 0 where
@@ -75,18 +75,18 @@ pub record MayTurn (b : Body) (summaries : List ℕ) (r : Reached) (q : ℕ) : T
   pub few : b .n ≤ most-actions
   pub few-levels : b .levels ≤ most-levels
   pub level : q < b .levels
-  pub own : b .n * b .levels ≤ r .entry → Nears summaries q (r .after) (r .own)
-  pub above : b .n * b .levels ≤ r .entry → suc q < b .levels → Nears summaries (suc q) (r .after) (r .above)
+  pub own : b .n * b .levels ≤ r .entry → Nears (b .policy) summaries q (r .after) (r .own)
+  pub above : b .n * b .levels ≤ r .entry → suc q < b .levels → Nears (b .policy) summaries (suc q) (r .after) (r .above)
 
 -- the first place of the next body, with the room before one body fewer
 pub record Turned (b : Body) (summaries : List ℕ) (r : Reached) (q : ℕ) (to : Reached) : Type 0 where
   pub entry : to .entry ≡ q
   pub rest : to .rest ≡ r .rest
   pub after : to .after ≡ r .after - 1
-  pub own : (cycle begins : ℕ) → r .own ≡ room-left cycle begins (later-of (stretch-at summaries q) (r .after))
-      → to .own ≡ room-left cycle begins (later-of (stretch-at summaries q) (r .after - 1))
-  pub above : suc q < b .levels → (cycle begins : ℕ) → r .above ≡ room-left cycle begins (later-of (stretch-at summaries (suc q)) (r .after))
-      → to .above ≡ room-left cycle begins (later-of (stretch-at summaries (suc q)) (r .after - 1))
+  pub own : (cycle begins : ℕ) → r .own ≡ room-left cycle begins (later-of (b .policy) (stretch-at summaries q) (r .after))
+      → to .own ≡ room-left cycle begins (later-of (b .policy) (stretch-at summaries q) (r .after - 1))
+  pub above : suc q < b .levels → (cycle begins : ℕ) → r .above ≡ room-left cycle begins (later-of (b .policy) (stretch-at summaries (suc q)) (r .after))
+      → to .above ≡ room-left cycle begins (later-of (b .policy) (stretch-at summaries (suc q)) (r .after - 1))
 
 abbrev pub Turns : Body → List ℕ → Reached → ℕ → Reached → Type 0
 Turns b summaries r q to = ((r .entry < b .n * b .levels) × (to ≡ r)) ⊎ ((b .n * b .levels ≤ r .entry) × Turned b summaries r q to)

@@ -40,7 +40,7 @@ fn fitting(body: Body, summaries: &[u32], place: usize, after: u32, t: u64) -> F
     let row = place * levels;
     let mut q = levels;
     while 0 < q {
-        let own = room_before(summaries, q - 1, after as u64, body.cycle, t);
+        let own = room_before(body.policy, summaries, q - 1, after as u64, body.cycle, t);
         if has_room(summaries, row + q - 1, own) {
             return Fit { levels: q, own };
         }
@@ -54,12 +54,19 @@ fn fitting(body: Body, summaries: &[u32], place: usize, after: u32, t: u64) -> F
 // mostly tell, and the rest of their room is never needed.
 fn room_above(body: Body, summaries: &[u32], level: usize, after: u32, t: u64) -> Room
     requires { ⌜ MayRise body (now summaries) level after t ⌝ }
-    ensures { λ r. ⌜ (suc level < body .levels → r ≡ room-left (body .cycle) t (later-of (stretch-at (now (summaries .entry)) (suc level)) after)) ⌝ }
+    ensures { λ r. ⌜ (suc level < body .levels → r ≡ room-left (body .cycle) t (later-of (body .policy) (stretch-at (now (summaries .entry)) (suc level)) after)) ⌝ }
 {
     if level + 1 == body.levels as usize {
         return Room { mix: 0, average: 0 };
     }
-    room_before(summaries, level + 1, after as u64, body.cycle, t)
+    room_before(
+        body.policy,
+        summaries,
+        level + 1,
+        after as u64,
+        body.cycle,
+        t,
+    )
 }
 
 // ---- the coast
@@ -113,10 +120,10 @@ fn in_body(body: Body, summaries: &[u32], here: Reached, level: usize) -> Reache
         return here;
     }
     let after = here.after;
-    let own = room_nearer(summaries, level, after, here.own);
+    let own = room_nearer(body.policy, summaries, level, after, here.own);
     let mut above = here.above;
     if level + 1 < levels {
-        above = room_nearer(summaries, level + 1, after, above);
+        above = room_nearer(body.policy, summaries, level + 1, after, above);
     }
     Reached {
         entry: level,

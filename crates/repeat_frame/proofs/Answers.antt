@@ -7,14 +7,14 @@ use mathlib.Core.Logic.{inl, inr, _⊎_, ⊎-elim, _≢_}
 use native.Mathlib.Nat.{le-refl, mul-le-mul}
 use native.Mathlib.Omega.{arith}
 use lib.ListN.{length, getD, replicate, length-replicate}
-use Rattle.rules.specs.Numbers.{most-actions, most-levels, longest-coast, summary-numbers, refused-unfit, refused-room, refused-repeats}
+use Rattle.rules.specs.Numbers.{most-actions, most-levels, longest-coast, summary-numbers, refused-unfit, refused-room, refused-repeats, refused-policy}
 use Rattle.rules.specs.Words.{tab, one-if}
 use Rattle.rules.specs.Image.{Profile, profile}
 use Rattle.rules.specs.Order.{Order, TheOrder}
-use Rattle.rules.specs.Refusals.{Ground, _when_, First, AtFault, Refuses, Unfit, Tight, loop-checks}
+use Rattle.rules.specs.Refusals.{Ground, _when_, First, AtFault, Refuses, Unfit, Tight, UnknownPolicy, loop-checks}
 use Rattle.rules.specs.Run.{Run, decides}
 use Rattle.rules.specs.Dry.{before, cell, LongEntry}
-use Rattle.rules.specs.Repeat.{unrolled, Repeats, LentBody, body-of, lent-each, lent-plan, PlannedBody, action-at, body-checks, body-frame-call}
+use Rattle.rules.specs.Repeat.{unrolled, Repeats, LentBody, body-of, lent-each, lent-plan, PlannedBody, action-at, body-frame-call}
 use Rattle.rules.specs.declared.Body.{Body}
 use Rattle.rules.specs.declared.Fault.{Fault}
 use Rattle.rules.proofs.Differences.{not-above}
@@ -34,7 +34,7 @@ use Rattle.repeat_laws.proofs.Lent.{some-level, lent-run}
 use Rattle.repeat_limits.specs.Limits.{CountsIn}
 use Rattle.repeat_planner.specs.declared.BodyPlanned.{BodyPlanned}
 use Rattle.repeat_planner.specs.PlanningBody.{body-rooms, PlansBody}
-use Rattle.repeat_planner.proofs.Answers.{Sound, sound, body-numbered}
+use Rattle.repeat_planner.proofs.Answers.{Sound, sound, policy-checks, policy-numbered}
 use Rattle.repeat_planner.proofs.Planned.{planned-body}
 use Rattle.repeat_frame.specs.declared.BodyFramed.{BodyFramed}
 use Rattle.repeat_frame.specs.BodyFrame.{body-frame-rooms, unrolled-run, framed-of, BodyFrames}
@@ -46,19 +46,19 @@ use Rattle.repeat_frame.proofs.Rooms.{Room, room}
 abbrev pub refused : Fault → BodyFramed
 refused f = record { refusal = f; decisions = 0; end = 0; positions = 0; overrun = false; late = false }
 
-module _ (s : List ℕ) (N : ℕ) (durations : List ℕ) (before : FrameLists) where
+module _ (s : List ℕ) (N policy : ℕ) (durations : List ℕ) (before : FrameLists) where
   -- the whole row, and its own part
   abbrev whole : List Ground
-  whole = body-frame-call s N durations (body-frame-rooms (profile s .n) (profile s .levels) N durations before)
+  whole = body-frame-call s N policy durations (body-frame-rooms (profile s .n) (profile s .levels) N durations before)
 
   abbrev own : List Ground
-  own = own-call (body-of (profile s) N) durations before
+  own = own-call (body-of (profile s) N policy) durations before
 
   -- which blames no action
   no-blame : Blameless own
   no-blame = ((λ a z. z), ((λ a z. z), tt))
 
-  frames-not : {r : BodyFramed} (f : Fault) → Refuses whole f → f .number ≢ 0 → r ≡ refused f → BodyFrames s N durations before before r
+  frames-not : {r : BodyFramed} (f : Fault) → Refuses whole f → f .number ≢ 0 → r ≡ refused f → BodyFrames s N policy durations before before r
   frames-not f p some e = rw e (record {
     number = p .number;
     action = p .action;
@@ -99,39 +99,39 @@ never-tight h (inl l) = omega (arith, few h .0, length-replicate {A = ℕ} most-
 never-tight h (inr (inl l)) = omega (arith, few h .1, length-replicate {A = ℕ} (most-actions * most-levels * summary-numbers) 0)
 never-tight h (inr (inr (inl l))) = omega (arith, few h .1, length-replicate {A = ℕ} (most-actions * most-levels) 0)
 
-body-sound : (s : List ℕ) (N : ℕ) → First (body-checks s N) 0 → Sound s
-body-sound s N p =
-    let rest = refused-repeats when Repeats (profile s) N ∷ refused-unfit when Unfit (unrolled (profile s) N) ∷ [] in
+body-sound : (s : List ℕ) (N policy : ℕ) → First (policy-checks s N policy) 0 → Sound s
+body-sound s N policy p =
+    let rest = refused-repeats when Repeats (profile s) N ∷ refused-unfit when Unfit (unrolled (profile s) N) ∷ refused-policy when UnknownPolicy policy ∷ [] in
     ⊎-elim (λ x. absurd (x .1 refl)) (λ x. sound s (x .0)) (first-parts (loop-checks s) rest 0 (loop-numbered s) p)
 
-pub record Planning (s : List ℕ) (N : ℕ) (lent : LentBody) (p : BodyPlanned) : Type 0 where
-  pub plans : PlansBody s N zeros lent p
+pub record Planning (s : List ℕ) (N policy : ℕ) (lent : LentBody) (p : BodyPlanned) : Type 0 where
+  pub plans : PlansBody s N policy zeros lent p
   pub order-room : most-actions ≤ length (lent .order)
   pub summaries-room : most-actions * most-levels * summary-numbers ≤ length (lent .summaries)
   pub worst-room : most-actions * most-levels ≤ length (lent .worst)
 
-module _ {s : List ℕ} {N : ℕ} {lent : LentBody} {p : BodyPlanned} (P : Planning s N lent p) where
+module _ {s : List ℕ} {N policy : ℕ} {lent : LentBody} {p : BodyPlanned} (P : Planning s N policy lent p) where
   abbrev room-only : List Ground
   room-only = refused-room when Tight (body-rooms (profile s .n) (profile s .levels) zeros) ∷ []
 
-  parts : (First (body-checks s N) (p .refusal .number) × (p .refusal .number ≢ 0)) ⊎ (First (body-checks s N) 0 × First room-only (p .refusal .number))
-  parts = first-parts (body-checks s N) room-only (p .refusal .number) (body-numbered s N) (P .plans .number)
+  parts : (First (policy-checks s N policy) (p .refusal .number) × (p .refusal .number ≢ 0)) ⊎ (First (policy-checks s N policy) 0 × First room-only (p .refusal .number))
+  parts = first-parts (policy-checks s N policy) room-only (p .refusal .number) (policy-numbered s N policy) (P .plans .number)
 
-  by-body : p .refusal .number ≢ 0 → First (body-checks s N) (p .refusal .number)
+  by-body : p .refusal .number ≢ 0 → First (policy-checks s N policy) (p .refusal .number)
   by-body some =
-      ⊎-elim (λ x. x .0) (λ x. absurd (⊎-elim (λ t. never-tight (body-sound s N (x .0)) (t .0)) (λ t. some (t .1)) (x .1))) parts
+      ⊎-elim (λ x. x .0) (λ x. absurd (⊎-elim (λ t. never-tight (body-sound s N policy (x .0)) (t .0)) (λ t. some (t .1)) (x .1))) parts
 
   -- the body's action
-  named : AtFault (body-checks s N) (p .refusal .action)
-  named = handed-back (body-checks s N) room-only (p .refusal .action) ((λ a z. z), tt) (P .plans .action)
+  named : AtFault (policy-checks s N policy) (p .refusal .action)
+  named = handed-back (policy-checks s N policy) room-only (p .refusal .action) ((λ a z. z), tt) (P .plans .action)
 
-  passed : p .refusal .number ≡ 0 → First (body-checks s N) 0
+  passed : p .refusal .number ≡ 0 → First (policy-checks s N policy) 0
   passed none = ⊎-elim (λ x. absurd (x .1 none)) (λ x. x .0) parts
 
-  pub body-is : p .refusal .number ≡ 0 → p .body ≡ body-of (profile s) N
+  pub body-is : p .refusal .number ≡ 0 → p .body ≡ body-of (profile s) N policy
   body-is none = rw none at (P .plans .body)
 
-  of-planned : (none : p .refusal .number ≡ 0) → PlannedBody (profile s) (P .plans .o) (body-of (profile s) N) lent
+  of-planned : (none : p .refusal .number ≡ 0) → PlannedBody (profile s) (P .plans .o) (body-of (profile s) N policy) lent
   of-planned none = subst (λ (b : Body). PlannedBody (profile s) (P .plans .o) b lent) (body-is none) (planned-body (P .plans) none)
 
   -- its counts, for the calls that follow
@@ -150,27 +150,27 @@ module _ {s : List ℕ} {N : ℕ} {lent : LentBody} {p : BodyPlanned} (P : Plann
       })
 
   module _ (durations : List ℕ) (before : FrameLists) where
-    pub body-refused : {r : BodyFramed} → p .refusal .number ≢ 0 → r ≡ refused (p .refusal) → BodyFrames s N durations before before r
-    body-refused some e = frames-not s N durations before (p .refusal)
-        (refuses-stops (body-checks s N) (own s N durations before) (p .refusal) (record { number = by-body some; action = named }) some) some e
+    pub body-refused : {r : BodyFramed} → p .refusal .number ≢ 0 → r ≡ refused (p .refusal) → BodyFrames s N policy durations before before r
+    body-refused some e = frames-not s N policy durations before (p .refusal)
+        (refuses-stops (policy-checks s N policy) (own s N policy durations before) (p .refusal) (record { number = by-body some; action = named }) some) some e
 
     module _ (none : p .refusal .number ≡ 0) {k : ℕ} (judged : First (own-call (p .body) durations before) k) where
-      own-is : First (own s N durations before) k
+      own-is : First (own s N policy durations before) k
       own-is = rw (body-is none) at judged
 
-      whole-is : Refuses (whole s N durations before) (record { number = k; action = most-actions })
-      whole-is = refuses-goes-on (body-checks s N) (own s N durations before) _ (body-numbered s N) (passed none)
-          (blameless (own s N durations before) k (no-blame s N durations before) own-is)
+      whole-is : Refuses (whole s N policy durations before) (record { number = k; action = most-actions })
+      whole-is = refuses-goes-on (policy-checks s N policy) (own s N policy durations before) _ (policy-numbered s N policy) (passed none)
+          (blameless (own s N policy durations before) k (no-blame s N policy durations before) own-is)
 
-      pub own-refused : {r : BodyFramed} → k ≢ 0 → r ≡ refused (record { number = k; action = most-actions }) → BodyFrames s N durations before before r
-      own-refused some e = frames-not s N durations before _ whole-is some e
+      pub own-refused : {r : BodyFramed} → k ≢ 0 → r ≡ refused (record { number = k; action = most-actions }) → BodyFrames s N policy durations before before r
+      own-refused some e = frames-not s N policy durations before _ whole-is some e
 
       -- not refused: what the walk needs
       module _ (clear-own : k ≡ 0) where
         free : (Tight (body-frame-rooms (profile s .n) (profile s .levels) N durations before) → ⊥) × (LongEntry (N * profile s .n * profile s .levels) durations → ⊥)
         free = by (rw clear-own at own-is)
           where
-            by : First (own s N durations before) 0
+            by : First (own s N policy durations before) 0
                 → (Tight (body-frame-rooms (profile s .n) (profile s .levels) N durations before) → ⊥) × (LongEntry (N * profile s .n * profile s .levels) durations → ⊥)
             by (inl x) = absurd (omega (arith, x .1))
             by (inr (a, inl x)) = absurd (omega (arith, x .1))
@@ -181,7 +181,7 @@ module _ {s : List ℕ} {N : ℕ} {lent : LentBody} {p : BodyPlanned} (P : Plann
 
         pub may-walk : MayWalk (p .body) (record { order = []; summaries = lent .summaries; worst = lent .worst }) durations (before .levels) (before .decided)
         may-walk =
-            let h = body-sound s N (passed none) in
+            let h = body-sound s N policy (passed none) in
             let c = counts none in
             rw (body-is none) (record {
               counts = rw (body-is none) at c;
@@ -198,7 +198,7 @@ module _ {s : List ℕ} {N : ℕ} {lent : LentBody} {p : BodyPlanned} (P : Plann
         abbrev F : Profile
         F = profile s
 
-        planned-is : PlannedBody (profile s) (P .plans .o) (body-of (profile s) N) lent
+        planned-is : PlannedBody (profile s) (P .plans .o) (body-of (profile s) N policy) lent
         planned-is = of-planned none
 
         repeats-it : Repeatable (profile s)
@@ -211,7 +211,7 @@ module _ {s : List ℕ} {N : ℕ} {lent : LentBody} {p : BodyPlanned} (P : Plann
         the-unrolled = repeated-order repeats-it N (planned-is .the-order)
 
         same-run : (i : ℕ) → i ≤ N * F .n
-            → walk-at (body-of F N) (record { order = []; summaries = lent .summaries; worst = lent .worst }) durations i ≡ unrolled-run s N durations order i
+            → walk-at (body-of F N policy) (record { order = []; summaries = lent .summaries; worst = lent .worst }) durations i ≡ unrolled-run s N policy durations order i
         unfolding lent-plan lent-each
         same-run i l = sym (lent-run planned-is the-unrolled longest-coast (cell durations (F .levels)) 0 i l)
 
@@ -219,7 +219,7 @@ module _ {s : List ℕ} {N : ℕ} {lent : LentBody} {p : BodyPlanned} (P : Plann
             (walks : Walks (p .body) (record { order = []; summaries = lent .summaries; worst = lent .worst }) durations
             (record { order = []; levels = before .levels; decided = before .decided }) (record { order = []; levels = after .levels; decided = after .decided }) last)
             (copied : after .order ≡ splice (before .order) 0 (tab (λ k. getD (lent .order) k 0) (p .body .n))) where
-          walks′ : Walks (body-of F N) (record { order = []; summaries = lent .summaries; worst = lent .worst }) durations
+          walks′ : Walks (body-of F N policy) (record { order = []; summaries = lent .summaries; worst = lent .worst }) durations
               (record { order = []; levels = before .levels; decided = before .decided }) (record { order = []; levels = after .levels; decided = after .decided }) last
           walks′ = rw (body-is none) at walks
 
@@ -233,10 +233,10 @@ module _ {s : List ℕ} {N : ℕ} {lent : LentBody} {p : BodyPlanned} (P : Plann
             late = last .late;
           }
 
-          ends : last ≡ unrolled-run s N durations order (N * F .n)
+          ends : last ≡ unrolled-run s N policy durations order (N * F .n)
           ends = walks′ .ends ∙ same-run (N * F .n) (le-refl _)
 
-          cycled : Cycled (unrolled F N) durations order before after (framed-of answer)
+          cycled : Cycled policy (unrolled F N) durations order before after (framed-of answer)
           cycled = record {
             levels = walks′ .levels ∙ ap (splice (before .levels) 0) (tab-ext _ _ (N * F .n) (λ j l. ap (λ (r : Run). r .level) (same-run (suc j) l)));
             decided = walks′ .decided
@@ -256,13 +256,13 @@ module _ {s : List ℕ} {N : ℕ} {lent : LentBody} {p : BodyPlanned} (P : Plann
               ∙ ap (λ (a : ℕ). x / F .n * F .n + a)
               (sym (tab-written (P .plans .o .at) (before .order) (F .n) 0 order-is (x % F .n) (place-lt (repeats-it .some) x)))
 
-          given : First (whole s N durations before) (p .refusal .number)
+          given : First (whole s N policy durations before) (p .refusal .number)
           given = rw none (rw clear-own at (whole-is .number))
 
-          pub framed : BodyFrames s N durations before after answer
+          pub framed : BodyFrames s N policy durations before after answer
           framed = record {
             number = given;
-            action = handed-on (body-checks s N) (own s N durations before) _ _ (no-blame s N durations before) named given;
+            action = handed-on (policy-checks s N policy) (own s N policy durations before) _ _ (no-blame s N policy durations before) named given;
             positions = kept-new _ _ _ none (ap (λ (b : Body). b .repeats * b .n) (body-is none));
             o = P .plans .o;
             the-order = P .plans .the-order;

@@ -8,10 +8,10 @@ use native.Mathlib.Nat.{le-refl, one-mul}
 use native.Mathlib.Decide.{ℕ-discrete}
 use native.Mathlib.Omega.{arith}
 use lib.ListN.{length}
-use Rattle.rules.specs.Numbers.{longest-coast, refused-unfit, refused-duration, refused-room, refused-repeats}
+use Rattle.rules.specs.Numbers.{longest-coast, refused-unfit, refused-duration, refused-room, refused-repeats, refused-policy}
 use Rattle.rules.specs.Words.{tab, one-if}
 use Rattle.rules.specs.Image.{profile}
-use Rattle.rules.specs.Refusals.{Ground, _when_, First, Unfit, Tight, loop-checks}
+use Rattle.rules.specs.Refusals.{Ground, _when_, First, Unfit, Tight, UnknownPolicy, loop-checks}
 use Rattle.rules.specs.Run.{Run, decides}
 use Rattle.rules.specs.Dry.{cell, LongEntry}
 use Rattle.rules.specs.Repeat.{unrolled, Repeats}
@@ -29,8 +29,8 @@ use Rattle.repeat_planner.proofs.Answers.{Sound, sound}
 use Rattle.repeat_frame.specs.declared.BodyFramed.{BodyFramed}
 use Rattle.repeat_frame.specs.BodyFrame.{body-frame-rooms, unrolled-run, BodyFrames}
 
-module _ {s durations : List ℕ} {before after after′ : FrameLists} {r : Framed} {t : BodyFramed}
-    (x : Frames s durations before after r) (y : BodyFrames s 1 durations before after′ t) (one : Repeats (profile s) 1 → ⊥) where
+module _ {s : List ℕ} {policy : ℕ} {durations : List ℕ} {before after after′ : FrameLists} {r : Framed} {t : BodyFramed}
+    (x : Frames s policy durations before after r) (y : BodyFrames s 1 policy durations before after′ t) (one : Repeats (profile s) 1 → ⊥) where
   abbrev k : ℕ
   k = r .refusal .number
 
@@ -42,6 +42,7 @@ module _ {s durations : List ℕ} {before after after′ : FrameLists} {r : Fram
   abbrev rest : List Ground
   rest =
       refused-unfit when Unfit (profile s)
+      ∷ refused-policy when UnknownPolicy policy
       ∷ refused-room when Tight (frame-rooms (profile s .n) (profile s .levels) durations before)
       ∷ refused-duration when LongEntry (profile s .n * profile s .levels) durations
       ∷ []
@@ -49,6 +50,7 @@ module _ {s durations : List ℕ} {before after after′ : FrameLists} {r : Fram
   abbrev body-rest : List Ground
   body-rest =
       refused-unfit when Unfit (unrolled (profile s) 1)
+      ∷ refused-policy when UnknownPolicy policy
       ∷ refused-room when Tight (body-frame-rooms (profile s .n) (profile s .levels) 1 durations before)
       ∷ refused-duration when LongEntry (1 * profile s .n * profile s .levels) durations
       ∷ []
@@ -66,6 +68,7 @@ module _ {s durations : List ℕ} {before after after′ : FrameLists} {r : Fram
     abbrev row : ℕ → List Ground
     row z =
         refused-unfit when Unfit (unrolled (profile s) 1)
+        ∷ refused-policy when UnknownPolicy policy
         ∷ refused-room when Tight (
         (length durations, z * profile s .levels) ∷ (length (before .order), profile s .n) ∷ (length (before .levels), z) ∷ (length (before .decided), z) ∷ []
         )
@@ -76,6 +79,7 @@ module _ {s durations : List ℕ} {before after after′ : FrameLists} {r : Fram
     same-rest m p = by (subst (λ (z : ℕ). First (row z) m) (one-mul (profile s .n)) p)
       where
         by : First (refused-unfit when Unfit (unrolled (profile s) 1)
+            ∷ refused-policy when UnknownPolicy policy
             ∷ refused-room when Tight (frame-rooms (profile s .n) (profile s .levels) durations before)
             ∷ refused-duration when LongEntry (profile s .n * profile s .levels) durations
             ∷ []) m → First rest m
@@ -100,9 +104,9 @@ module _ {s durations : List ℕ} {before after after′ : FrameLists} {r : Fram
   pub action-is : r .refusal .action ≡ t .refusal .action
   action-is =
       at-fault-one (loop-checks s) (r .refusal .action) (t .refusal .action)
-      (handed-back (loop-checks s) rest (r .refusal .action) ((λ a z. z), ((λ a z. z), ((λ a z. z), tt))) (x .action))
+      (handed-back (loop-checks s) rest (r .refusal .action) ((λ a z. z), ((λ a z. z), ((λ a z. z), ((λ a z. z), tt)))) (x .action))
       (handed-back (loop-checks s) (refused-repeats when Repeats (profile s) 1 ∷ body-rest) (t .refusal .action)
-      ((λ a z. z), ((λ a z. z), ((λ a z. z), ((λ a z. z), tt)))) (y .action))
+      ((λ a z. z), ((λ a z. z), ((λ a z. z), ((λ a z. z), ((λ a z. z), tt))))) (y .action))
 
   -- ---- what is written and answered
 
@@ -129,17 +133,17 @@ module _ {s durations : List ℕ} {before after after′ : FrameLists} {r : Fram
         by (inl a) = absurd (a .1 none)
         by (inr a) = sound s (a .0)
 
-    same-run : (i : ℕ) → i ≤ profile s .n → run-at s durations (x .o) i ≡ unrolled-run s 1 durations (y .p) i
+    same-run : (i : ℕ) → i ≤ profile s .n → run-at s policy durations (x .o) i ≡ unrolled-run s 1 policy durations (y .p) i
     same-run i l =
         let level : 0 < profile s .levels = not-above (λ e. loops .not-count (inl (inr (inr (inl e))))) in
-        one-run (body loops) (x .the-order none) level (loops .not-table) (y .unrolled-order none′) longest-coast (cell durations (profile s .levels)) 0 i l
+        one-run (body loops) (x .the-order none) level (loops .not-table) policy (y .unrolled-order none′) longest-coast (cell durations (profile s .levels)) 0 i l
 
     -- a list of one entry for each position
     same-tab : (f g : ℕ → ℕ) → ((j : ℕ) → j < profile s .n → f j ≡ g j) → tab f (profile s .n) ≡ tab g (1 * profile s .n)
     same-tab f g e = tab-ext f g (profile s .n) e ∙ ap (tab g) (sym (one-mul (profile s .n)))
 
-    last-run : run-at s durations (x .o) (profile s .n) ≡ unrolled-run s 1 durations (y .p) (1 * profile s .n)
-    last-run = same-run (profile s .n) (le-refl _) ∙ ap (unrolled-run s 1 durations (y .p)) (sym (one-mul (profile s .n)))
+    last-run : run-at s policy durations (x .o) (profile s .n) ≡ unrolled-run s 1 policy durations (y .p) (1 * profile s .n)
+    last-run = same-run (profile s .n) (le-refl _) ∙ ap (unrolled-run s 1 policy durations (y .p)) (sym (one-mul (profile s .n)))
 
     same-accepted : SameFrame
     same-accepted = record {

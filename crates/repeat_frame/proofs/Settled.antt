@@ -6,10 +6,10 @@ use mathlib.Core.List.{List, [], _∷_}
 use mathlib.Core.Logic.{inl, inr, ⊎-elim}
 use native.Mathlib.Nat.{le-refl}
 use native.Mathlib.Omega.{arith}
-use Rattle.rules.specs.Numbers.{longest-coast, refused-unfit, refused-duration, refused-room, refused-repeats}
+use Rattle.rules.specs.Numbers.{longest-coast, refused-unfit, refused-duration, refused-room, refused-repeats, refused-policy}
 use Rattle.rules.specs.Words.{tab, one-if}
 use Rattle.rules.specs.Image.{profile}
-use Rattle.rules.specs.Refusals.{Ground, _when_, First, Unfit, Tight, loop-checks}
+use Rattle.rules.specs.Refusals.{Ground, _when_, First, Unfit, Tight, UnknownPolicy, loop-checks}
 use Rattle.rules.specs.Run.{Run, decides}
 use Rattle.rules.specs.Dry.{cell, LongEntry}
 use Rattle.rules.specs.Repeat.{unrolled, Repeats, body-frame-call}
@@ -37,14 +37,14 @@ made-one : {a a′ : Fault} {b b′ c c′ d d′ : ℕ} {e e′ f f′ : Bool} 
     → made a b c d e f ≡ made a′ b′ c′ d′ e′ f′
 made-one p q r s t u = cc
 
-module _ {s : List ℕ} {N : ℕ} {durations : List ℕ} {before after₁ after₂ : FrameLists} {r t : BodyFramed}
-    (x : BodyFrames s N durations before after₁ r) (y : BodyFrames s N durations before after₂ t) where
+module _ {s : List ℕ} {N policy : ℕ} {durations : List ℕ} {before after₁ after₂ : FrameLists} {r t : BodyFramed}
+    (x : BodyFrames s N policy durations before after₁ r) (y : BodyFrames s N policy durations before after₂ t) where
   abbrev rooms : List (ℕ × ℕ)
   rooms = body-frame-rooms (profile s .n) (profile s .levels) N durations before
 
   refusal : r .refusal ≡ t .refusal
   refusal =
-      refuses-one (body-frame-call s N durations rooms) (r .refusal) (t .refusal)
+      refuses-one (body-frame-call s N policy durations rooms) (r .refusal) (t .refusal)
       (record { number = x .number; action = x .action })
       (record { number = y .number; action = y .action })
 
@@ -56,6 +56,7 @@ module _ {s : List ℕ} {N : ℕ} {durations : List ℕ} {before after₁ after�
   rest =
       refused-repeats when Repeats (profile s) N
       ∷ refused-unfit when Unfit (unrolled (profile s) N)
+      ∷ refused-policy when UnknownPolicy policy
       ∷ refused-room when Tight rooms
       ∷ refused-duration when LongEntry (N * profile s .n * profile s .levels) durations
       ∷ []
@@ -69,17 +70,17 @@ module _ {s : List ℕ} {N : ℕ} {durations : List ℕ} {before after₁ after�
   order-one none = tab-ext (x .o .at) (y .o .at) (profile s .n) (order-settled (x .the-order none) (y .the-order (sym number ∙ none)))
 
   -- whatever order is the unrolled system's, the frame is that of the body repeated
-  run-one : r .refusal .number ≡ 0 → (i : ℕ) → i ≤ N * profile s .n → unrolled-run s N durations (x .p) i ≡ unrolled-run s N durations (y .p) i
+  run-one : r .refusal .number ≡ 0 → (i : ℕ) → i ≤ N * profile s .n → unrolled-run s N policy durations (x .p) i ≡ unrolled-run s N policy durations (y .p) i
   run-one none i l =
       let h = clear none in
       let body = repeatable (profile s) N (h .0 .not-count) (h .0 .not-range) (h .1) in
       let level : 0 < profile s .levels = not-above (λ e. h .0 .not-count (inl (inr (inr (inl e))))) in
       let d = cell durations (profile s .levels) in
-      run-exact body N (x .the-order none) level (h .0 .not-table) (x .unrolled-order none) longest-coast d 0 i l
-      ∙ sym (run-exact body N (x .the-order none) level (h .0 .not-table) (y .unrolled-order (sym number ∙ none)) longest-coast d 0 i l)
+      run-exact body N (x .the-order none) level (h .0 .not-table) policy (x .unrolled-order none) longest-coast d 0 i l
+      ∙ sym (run-exact body N (x .the-order none) level (h .0 .not-table) policy (y .unrolled-order (sym number ∙ none)) longest-coast d 0 i l)
 
   last-one : {A : Type 0} (f : Run → A) → r .refusal .number ≡ 0
-      → f (unrolled-run s N durations (x .p) (N * profile s .n)) ≡ f (unrolled-run s N durations (y .p) (N * profile s .n))
+      → f (unrolled-run s N policy durations (x .p) (N * profile s .n)) ≡ f (unrolled-run s N policy durations (y .p) (N * profile s .n))
   last-one f none = ap f (run-one none (N * profile s .n) (le-refl _))
 
   answer : r ≡ t

@@ -1,4 +1,4 @@
--- A frame of a body repeated, run dry: from an image, N and n N by L durations by unrolled position to what the frame gave, with demands 2 and 3
+-- A frame of a body repeated, run dry: from an image, N, a policy and n N by L durations by unrolled position to what the frame gave, with demands 2 and 3
 -- over the unrolled system as its promise.
 use Prim.Native.Nat.{ℕ, suc, _*_, _≤_, _<_}
 use mathlib.Core.Path.{_≡_}
@@ -28,10 +28,10 @@ body-frame-rooms n L N durations lists =
     ∷ (length (lists .decided), N * n)
     ∷ []
 
--- The record before unrolled position i of the frame, begun at time 0, by the plan of the unrolled system in the order p.
-abbrev pub unrolled-run : (s : List ℕ) (N : ℕ) (durations : List ℕ) → Order (N * profile s .n) → ℕ → Run
-unrolled-run s N durations p i =
-    before longest-coast (planned (tables (unrolled (profile s) N) p)) (tables (unrolled (profile s) N) p .worst) (cell durations (profile s .levels)) 0 i
+-- The record before unrolled position i of the frame, begun at time 0, by the plan of the unrolled system by the policy in the order p.
+abbrev pub unrolled-run : (s : List ℕ) (N policy : ℕ) (durations : List ℕ) → Order (N * profile s .n) → ℕ → Run
+unrolled-run s N policy durations p i =
+    before longest-coast (planned policy (tables (unrolled (profile s) N) p)) (tables (unrolled (profile s) N) p .worst) (cell durations (profile s .levels)) 0 i
 
 -- What is answered, as it is of a frame of a plain cycle.
 abbrev pub framed-of : BodyFramed → Framed
@@ -39,9 +39,9 @@ framed-of r = record { refusal = r .refusal; n = r .positions; decisions = r .de
 
 -- The answer r, and what the three lists hold before and after: the body's order, and by unrolled position the levels and the decided marks, their
 -- tails kept, and with a refusal all of it. Without one the orders are the body's and the unrolled system's; with one they count for nothing.
-pub record BodyFrames (s : List ℕ) (N : ℕ) (durations : List ℕ) (before after : FrameLists) (r : BodyFramed) : Type 0 where
-  pub number : First (body-frame-call s N durations (body-frame-rooms (profile s .n) (profile s .levels) N durations before)) (r .refusal .number)
-  pub action : AtFault (body-frame-call s N durations (body-frame-rooms (profile s .n) (profile s .levels) N durations before)) (r .refusal .action)
+pub record BodyFrames (s : List ℕ) (N policy : ℕ) (durations : List ℕ) (before after : FrameLists) (r : BodyFramed) : Type 0 where
+  pub number : First (body-frame-call s N policy durations (body-frame-rooms (profile s .n) (profile s .levels) N durations before)) (r .refusal .number)
+  pub action : AtFault (body-frame-call s N policy durations (body-frame-rooms (profile s .n) (profile s .levels) N durations before)) (r .refusal .action)
   pub positions : r .positions ≡ kept (r .refusal .number) (N * profile s .n) 0
   pub o : Order (profile s .n)
   pub the-order : r .refusal .number ≡ 0 → TheOrder (profile s) o
@@ -52,17 +52,17 @@ pub record BodyFrames (s : List ℕ) (N : ℕ) (durations : List ℕ) (before af
   pub actions : r .refusal .number ≡ 0 → (x : ℕ) → x < N * profile s .n → p .at x ≡ action-at (profile s .n) (after .order) x
   -- Levels and decisions are those of the rules over the unrolled system.
   pub levels : after .levels ≡ kept (r .refusal .number)
-      (splice (before .levels) 0 (tab (λ j. unrolled-run s N durations p (suc j) .level) (N * profile s .n))) (before .levels)
+      (splice (before .levels) 0 (tab (λ j. unrolled-run s N policy durations p (suc j) .level) (N * profile s .n))) (before .levels)
   pub decided : after .decided ≡ kept (r .refusal .number)
-      (splice (before .decided) 0 (tab (λ j. one-if (decides (unrolled-run s N durations p j))) (N * profile s .n))) (before .decided)
-  pub decisions : r .decisions ≡ kept (r .refusal .number) (unrolled-run s N durations p (N * profile s .n) .decisions) 0
-  pub end : r .end ≡ kept (r .refusal .number) (unrolled-run s N durations p (N * profile s .n) .clock) 0
-  pub overrun : r .overrun ≡ kept (r .refusal .number) (unrolled-run s N durations p (N * profile s .n) .overrun) false
-  pub late : r .late ≡ kept (r .refusal .number) (unrolled-run s N durations p (N * profile s .n) .late) false
+      (splice (before .decided) 0 (tab (λ j. one-if (decides (unrolled-run s N policy durations p j))) (N * profile s .n))) (before .decided)
+  pub decisions : r .decisions ≡ kept (r .refusal .number) (unrolled-run s N policy durations p (N * profile s .n) .decisions) 0
+  pub end : r .end ≡ kept (r .refusal .number) (unrolled-run s N policy durations p (N * profile s .n) .clock) 0
+  pub overrun : r .overrun ≡ kept (r .refusal .number) (unrolled-run s N policy durations p (N * profile s .n) .overrun) false
+  pub late : r .late ≡ kept (r .refusal .number) (unrolled-run s N policy durations p (N * profile s .n) .late) false
   -- The decisions are the positions marked as decided.
   pub counted : r .refusal .number ≡ 0 → r .decisions ≡ sum (N * profile s .n) (λ j. getD (after .decided) j 0)
   -- Demand 3 over the unrolled positions, where no duration is above worst at the level got.
   pub demand : r .refusal .number ≡ 0
       → ((j : ℕ) → j < N * profile s .n
       → time-taken durations (profile s .levels) after j ≤ tables (unrolled (profile s) N) p .worst j (level-got after j))
-      → Promised (tables (unrolled (profile s) N) p) (time-taken durations (profile s .levels) after) (level-got after) (framed-of r)
+      → Promised policy (tables (unrolled (profile s) N) p) (time-taken durations (profile s .levels) after) (level-got after) (framed-of r)

@@ -122,17 +122,18 @@ fn own_refusal(body: Body, durations: &[u32], order: &[u8], given: &[u8], marks:
     rules::REFUSED_DURATION
 }
 
-// Plans the body, runs the frame over n N by L durations by unrolled position, and writes the body's order, the levels given and the decided marks.
+// Plans the body by the policy, runs the frame over n N by L durations by unrolled position, and writes the body's order, the levels given and the decided marks.
 // A refusal leaves the slices untouched, so the order is kept apart until the durations are judged.
 pub fn dry_frame(
     image: &[u8],
     repeats: u32,
+    policy: u32,
     durations: &[u32],
     order: &mut [u8],
     given: &mut [u8],
     marks: &mut [u8],
 ) -> BodyFramed
-    ensures { λ r. ⌜ BodyFrames (now (image .entry)) repeats (now (durations .entry))
+    ensures { λ r. ⌜ BodyFrames (now (image .entry)) repeats policy (now (durations .entry))
         (record { order = now (order .entry); levels = now (given .entry); decided = now (marks .entry) })
         (record { order = now (order .exit); levels = now (given .exit); decided = now (marks .exit) }) r ⌝ }
 {
@@ -140,7 +141,14 @@ pub fn dry_frame(
     let mut actions = [0u8; 64];
     let mut summaries = [0u32; 2048];
     let mut worst = [0u32; 512];
-    let planned = repeat_planner::plan(image, repeats, &mut actions, &mut summaries, &mut worst);
+    let planned = repeat_planner::plan(
+        image,
+        repeats,
+        policy,
+        &mut actions,
+        &mut summaries,
+        &mut worst,
+    );
     let refusal = planned.refusal;
     if refusal.number != 0 {
         return refused(refusal);

@@ -63,7 +63,7 @@ module _ {b : Body} {T : LentBody} (l : Lends b T) where
 -- An asking, accepted or refused, answers by the order and the plan of the unrolled system.
 pub asks-unrolled : {F : Profile} {o : Order (F .n)} {b : Body} {T : LentBody} → PlannedBody F o b T → {p : Order (b .repeats * F .n)}
     → TheOrder (unrolled F (b .repeats)) p → (r : Run) → r .position < b .repeats * F .n
-    → body-ask b T r ≡ asked-by (body-ask-refusal b T r) (p .at (r .position)) (planned (tables (unrolled F (b .repeats)) p)) r
+    → body-ask b T r ≡ asked-by (body-ask-refusal b T r) (p .at (r .position)) (planned (b .policy) (tables (unrolled F (b .repeats)) p)) r
 unfolding body-ask
 asks-unrolled {F} {o} {b} {T} P {p} y r l =
     let A = lent-alike P y longest-coast in
@@ -72,5 +72,5 @@ asks-unrolled {F} {o} {b} {T} P {p} y r l =
     ap (λ (a : ℕ). gives a (given longest-coast (lent-plan b T) r) (fits (lent-plan b T) (r .clock) (r .position)))
     (ap (λ (x : Body). action-at (x .n) (T .order) (r .position)) (P .body-is) ∙ lent-action P y (r .position) l)
     ∙ ap (λ (s : Run). gives (p .at (r .position)) s (fits (lent-plan b T) (r .clock) (r .position))) (sym (given-alike A (some-level P) r l))
-    ∙ ap (gives (p .at (r .position)) (given longest-coast (planned (tables (unrolled F (b .repeats)) p)) r))
+    ∙ ap (gives (p .at (r .position)) (given longest-coast (planned (b .policy) (tables (unrolled F (b .repeats)) p)) r))
     (sym (fits-alike A (some-level P) (r .clock) (r .position) l))

@@ -1,20 +1,24 @@
 -- The limits of the unrolled system from the summary of the rest of a body and of the whole bodies after it, with no loop over repeats.
-use Prim.Native.Nat.{ℕ, zero, suc, _+_, _-_, _*_, _/_, _%_, _≤_, _<_}
-use mathlib.Core.Path.{_≡_, ap, ap₂, sym, _∙_}
+use Prim.Native.Nat.{ℕ, zero, suc, _+_, _-_, _*_, _/_, _%_, _≤_, _<_, max}
+use mathlib.Core.Path.{_≡_, refl, ap, ap₂, sym, _∙_}
+use mathlib.Core.Bool.{Bool, true, false, cond}
 use native.Mathlib.Nat.{le-refl, suc-mul, div-add-mod'}
 use native.Mathlib.Omega.{arith}
+use lib.Dec.{eqb}
 use lib.IntN.{pos, _-ℤ_}
-use Rattle.rules.specs.Words.{span}
+use Rattle.rules.specs.Numbers.{policy-2005}
+use Rattle.rules.specs.Words.{sum, span}
 use Rattle.rules.specs.Image.{Profile}
 use Rattle.rules.specs.Order.{Order}
-use Rattle.rules.specs.Limits.{Tables, tables, limit}
+use Rattle.rules.specs.Limits.{Tables, tables, safe, average, mixed, limit-by}
+use Rattle.rules.proofs.Sums.{sum-longer}
 use Rattle.rules.proofs.Limits.Mixed.{Sound}
 use Rattle.repeat_laws.proofs.Repeatable.{Repeatable}
-use Rattle.rules.specs.Repeat.{Sums, stretch, Summary, empty, of, summary, joined, followed, join, bodies, rest-of, body-of, mix-from, worst-from}
+use Rattle.rules.specs.Repeat.{Sums, stretch, Summary, empty, of, summary, joined, followed, join, bodies, stretch-2005, stretch-by, joined-by, needed-2005, needed, rest-of, body-of, mix-from, worst-from}
 use Rattle.repeat_laws.proofs.Places.{place-of, place-lt, row-lt, inside}
 use Rattle.repeat_laws.proofs.Order.{due-unrolled, repeated, repeated-at}
-use Rattle.repeat_laws.proofs.Mixed.{mixed-greatest, limit-one}
-use Rattle.repeat_laws.proofs.Joins.{stretch-joined, stretch-one, summary-joined, stretch-moved, bodies-more}
+use Rattle.repeat_laws.proofs.Mixed.{mixed-greatest, taken-2005, taken, limit-one}
+use Rattle.repeat_laws.proofs.Joins.{same, stretch-joined, stretch-one, summary-joined, stretch-moved, bodies-more, followed-average, followed-lowest, followed-worst}
 use Rattle.repeat_laws.proofs.Rule.{unrolled-tables}
 
 pub summary-some : (S : Tables) (q i m : ℕ) → 0 < m → summary S q i m ≡ of (stretch S q i (i + (m - 1)))
@@ -29,6 +33,17 @@ sums-of x (of y) = y
 same-sums : {x y : Sums} → of x ≡ of y → x ≡ y
 unfolding sums-of
 same-sums {x} e = ap (sums-of x) e
+
+-- the safe sum, with the level 0 worst time of its first position for that at q
+safe-lowest : (S : Tables) (i k q : ℕ) → i ≤ k → safe S i k q + S .worst i 0 ≡ S .worst i q + span (λ p. S .worst p 0) i (suc k)
+unfolding sum
+safe-lowest S i k q l = omega (arith, sum-longer (λ p. S .worst p 0) (suc i) (suc k) (omega arith))
+
+same-after : (s t x y m : ℕ) {v w a b : ℕ} → v ≡ w → a ≡ b → s + a ≡ v + x → t + b ≡ w + y → x ≡ y + m → s ≡ t + m
+same-after s t x y m e f p q r = omega (arith, p, q, r, e, f)
+
+greater-swapped : {a b x y : ℕ} → a ≡ x → b ≡ y → max a b ≡ max y x
+greater-swapped p q = omega (arith, p, q)
 
 module _ {F : Profile} (body : Repeatable F) (N : ℕ) (o : Order (F .n)) where
   -- ---- position j n + b of the unrolled system has the times of position b of the body
@@ -87,35 +102,83 @@ module _ {F : Profile} (body : Repeatable F) (N : ℕ) (o : Order (F .n)) where
         ∙ ap₂ join (rest-moved j b l) (ap (λ (y : ℕ). summary (unrolled-tables body N o) q y (r * F .n)) next ∙ bodies-moved (suc j) r)
         )
 
-    -- The limit at position b of repeat j: the cycle less M of the rest of the body joined with the bodies after it in closed form.
-    pub limit-closed : Sound (unrolled-tables body N o) → q < F .levels → (j b : ℕ) → j < N → b < F .n
-        → limit (unrolled-tables body N o) (j * F .n + b) q
-        ≡ pos (F .cycle) -ℤ pos (followed (stretch (tables F o) q b (F .n - 1)) (bodies (stretch (tables F o) q 0 (F .n - 1)) (N - 1 - j)) .mix)
+    -- What the limit at position b of repeat j takes off the cycle: in 2008 M of the rest of the body joined with the bodies after it in closed form,
+    mixed-closed : Sound (unrolled-tables body N o) → q < F .levels → (j b : ℕ) → j < N → b < F .n
+        → mixed (unrolled-tables body N o) (j * F .n + b) (N * F .n - 1) q
+        ≡ followed (stretch (tables F o) q b (F .n - 1)) (bodies (stretch (tables F o) q 0 (F .n - 1)) (N - 1 - j)) .mix
     unfolding stretch
-    limit-closed sound m j b h l =
+    mixed-closed sound m j b h l =
         let low = inside (body .some) h l in
-        limit-one (unrolled-tables body N o) (F .cycle) (j * F .n + b) q low (λ k a. due-unrolled body N _)
-        ∙ ap (λ (y : ℕ). pos (F .cycle) -ℤ pos y) (
         mixed-greatest (unrolled-tables body N o) q (j * F .n + b) (N * F .n - 1) (omega arith) (sound .ordered (N * F .n - 1) q (omega arith) m)
         ∙ ap (λ (x : Sums). x .mix) (rest-closed j b h l)
-        )
 
-    -- The same at any position.
-    pub limit-there : Sound (unrolled-tables body N o) → q < F .levels → (x : ℕ) → x < N * F .n
-        → limit (unrolled-tables body N o) x q ≡ pos (F .cycle) -ℤ pos (mix-from (body-of F N) (rest-of (tables F o)) x q)
+    -- in 2005 the greater of the averages and of the safe sum, each of the rest of the body and of the bodies after it.
+    average-closed : (j b : ℕ) → j < N → b < F .n
+        → average (unrolled-tables body N o) (j * F .n + b) (N * F .n - 1) q
+        ≡ stretch (tables F o) q b (F .n - 1) .average + (N - 1 - j) * stretch (tables F o) q 0 (F .n - 1) .average
+    unfolding stretch
+    average-closed j b h l =
+        ap (λ (x : Sums). x .average) (rest-closed j b h l)
+        ∙ followed-average (stretch (tables F o) q b (F .n - 1)) (stretch (tables F o) q 0 (F .n - 1)) (N - 1 - j)
+
+    safe-closed : (j b : ℕ) → j < N → b < F .n
+        → safe (unrolled-tables body N o) (j * F .n + b) (N * F .n - 1) q
+        ≡ safe (tables F o) b (F .n - 1) q + (N - 1 - j) * stretch (tables F o) q 0 (F .n - 1) .lowest
+    unfolding stretch
+    safe-closed j b h l =
+        let own : Sums = stretch (tables F o) q b (F .n - 1) in
+        let whole : Sums = stretch (tables F o) q 0 (F .n - 1) in
+        let low = inside (body .some) h l in
+        same-after _ _ _ (own .lowest) _ (worst-moved j b q l) (worst-moved j b 0 l)
+        (safe-lowest (unrolled-tables body N o) (j * F .n + b) (N * F .n - 1) q (omega arith))
+        (safe-lowest (tables F o) b (F .n - 1) q (omega arith))
+        (ap (λ (x : Sums). x .lowest) (rest-closed j b h l) ∙ followed-lowest own whole (N - 1 - j))
+
+    apart-closed : (j b : ℕ) → j < N → b < F .n
+        → taken-2005 (unrolled-tables body N o) (j * F .n + b) q
+        ≡ needed-2005 (stretch-2005 (tables F o) q b (F .n - 1)) (stretch-2005 (tables F o) q 0 (F .n - 1)) (N - 1 - j)
+    apart-closed j b h l = greater-swapped (average-closed j b h l) (safe-closed j b h l)
+
+    -- The limit at any position.
+    pub limit-there : Sound (unrolled-tables body N o) → q < F .levels → (policy x : ℕ) → x < N * F .n
+        → limit-by policy (unrolled-tables body N o) x q ≡ pos (F .cycle) -ℤ pos (mix-from (body-of F N policy) (rest-of policy (tables F o)) x q)
     unfolding mix-from
-    limit-there sound m x h =
-        ap (λ (y : ℕ). limit (unrolled-tables body N o) y q) (sym (div-add-mod' x (F .n)))
-        ∙ limit-closed sound m (x / F .n) (x % F .n) (row-lt (body .some) h) (place-lt (body .some) x)
+    limit-there sound m policy x h =
+        limit-one (unrolled-tables body N o) (F .cycle) x q h (λ k a. due-unrolled body N _) policy
+        ∙ ap (λ (y : ℕ). pos (F .cycle) -ℤ pos y) (
+        ap (λ (y : ℕ). taken policy (unrolled-tables body N o) y q) (sym (div-add-mod' x (F .n)))
+        ∙ by (eqb policy policy-2005)
+        )
+      where
+        by : (b : Bool)
+            → cond b (taken-2005 (unrolled-tables body N o) (x / F .n * F .n + x % F .n) q) (mixed (unrolled-tables body N o) (x / F .n * F .n + x % F .n) (N * F .n - 1) q)
+            ≡ cond b
+            (needed-2005 (cond b (stretch-2005 (tables F o)) (stretch (tables F o)) q (x % F .n) (F .n - 1))
+            (cond b (stretch-2005 (tables F o)) (stretch (tables F o)) q 0 (F .n - 1)) (N - 1 - x / F .n))
+            (followed (cond b (stretch-2005 (tables F o)) (stretch (tables F o)) q (x % F .n) (F .n - 1))
+            (bodies (cond b (stretch-2005 (tables F o)) (stretch (tables F o)) q 0 (F .n - 1)) (N - 1 - x / F .n)) .mix)
+        by true = apart-closed (x / F .n) (x % F .n) (row-lt (body .some) h) (place-lt (body .some) x)
+        by false = mixed-closed sound m (x / F .n) (x % F .n) (row-lt (body .some) h) (place-lt (body .some) x)
 
     -- The worst times from a position on, in the same way.
-    pub worst-closed : (x : ℕ) → x < N * F .n
-        → worst-from (body-of F N) (rest-of (tables F o)) x q ≡ span (λ p. unrolled-tables body N o .worst p q) x (N * F .n)
+    pub worst-closed : (policy x : ℕ) → x < N * F .n
+        → worst-from (body-of F N policy) (rest-of policy (tables F o)) x q ≡ span (λ p. unrolled-tables body N o .worst p q) x (N * F .n)
     unfolding worst-from stretch
-    worst-closed x h =
+    worst-closed policy x h =
         let last : suc (N * F .n - 1) ≡ N * F .n = omega arith in
-        sym (ap (λ (y : Sums). y .worst) (rest-closed (x / F .n) (x % F .n) (row-lt (body .some) h) (place-lt (body .some) x)))
+        either-worst (eqb policy policy-2005)
+        ∙ sym (ap (λ (y : Sums). y .worst) (rest-closed (x / F .n) (x % F .n) (row-lt (body .some) h) (place-lt (body .some) x)))
         ∙ ap₂ (span (λ p. unrolled-tables body N o .worst p q)) (div-add-mod' x (F .n)) last
+      where
+        -- V is the same by either policy
+        either-worst : (b : Bool)
+            → followed (cond b (stretch-2005 (tables F o)) (stretch (tables F o)) q (x % F .n) (F .n - 1))
+            (bodies (cond b (stretch-2005 (tables F o)) (stretch (tables F o)) q 0 (F .n - 1)) (N - 1 - x / F .n)) .worst
+            ≡ followed (stretch (tables F o) q (x % F .n) (F .n - 1)) (bodies (stretch (tables F o) q 0 (F .n - 1)) (N - 1 - x / F .n)) .worst
+        either-worst true =
+            followed-worst (stretch-2005 (tables F o) q (x % F .n) (F .n - 1)) (stretch-2005 (tables F o) q 0 (F .n - 1)) (N - 1 - x / F .n)
+            ∙ sym (followed-worst (stretch (tables F o) q (x % F .n) (F .n - 1)) (stretch (tables F o) q 0 (F .n - 1)) (N - 1 - x / F .n))
+        either-worst false = refl
 
   pub worst-there : (x q : ℕ) → unrolled-tables body N o .worst x q ≡ F .worst (o .at (x % F .n)) q
   worst-there x q =
@@ -124,6 +187,34 @@ module _ {F : Profile} (body : Repeatable F) (N : ℕ) (o : Order (F .n)) where
 
 -- ---- the summaries of the rest of a body, from its last position back
 
-pub stretch-front : (S : Tables) (q b k : ℕ) → b < k
-    → stretch S q b k ≡ joined (record { average = S .average b q; lowest = S .worst b 0; mix = S .worst b q; worst = S .worst b q }) (stretch S q (suc b) k)
-stretch-front S q b k l = stretch-joined S q b b k (le-refl b) l ∙ ap (λ (x : Sums). joined x (stretch S q (suc b) k)) (stretch-one S q b)
+-- one position alone
+abbrev pub alone : Tables → ℕ → ℕ → Sums
+alone S b q = record { average = S .average b q; lowest = S .worst b 0; mix = S .worst b q; worst = S .worst b q }
+
+-- and what comes after it
+pub stretch-front : (policy : ℕ) (S : Tables) (q b k : ℕ) → b < k → stretch-by policy S q b k ≡ joined-by policy (alone S b q) (stretch-by policy S q (suc b) k)
+unfolding stretch
+stretch-front policy S q b k l = by (eqb policy policy-2005)
+  where
+    joins : stretch S q b k ≡ joined (alone S b q) (stretch S q (suc b) k)
+    joins = stretch-joined S q b b k (le-refl b) l ∙ ap (λ (x : Sums). joined x (stretch S q (suc b) k)) (stretch-one S q b)
+
+    by : (a : Bool) → cond a (stretch-2005 S) (stretch S) q b k
+        ≡ record {
+          average = S .average b q + cond a (stretch-2005 S) (stretch S) q (suc b) k .average;
+          lowest = S .worst b 0 + cond a (stretch-2005 S) (stretch S) q (suc b) k .lowest;
+          mix = cond a (S .worst b q + cond a (stretch-2005 S) (stretch S) q (suc b) k .lowest)
+              (max (S .worst b q + cond a (stretch-2005 S) (stretch S) q (suc b) k .lowest) (S .average b q + cond a (stretch-2005 S) (stretch S) q (suc b) k .mix));
+          worst = S .worst b q + cond a (stretch-2005 S) (stretch S) q (suc b) k .worst;
+        }
+    by true = same (ap (λ (x : Sums). x .average) joins) (ap (λ (x : Sums). x .lowest) joins) refl (ap (λ (x : Sums). x .worst) joins)
+    by false = joins
+
+-- the last position alone
+pub stretch-last : (policy : ℕ) (S : Tables) (q b : ℕ) → stretch-by policy S q b b ≡ alone S b q
+unfolding stretch sum
+stretch-last policy S q b = by (eqb policy policy-2005)
+  where
+    by : (a : Bool) → cond a (stretch-2005 S) (stretch S) q b b ≡ alone S b q
+    by true = same (omega arith) (omega arith) (omega arith) (omega arith)
+    by false = stretch-one S q b

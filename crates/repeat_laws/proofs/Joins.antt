@@ -8,7 +8,7 @@ use native.Mathlib.Omega.{arith}
 use Rattle.rules.specs.Words.{sum, span, greatest-of}
 use Rattle.rules.specs.Limits.{Tables, average}
 use Rattle.rules.proofs.Sums.{sum-longer}
-use Rattle.rules.specs.Repeat.{Sums, stretch, Summary, empty, of, summary, joined, join, bodies}
+use Rattle.rules.specs.Repeat.{Sums, stretch, Summary, empty, of, summary, joined, followed, join, bodies}
 use Rattle.repeat_laws.proofs.Mixed.{each-greatest, greatest-under, turned}
 
 pub same : {x y : Sums} → x .average ≡ y .average → x .lowest ≡ y .lowest → x .mix ≡ y .mix → x .worst ≡ y .worst → x ≡ y
@@ -165,3 +165,16 @@ pub bodies-times : (x : Sums) (m : ℕ) → times (of x) m ≡ bodies x m
 unfolding times
 bodies-times x zero = refl
 bodies-times x (suc m) = ap (λ (y : Summary). join y (of x)) (bodies-times x m) ∙ bodies-more x m
+
+-- of the rest of a body and the bodies after it
+pub followed-average : (x y : Sums) (m : ℕ) → followed x (bodies y m) .average ≡ x .average + m * y .average
+followed-average x y zero = omega arith
+followed-average x y (suc m) = refl
+
+pub followed-lowest : (x y : Sums) (m : ℕ) → followed x (bodies y m) .lowest ≡ x .lowest + m * y .lowest
+followed-lowest x y zero = omega arith
+followed-lowest x y (suc m) = refl
+
+pub followed-worst : (x y : Sums) (m : ℕ) → followed x (bodies y m) .worst ≡ x .worst + m * y .worst
+followed-worst x y zero = omega arith
+followed-worst x y (suc m) = refl

@@ -1,12 +1,13 @@
 -- The sums of a body repeated are below 2 ^ 41 in size, and so are limits and coast bounds. Assumes nothing.
 use Prim.Native.Nat.{ℕ, zero, suc, _+_, _-_, _*_, _/_, _%_, _≤_, _<_, max}
-use Rattle.rules.specs.Numbers.{most-actions, last-clock, longest-time, longest-coast}
+use Rattle.rules.specs.Numbers.{most-actions, last-clock, longest-time, longest-coast, policy-2005}
 use mathlib.Core.Path.{_≡_, ap}
 use mathlib.Core.Bool.{Bool, true, false, cond}
 use mathlib.Core.Logic.{inl, inr}
 use native.Mathlib.Nat.{mul-le-mul-left, mul-le-mul-right}
 use native.Mathlib.Decide.{decLe}
 use native.Mathlib.Omega.{arith}
+use lib.Dec.{eqb}
 use lib.IntN.{ℤ, pos, _-ℤ_}
 use lib.Signed.{mag, leZ}
 use Rattle.rules.specs.Words.{span, least-of}
@@ -17,7 +18,7 @@ use Rattle.rules.specs.Refusals.{Count}
 use Rattle.rules.proofs.Faults.{TimeOut}
 use Rattle.rules.proofs.Differences.{not-above, not-below, below, take-both}
 use Rattle.rules.proofs.Limits.Range.{span-cap}
-use Rattle.rules.specs.Repeat.{Repeats, Sums, stretch, joined, followed, bodies, rest-of, body-of, mix-from, limit-from, body-plan}
+use Rattle.rules.specs.Repeat.{Repeats, Sums, stretch, joined, followed, bodies, stretch-2005, stretch-by, needed-2005, rest-of, body-of, mix-from, limit-from, body-plan}
 use Rattle.rules.specs.declared.Body.{Body}
 use Rattle.repeat_laws.proofs.Places.{place-lt}
 use Rattle.repeat_laws.proofs.Mixed.{greatest-under, turned}
@@ -48,6 +49,26 @@ stretch-within S c q i k l a w w0 = record {
       ));
   worst = span-cap (λ p. S .worst p q) c i (suc k) (omega arith) (λ p u v. w p (omega arith));
 }
+
+-- by either policy
+pub stretch-by-within : (policy : ℕ) (S : Tables) (c q i k : ℕ) → i ≤ k → ((p : ℕ) → p ≤ k → S .average p q ≤ c) → ((p : ℕ) → p ≤ k → S .worst p q ≤ c)
+    → ((p : ℕ) → p ≤ k → S .worst p 0 ≤ c) → Within ((suc k - i) * c) (stretch-by policy S q i k)
+stretch-by-within policy S c q i k l a w w0 = by (eqb policy policy-2005)
+  where
+    all : Within ((suc k - i) * c) (stretch S q i k)
+    all = stretch-within S c q i k l a w w0
+
+    rows : (suc k - i) * c ≡ (1 + (suc k - suc i)) * c
+    rows = let e : suc k - i ≡ 1 + (suc k - suc i) = omega arith in ap (λ (y : ℕ). y * c) e
+
+    by : (b : Bool) → Within ((suc k - i) * c) (cond b (stretch-2005 S) (stretch S) q i k)
+    by true = record {
+      average = all .average;
+      lowest = all .lowest;
+      mix = omega (arith, rows, w i l, span-cap (λ p. S .worst p 0) c (suc i) (suc k) (omega arith) (λ p x y. w0 p (omega arith)));
+      worst = all .worst;
+    }
+    by false = all
 
 pub joined-within : {a b : ℕ} {x y : Sums} → Within a x → Within b y → Within (a + b) (joined x y)
 joined-within h k = record {
@@ -90,7 +111,13 @@ pub mix-within : (b : Body) (rest : ℕ → ℕ → Sums) (c x q : ℕ) → 0 < 
 unfolding mix-from
 mix-within b rest c x q some own whole =
     let few : suc (b .repeats - 1 - x / b .n) ≤ b .repeats = omega arith in
-    omega (arith, followed-within own whole (b .repeats - 1 - x / b .n) .mix, mul-le-mul-right c few)
+    omega (arith, by (eqb (b .policy) policy-2005), mul-le-mul-right c few)
+  where
+    by : (a : Bool) → cond a (needed-2005 (rest (x % b .n) q) (rest 0 q) (b .repeats - 1 - x / b .n))
+        (followed (rest (x % b .n) q) (bodies (rest 0 q) (b .repeats - 1 - x / b .n)) .mix)
+        ≤ c + (b .repeats - 1 - x / b .n) * c
+    by true = omega (arith, own .mix, own .average, mul-le-mul-left (b .repeats - 1 - x / b .n) (whole .lowest), mul-le-mul-left (b .repeats - 1 - x / b .n) (whole .average))
+    by false = followed-within own whole (b .repeats - 1 - x / b .n) .mix
 
 -- So are limits and coast bounds below m in size, where the cycle is and so is N c with the worst times of a coast.
 module _ (b : Body) (rest : ℕ → ℕ → Sums) (worst : ℕ → ℕ → ℕ) (m : ℕ) (cycle : b .cycle < m) where
@@ -137,9 +164,9 @@ module _ (F : Profile) (o : Order (F .n)) (counts : Count F → ⊥) (times : Ti
   few = not-above (λ h. counts (inl (inr (inl h))))
 
   -- the rest of a body: 64 actions at most
-  pub body-within : (i : ℕ) → i < F .n → Within 1073741760 (rest-of (tables F o) i q)
-  body-within i l =
-      let w = stretch-within (tables F o) longest-time q i (F .n - 1) (omega arith) (λ p h. average-within F o times p q (omega arith) m)
+  pub body-within : (policy i : ℕ) → i < F .n → Within 1073741760 (rest-of policy (tables F o) i q)
+  body-within policy i l =
+      let w = stretch-by-within policy (tables F o) longest-time q i (F .n - 1) (omega arith) (λ p h. average-within F o times p q (omega arith) m)
       (λ p h. worst-within F o times p q (omega arith) m) (λ p h. worst-within F o times p 0 (omega arith) (omega arith)) in
       let fewer : suc (F .n - 1) - i ≤ 64 = omega (arith, few) in
       let most : (suc (F .n - 1) - i) * longest-time ≤ 64 * longest-time = mul-le-mul-right longest-time fewer in
@@ -152,33 +179,33 @@ module _ (F : Profile) (o : Order (F .n)) (counts : Count F → ⊥) (times : Ti
 
 -- ---- and nor is 19
 
-module _ (F : Profile) (N : ℕ) (o : Order (F .n)) (counts : Count F → ⊥) (times : TimeOut F → ⊥) (repeats : Repeats F N → ⊥) (q : ℕ) (m : q < F .levels) where
+module _ (F : Profile) (N : ℕ) (o : Order (F .n)) (counts : Count F → ⊥) (times : TimeOut F → ⊥) (repeats : Repeats F N → ⊥) (policy q : ℕ) (m : q < F .levels) where
   some : 0 < F .n
   some = not-above (λ h. counts (inl (inl h)))
 
-  pub rest-within : (i : ℕ) → i < F .n → Within 1073741760 (rest-of (tables F o) i q)
-  rest-within = body-within F o counts times q m
+  pub rest-within : (i : ℕ) → i < F .n → Within 1073741760 (rest-of policy (tables F o) i q)
+  rest-within = body-within F o counts times q m policy
 
   -- Of the whole rest: at most 103,680 times 16,777,215, which is below 2 ^ 41. So no limit and no coast bound is the least number of 64 bits.
-  pub repeated-within : (x : ℕ) → mix-from (body-of F N) (rest-of (tables F o)) x q ≤ 1739461651200
+  pub repeated-within : (x : ℕ) → mix-from (body-of F N policy) (rest-of policy (tables F o)) x q ≤ 1739461651200
   repeated-within x =
       let n-some : 0 < N = not-above (λ h. repeats (inl (inl h))) in
       let most : N ≤ 1620 = not-above (λ h. repeats (inl (inr h))) in
       omega (
         arith,
-        mix-within (body-of F N) (rest-of (tables F o)) 1073741760 x q n-some (rest-within (x % F .n) (place-lt some x)) (rest-within 0 some),
+        mix-within (body-of F N policy) (rest-of policy (tables F o)) 1073741760 x q n-some (rest-within (x % F .n) (place-lt some x)) (rest-within 0 some),
         mul-le-mul-right 1073741760 most,
       )
 
   short : F .cycle < 2199023255552
   short = let h : F .cycle ≤ last-clock = not-above (λ e. counts (inr (inr e))) in omega arith
 
-  pub limit-within : (x : ℕ) → mag (body-plan (body-of F N) (rest-of (tables F o)) (tables F o .worst) .limit x q) < 2199023255552
-  limit-within x = limit-sized (body-of F N) (rest-of (tables F o)) (tables F o .worst) 2199023255552 short x q (omega (arith, repeated-within x))
+  pub limit-within : (x : ℕ) → mag (body-plan (body-of F N policy) (rest-of policy (tables F o)) (tables F o .worst) .limit x q) < 2199023255552
+  limit-within x = limit-sized (body-of F N policy) (rest-of policy (tables F o)) (tables F o .worst) 2199023255552 short x q (omega (arith, repeated-within x))
 
   pub bound-within : (i r : ℕ) → 0 < r → r ≤ longest-coast
-      → mag (body-plan (body-of F N) (rest-of (tables F o)) (tables F o .worst) .bound i q r) < 2199023255552
-  bound-within i r any most = bound-sized (body-of F N) (rest-of (tables F o)) (tables F o .worst) 2199023255552 short i q r (λ j u v. omega (
+      → mag (body-plan (body-of F N policy) (rest-of policy (tables F o)) (tables F o .worst) .bound i q r) < 2199023255552
+  bound-within i r any most = bound-sized (body-of F N policy) (rest-of policy (tables F o)) (tables F o .worst) 2199023255552 short i q r (λ j u v. omega (
     arith,
     repeated-within j,
     before-in (λ p. F .worst (o .at (p % F .n)) q) longest-time i j (λ p. worst-within F o times (p % F .n) q (place-lt some p) m) u (omega arith),

@@ -9,7 +9,7 @@ use lib.IntN.{ℤ, pos}
 use borrow.Author.Tests.{lt-ltb, le-ltb, ne-eqb}
 use Rattle.rules.specs.Image.{Profile}
 use Rattle.rules.specs.Order.{Order, TheOrder}
-use Rattle.rules.specs.Limits.{tables, limit, planned}
+use Rattle.rules.specs.Limits.{tables, planned}
 use Rattle.rules.specs.Repeat.{unrolled, LentBody, positions, lent-plan, PlannedBody, body-limit-refusal, body-bound-refusal, absent-long, bound-or-absent}
 use Rattle.rules.specs.declared.Body.{Body}
 use Rattle.repeat_laws.proofs.Lent.{lent-limit, lent-bound}
@@ -66,7 +66,7 @@ module _ (b : Body) (lent : LentBody) (i q r : ℕ) where
   unrolled-same : {F : Profile} {o : Order (F .n)} {T : LentBody} → T .summaries ≡ lent .summaries → T .worst ≡ lent .worst → PlannedBody F o b T
       → {p : Order (b .repeats * F .n)} → TheOrder (unrolled F (b .repeats)) p → q < b .levels → 0 < r
       → Dec (positions b - i < r)
-      → bound-or-absent (lent-plan b lent) i q r ≡ bound-or-absent (planned (tables (unrolled F (b .repeats)) p)) i q r
+      → bound-or-absent (lent-plan b lent) i q r ≡ bound-or-absent (planned (b .policy) (tables (unrolled F (b .repeats)) p)) i q r
   unrolled-same {F} {o} {T} same-s same-w P {p} y m some (yes l) =
       let there : b .repeats * F .n - i < r = omega (arith, positions-are P) in
       sym (absent-is l) ∙ rw (lt-ltb _ _ there)

@@ -23,7 +23,7 @@ use Rattle.repeat_laws.specs.Standing.{Standing}
 use Rattle.repeat_laws.proofs.Mixed.{each-greatest, greatest-under}
 use Rattle.repeat_laws.proofs.Places.{row-lt}
 use Rattle.repeat_laws.proofs.Standing.{stands, place-in, fewer, next-body, further, rest-left}
-use Rattle.repeat_laws.proofs.Plan.{least-same}
+use Rattle.rules.proofs.Limits.Alike.{least-same}
 use Rattle.repeat_limits.specs.Limits.{Stands, Summed, MoreAfter, Spans}
 use Rattle.repeat_limits.proofs.Sizes.{mix-of}
 use Rattle.repeat_limits.proofs.Reading.{alone, standing-mix, standing-worst}
@@ -59,7 +59,7 @@ module _ (b : Body) (T : LentBody) (i q : ℕ) where
     pub spent-is : spent ≡ span (λ p. cell (T .worst) (b .levels) (p % b .n) q) i (i + (k - 1))
     pub most-is : most ≡ greatest-of (λ j. mix-from b (λ p r. stretch-at (T .summaries) (p * b .levels + r)) j q + span (λ p. cell (T .worst) (b .levels) (p % b .n) q) i j) i (k - 1)
 
-  pub reaching-one : {place after most : ℕ} → Standing b i place after → most ≡ mix-of (T .summaries) (place * b .levels + q) q after
+  pub reaching-one : {place after most : ℕ} → Standing b i place after → most ≡ mix-of (b .policy) (T .summaries) (place * b .levels + q) q after
       → Reaching 1 place after 0 most
   unfolding greatest-of
   reaching-one {place} {after} {most} s e =
@@ -73,7 +73,7 @@ module _ (b : Body) (T : LentBody) (i q : ℕ) where
 
   pub reaching-more : {k place after spent most to later : ℕ} → Reaching k place after spent most → Standing b (suc (i + (k - 1))) to later
       → Reaching (k + 1) to later (spent + cell (T .worst) (b .levels) place q)
-      (max most (spent + cell (T .worst) (b .levels) place q + mix-of (T .summaries) (to * b .levels + q) q later))
+      (max most (spent + cell (T .worst) (b .levels) place q + mix-of (b .policy) (T .summaries) (to * b .levels + q) q later))
   unfolding greatest-of sum
   reaching-more {k} {place} {after} {spent} {most} {to} {later} R s =
       let on : i + (k + 1 - 1) ≡ suc (i + (k - 1)) = omega (arith, R .some) in
@@ -204,7 +204,7 @@ module _ {b : Body} {l : List ℕ} {place after q r : ℕ} (h : Spans b l place 
   pub last-read : {x : ℕ} → Standing b x place after
       → stretch-at l (place * b .levels + q) .worst + (place + r - 1) / b .n * stretch-at l q .worst
       - stretch-at l ((place + r - 1) % b .n * b .levels + q) .worst
-      + mix-of l ((place + r - 1) % b .n * b .levels + q) q (after - (place + r - 1) / b .n)
+      + mix-of (b .policy) l ((place + r - 1) % b .n * b .levels + q) q (after - (place + r - 1) / b .n)
       ≡ last-mix b (rest-lent b (alone l)) x q r
   last-read {x} s =
       let last = last-stands s in

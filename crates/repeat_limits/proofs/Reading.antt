@@ -4,9 +4,10 @@ use mathlib.Core.Path.{_≡_, refl, ap, ap₂, sym, _∙_}
 use mathlib.Core.List.{List, []}
 use native.Mathlib.Omega.{arith}
 use lib.IntN.{pos, _-ℤ_}
-use Rattle.rules.specs.Repeat.{Sums, followed, bodies, LentBody, positions, mix-from, worst-from, stretch-at, lent-each, lent-plan}
+use Rattle.rules.specs.Repeat.{LentBody, positions, mix-from, worst-from, stretch-at, lent-each, lent-plan}
 use Rattle.rules.specs.declared.Body.{Body}
 use Rattle.repeat_laws.specs.Standing.{Standing}
+use Rattle.repeat_laws.proofs.Joins.{followed-worst}
 use Rattle.repeat_limits.proofs.Sizes.{mix-of}
 
 abbrev pub alone : List ℕ → LentBody
@@ -14,18 +15,14 @@ alone s = record { order = []; summaries = s; worst = [] }
 
 -- M by where the position stands: two summaries of the one list
 pub standing-mix : {b : Body} (s : List ℕ) {x place after : ℕ} (q : ℕ) → Standing b x place after
-    → mix-of s (place * b .levels + q) q after ≡ mix-from b (λ i r. stretch-at s (i * b .levels + r)) x q
+    → mix-of (b .policy) s (place * b .levels + q) q after ≡ mix-from b (λ i r. stretch-at s (i * b .levels + r)) x q
 unfolding mix-from
 standing-mix {b} s {x} q h =
     let first : q ≡ 0 * b .levels + q = omega arith in
-    ap₂ (λ (p m : ℕ). mix-of s (p * b .levels + q) q m) (h .place-is) (h .after-is)
-    ∙ ap (λ (y : ℕ). mix-of s (x % b .n * b .levels + q) y (b .repeats - 1 - x / b .n)) first
+    ap₂ (λ (p m : ℕ). mix-of (b .policy) s (p * b .levels + q) q m) (h .place-is) (h .after-is)
+    ∙ ap (λ (y : ℕ). mix-of (b .policy) s (x % b .n * b .levels + q) y (b .repeats - 1 - x / b .n)) first
 
 -- and V: of the rest of a body and the bodies after it
-followed-worst : (x y : Sums) (m : ℕ) → followed x (bodies y m) .worst ≡ x .worst + m * y .worst
-followed-worst x y zero = omega arith
-followed-worst x y (suc m) = refl
-
 pub standing-worst : {b : Body} (s : List ℕ) {x place after : ℕ} (q : ℕ) → Standing b x place after
     → stretch-at s (place * b .levels + q) .worst + after * stretch-at s q .worst ≡ worst-from b (λ i r. stretch-at s (i * b .levels + r)) x q
 unfolding worst-from
@@ -36,7 +33,7 @@ standing-worst {b} s {x} q h =
     ∙ sym (followed-worst (stretch-at s (x % b .n * b .levels + q)) (stretch-at s (0 * b .levels + q)) (b .repeats - 1 - x / b .n))
 
 pub limit-read : {b : Body} (T : LentBody) {x place after : ℕ} (q : ℕ) → Standing b x place after
-    → lent-plan b T .limit x q ≡ pos (b .cycle) -ℤ pos (mix-of (T .summaries) (place * b .levels + q) q after)
+    → lent-plan b T .limit x q ≡ pos (b .cycle) -ℤ pos (mix-of (b .policy) (T .summaries) (place * b .levels + q) q after)
 unfolding lent-plan
 limit-read {b} T q h = ap (λ (y : ℕ). pos (b .cycle) -ℤ pos y) (sym (standing-mix (T .summaries) q h))
 

@@ -1,17 +1,18 @@
 -- What is known where a limit or a coast bound is not refused. Assumes nothing.
 use Prim.Native.Nat.{ℕ, _+_, _*_, _≤_, _<_}
-use mathlib.Core.Path.{_≡_, refl}
-use mathlib.Core.Bool.{Bool, true, false, cond, _||_}
+use mathlib.Core.Path.{_≡_, refl, _∙_}
+use mathlib.Core.Bool.{Bool, true, false, not, cond, _&&_, _||_}
 use mathlib.Core.List.{List, [], _∷_, _++_}
 use mathlib.Core.Logic.{_≢_}
 use native.Mathlib.Nat.{mul-le-mul, mul-le-mul-right}
+use native.Mathlib.Decide.{ℕ-discrete}
 use native.Mathlib.Omega.{arith}
-use lib.Dec.{leb, ltb, lit<}
+use lib.Dec.{leb, ltb, eqb, lit<}
 use lib.ListN.{length}
-use borrow.Author.Tests.{ltb-false, leb-false}
-use Rattle.rules.specs.Numbers.{most-actions, most-levels, last-clock, most-repeats, longest-coast, summary-numbers, refused-room, refused-reading}
-use Rattle.rules.specs.Refusals.{Test, _if_, first}
-use Rattle.rules.specs.Repeat.{LentBody, positions, body-tests, body-limit-refusal, body-bound-refusal}
+use borrow.Author.Tests.{eq-eqb, ne-eqb, ltb-false, leb-false}
+use Rattle.rules.specs.Numbers.{most-actions, most-levels, last-clock, most-repeats, longest-coast, policy-2008, policy-2005, summary-numbers, refused-room, refused-reading}
+use Rattle.rules.specs.Refusals.{Test, _if_, first, UnknownPolicy}
+use Rattle.rules.specs.Repeat.{LentBody, positions, body-tests, known-tests, body-limit-refusal, body-bound-refusal}
 use Rattle.rules.specs.declared.Body.{Body}
 use Rattle.rules.proofs.Tests.{neither}
 use Rattle.repeat_laws.specs.Standing.{Standing}
@@ -25,13 +26,24 @@ clear false k m p e = (refl, e)
 
 -- ---- the body
 
--- its two tests
+-- its two tests, and that of its policy
 abbrev count-out : Body → Bool
 count-out b =
     ltb (b .n) 1 || ltb most-actions (b .n) || ltb (b .levels) 1 || ltb most-levels (b .levels) || ltb (b .cycle) 1 || ltb last-clock (b .cycle)
 
 abbrev repeats-out : Body → Bool
 repeats-out b = ltb (b .repeats) 1 || ltb most-repeats (b .repeats)
+
+abbrev policy-out : Body → Bool
+policy-out b = not (eqb (b .policy) policy-2008) && not (eqb (b .policy) policy-2005)
+
+pub known-not-out : (b : Body) → (UnknownPolicy (b .policy) → ⊥) → policy-out b ≡ false
+known-not-out b h = by (ℕ-discrete (b .policy) policy-2008) (ℕ-discrete (b .policy) policy-2005)
+  where
+    by : Dec (b .policy ≡ policy-2008) → Dec (b .policy ≡ policy-2005) → policy-out b ≡ false
+    by (yes e) d = rw (eq-eqb (b .policy) policy-2008 e)
+    by (no n) (yes e) = rw (ne-eqb (b .policy) policy-2008 n, eq-eqb (b .policy) policy-2005 e)
+    by (no n) (no m) = absurd (h (n, m))
 
 pub counts-in : (b : Body) → 0 ≡ first (body-tests b) → CountsIn b
 unfolding first
@@ -55,8 +67,46 @@ counts-in b e =
     }
 
 -- the number of the first that fails, or what comes after
-abbrev or-else : Bool → Bool → ℕ → ℕ
-or-else x y m = cond x 3 (cond y 19 m)
+abbrev or-else : Bool → Bool → Bool → ℕ → ℕ
+or-else x y z m = cond x 3 (cond y 19 (cond z 20 m))
+
+-- the body's own
+abbrev own-or : Bool → Bool → ℕ → ℕ
+own-or x y m = cond x 3 (cond y 19 m)
+
+-- The tests of a body that is not refused by its own, and of one that is.
+module _ (b : Body) where
+  pub own-first : {k : ℕ} → k ≡ first (body-tests b) → k ≢ 0 → k ≡ first (known-tests b)
+  unfolding first
+  own-first e ne = rw e (by (count-out b) (repeats-out b) (policy-out b) (λ z. ne (e ∙ z)))
+    where
+      by : (x y z : Bool) → own-or x y 0 ≢ 0 → own-or x y 0 ≡ or-else x y z 0
+      by true y z h = refl
+      by false true z h = refl
+      by false false z h = absurd (h refl)
+
+  pub own-out : 0 ≡ first (body-tests b) → policy-out b ≡ true → 20 ≡ first (known-tests b)
+  unfolding first
+  own-out e out = rw out (by (count-out b) (repeats-out b) e)
+    where
+      by : (x y : Bool) → 0 ≡ own-or x y 0 → 20 ≡ own-or x y 20
+      by true y h = absurd (omega arith)
+      by false true h = absurd (omega arith)
+      by false false h = refl
+
+  pub own-passed : 0 ≡ first (body-tests b) → policy-out b ≡ false → 0 ≡ first (known-tests b)
+  unfolding first
+  own-passed e known = rw known e
+
+-- a body that is known passes its own tests
+pub known-passes : (b : Body) → 0 ≡ first (known-tests b) → 0 ≡ first (body-tests b)
+unfolding first
+known-passes b e = by (count-out b) (repeats-out b) (policy-out b) e
+  where
+    by : (x y z : Bool) → 0 ≡ or-else x y z 0 → 0 ≡ own-or x y 0
+    by true y z h = h
+    by false true z h = h
+    by false false z h = refl
 
 -- products of a body in its ranges
 pub record Products (b : Body) : Type 0 where
@@ -68,28 +118,31 @@ products c = record { cells = mul-le-mul (c .few) (c .few-levels); total = mul-l
 
 -- A row after it: where the body is refused that is the number, where it is not the rest of the row decides.
 module _ (b : Body) (row : List Test) where
-  pub body-first : first (body-tests b) ≢ 0 → first (body-tests b) ≡ first (body-tests b ++ row)
+  pub body-first : first (known-tests b) ≢ 0 → first (known-tests b) ≡ first (known-tests b ++ row)
   unfolding first
-  body-first ne = by (count-out b) (repeats-out b) ne
+  body-first ne = by (count-out b) (repeats-out b) (policy-out b) ne
     where
-      by : (x y : Bool) → or-else x y 0 ≢ 0 → or-else x y 0 ≡ or-else x y (first row)
-      by true y h = refl
-      by false true h = refl
-      by false false h = absurd (h refl)
+      by : (x y z : Bool) → or-else x y z 0 ≢ 0 → or-else x y z 0 ≡ or-else x y z (first row)
+      by true y z h = refl
+      by false true z h = refl
+      by false false true h = refl
+      by false false false h = absurd (h refl)
 
-  pub body-passed : 0 ≡ first (body-tests b) → first (body-tests b ++ row) ≡ first row
+  pub body-passed : 0 ≡ first (known-tests b) → first (known-tests b ++ row) ≡ first row
   unfolding first
   body-passed e =
       let p = clear (count-out b) 3 _ (lit< tt) e in
-      rw (p .0, clear (repeats-out b) 19 0 (lit< tt) (p .1) .0)
+      let q = clear (repeats-out b) 19 _ (lit< tt) (p .1) in
+      rw (p .0, q .0, clear (policy-out b) 20 0 (lit< tt) (q .1) .0)
 
   -- where the row gives none
-  pub body-clear : 0 ≡ first (body-tests b ++ row) → (0 ≡ first (body-tests b)) × (0 ≡ first row)
+  pub body-clear : 0 ≡ first (known-tests b ++ row) → (0 ≡ first (known-tests b)) × (0 ≡ first row)
   unfolding first
   body-clear e =
       let p = clear (count-out b) 3 _ (lit< tt) e in
       let q = clear (repeats-out b) 19 _ (lit< tt) (p .1) in
-      (rw (p .0, q .0), q .1)
+      let z = clear (policy-out b) 20 _ (lit< tt) (q .1) in
+      (rw (p .0, q .0, z .0), z .1)
 
 -- What is left of the rows once the body has passed.
 abbrev limit-row : Body → List ℕ → ℕ → ℕ → List Test
@@ -105,7 +158,7 @@ bound-row b T i q r =
 abbrev limit-rest : Body → List ℕ → ℕ → ℕ → ℕ
 limit-rest b s i q = cond (ltb (length s) (b .n * b .levels * summary-numbers)) 17 (cond (leb (positions b) i || leb (b .levels) q) 18 0)
 
-pub limit-passed : (b : Body) (s : List ℕ) (i q : ℕ) → 0 ≡ first (body-tests b) → body-limit-refusal b s i q ≡ limit-rest b s i q
+pub limit-passed : (b : Body) (s : List ℕ) (i q : ℕ) → 0 ≡ first (known-tests b) → body-limit-refusal b s i q ≡ limit-rest b s i q
 unfolding body-limit-refusal first
 limit-passed b s i q e = body-passed b (limit-row b s i q) e
 
@@ -114,7 +167,7 @@ bound-rest b T i q r =
     cond (ltb (length (T .summaries)) (b .n * b .levels * summary-numbers) || ltb (length (T .worst)) (b .n * b .levels)) 17
     (cond (leb (positions b) i || leb (b .levels) q || ltb r 1 || ltb longest-coast r) 18 0)
 
-pub bound-passed : (b : Body) (T : LentBody) (i q r : ℕ) → 0 ≡ first (body-tests b) → body-bound-refusal b T i q r ≡ bound-rest b T i q r
+pub bound-passed : (b : Body) (T : LentBody) (i q r : ℕ) → 0 ≡ first (known-tests b) → body-bound-refusal b T i q r ≡ bound-rest b T i q r
 unfolding body-bound-refusal first
 bound-passed b T i q r e = body-passed b (bound-row b T i q r) e
 
@@ -146,7 +199,7 @@ limit-stands b s i q e =
     let room = clear (ltb (length s) (b .n * b .levels * summary-numbers)) 17 _ (lit< tt) (c .1) in
     let there = neither (leb (positions b) i) _ (clear (leb (positions b) i || leb (b .levels) q) 18 0 (lit< tt) (room .1) .0) in
     record {
-      counts = counts-in b (c .0);
+      counts = counts-in b (known-passes b (c .0));
       summed = ltb-false _ _ (room .0);
       present = leb-false _ _ (there .0);
       level = leb-false _ _ (there .1);
@@ -172,7 +225,7 @@ bound-bounded b T i q r e =
     let x1 = neither (leb (positions b) i) (leb (b .levels) q) (x2 .0) in
     record {
       stands = record {
-        counts = counts-in b (c .0);
+        counts = counts-in b (known-passes b (c .0));
         summed = ltb-false _ _ (rooms .0);
         present = leb-false _ _ (x1 .0);
         level = leb-false _ _ (x1 .1);

@@ -1,16 +1,16 @@
 -- The calls for a limit and a coast bound of a body repeated: what they answer, on lent summaries whoever wrote them, and on planning's.
 use Prim.Native.Nat.{ℕ, zero, suc, _+_, _-_, _*_, _≤_, _<_, max}
 use mathlib.Core.Path.{_≡_}
-use mathlib.Core.Bool.{Bool, cond, _&&_}
+use mathlib.Core.Bool.{Bool, true, false, cond, _&&_}
 use mathlib.Core.List.{List, []}
 use lib.Dec.{eqb}
 use lib.IntN.{pos, _-ℤ_}
 use lib.ListN.{length}
 use lib.Signed.{leZ, mag}
-use Rattle.rules.specs.Numbers.{most-actions, most-levels, last-clock, most-repeats, longest-coast, summary-numbers}
+use Rattle.rules.specs.Numbers.{most-actions, most-levels, last-clock, most-repeats, longest-coast, policy-2005, summary-numbers}
 use Rattle.rules.specs.Image.{Profile}
 use Rattle.rules.specs.Order.{Order, TheOrder}
-use Rattle.rules.specs.Limits.{tables, limit, planned}
+use Rattle.rules.specs.Limits.{tables, limit-by, planned}
 use Rattle.rules.specs.Refusals.{kept}
 use Rattle.rules.specs.Repeat.{unrolled, Sums, bodies, stretch-at, LentBody, positions, lent-plan, PlannedBody, body-limit-refusal, body-bound-refusal, bound-or-absent}
 use Rattle.rules.specs.declared.Body.{Body}
@@ -25,7 +25,7 @@ pub record LimitAnswers (b : Body) (summaries : List ℕ) (i q : ℕ) (r : Limit
   pub number : r .refusal .number ≡ body-limit-refusal b summaries i q
   pub limit-is : r .limit ≡ kept (r .refusal .number) (lent-plan b (record { order = []; summaries = summaries; worst = [] }) .limit i q) (pos 0)
   pub unrolled-limit : r .refusal .number ≡ 0 → {F : Profile} {o : Order (F .n)} {T : LentBody} → T .summaries ≡ summaries → PlannedBody F o b T
-      → {p : Order (b .repeats * F .n)} → TheOrder (unrolled F (b .repeats)) p → r .limit ≡ limit (tables (unrolled F (b .repeats)) p) i q
+      → {p : Order (b .repeats * F .n)} → TheOrder (unrolled F (b .repeats)) p → r .limit ≡ limit-by (b .policy) (tables (unrolled F (b .repeats)) p) i q
 
 -- The coast bound, in the same way; absent where the coast would go past the last position.
 pub record BoundAnswers (b : Body) (lent : LentBody) (i q r : ℕ) (x : Limited) : Type 0 where
@@ -34,7 +34,7 @@ pub record BoundAnswers (b : Body) (lent : LentBody) (i q r : ℕ) (x : Limited)
   pub unrolled-bound : x .refusal .number ≡ 0
       → {F : Profile} {o : Order (F .n)} {T : LentBody} → T .summaries ≡ lent .summaries → T .worst ≡ lent .worst → PlannedBody F o b T
       → {p : Order (b .repeats * F .n)} → TheOrder (unrolled F (b .repeats)) p
-      → x .limit ≡ bound-or-absent (planned (tables (unrolled F (b .repeats)) p)) i q r
+      → x .limit ≡ bound-or-absent (planned (b .policy) (tables (unrolled F (b .repeats)) p)) i q r
 
 -- ---- asked between the functions of this crate, and of those above it
 
@@ -88,26 +88,32 @@ pub record Summed (summaries : List ℕ) (x q after : ℕ) : Type 0 where
   pub whole : q * summary-numbers + summary-numbers ≤ length summaries
   pub few : after < most-repeats
 
--- so many bodies after a stretch, as numbers
-abbrev pub later-of : Sums → ℕ → Later
-later-of y zero = record { bodies = 0; lowest = 0; mix = 0 }
-later-of y (suc m) = record { bodies = suc m; lowest = suc m * y .lowest; mix = y .mix + m * max (y .average) (y .lowest) }
+-- so many bodies after a stretch, as numbers: in 2008 M of them, without a body the averages before them are of no account; in 2005 their averages
+abbrev pub later-2008 : Sums → ℕ → Later
+later-2008 y zero = record { counts = false; lowest = 0; mix = 0 }
+later-2008 y (suc m) = record { counts = true; lowest = suc m * y .lowest; mix = y .mix + m * max (y .average) (y .lowest) }
 
--- M of a stretch and the bodies after it, by these numbers
+abbrev pub later-2005 : Sums → ℕ → Later
+later-2005 y m = record { counts = true; lowest = m * y .lowest; mix = m * y .average }
+
+abbrev pub later-of : ℕ → Sums → ℕ → Later
+later-of policy y m = cond (eqb policy policy-2005) (later-2005 y m) (later-2008 y m)
+
+-- what the limit takes off the cycle for a stretch and the bodies after it, by these numbers
 abbrev pub mix-before : Sums → Later → ℕ
-mix-before x l = cond (eqb (l .bodies) 0) (x .mix) (max (x .mix + l .lowest) (x .average + l .mix))
+mix-before x l = cond (l .counts) (max (x .mix + l .lowest) (x .average + l .mix)) (x .mix)
 
 -- so many bodies, each summed up in entry q
-pub record BodiesAfter (summaries : List ℕ) (q after : ℕ) (l : Later) : Type 0 where
+pub record BodiesAfter (policy : ℕ) (summaries : List ℕ) (q after : ℕ) (l : Later) : Type 0 where
   pub few-lowest : l .lowest ≤ greatest-later
   pub few-mix : l .mix ≤ greatest-later
-  pub is : l ≡ later-of (stretch-at summaries q) after
+  pub is : l ≡ later-of policy (stretch-at summaries q) after
 
--- What they leave of a cycle, from a time on, for M and for the averages of the stretch before them: without a body the averages are of no account.
+-- What they leave of a cycle, from a time on, for M (in 2005 the safe sum) and for the averages of the stretch before them, where these count.
 abbrev pub room-left : ℕ → ℕ → Later → Room
 room-left cycle begins l = record {
   mix = pos cycle -ℤ pos (begins + l .lowest);
-  average = cond (eqb (l .bodies) 0) (pos (cycle + ample) -ℤ pos begins) (pos cycle -ℤ pos (begins + l .mix));
+  average = cond (l .counts) (pos cycle -ℤ pos (begins + l .mix)) (pos (cycle + ample) -ℤ pos begins);
 }
 
 -- from a later time on there is less, for both
@@ -128,7 +134,7 @@ pub record LeavesRoom (summaries : List ℕ) (q after begins : ℕ) : Type 0 whe
   pub early : begins ≤ latest
 
 -- the room before some bodies, each summed up in entry q, from a time on that is not too late
-pub record Nears (summaries : List ℕ) (q after : ℕ) (room : Room) : Type 0 where
+pub record Nears (policy : ℕ) (summaries : List ℕ) (q after : ℕ) (room : Room) : Type 0 where
   pub whole : q * summary-numbers + summary-numbers ≤ length summaries
   pub some : 0 < after
   pub few : after < most-repeats
@@ -136,7 +142,7 @@ pub record Nears (summaries : List ℕ) (q after : ℕ) (room : Room) : Type 0 w
   pub begins : ℕ
   pub cycle-in : cycle ≤ last-clock
   pub early : begins ≤ latest
-  pub is : room ≡ room-left cycle begins (later-of (stretch-at summaries q) after)
+  pub is : room ≡ room-left cycle begins (later-of policy (stretch-at summaries q) after)
 
 -- the summaries of entry x, and bodies after it
 pub record Before (summaries : List ℕ) (x : ℕ) (l : Later) : Type 0 where

@@ -10,7 +10,7 @@ ghost use lib.ListN.{length, getD};
 ghost use lib.Signed.{mag};
 ghost use Rattle.rules.specs.Numbers.{most-repeats, longest-coast, summary-numbers};
 ghost use Rattle.rules.specs.Refusals.{first};
-ghost use Rattle.rules.specs.Repeat.{followed, bodies, last-mix, stretch-at, rest-lent, positions, lent-each, lent-plan, body-tests, body-limit-refusal, body-bound-refusal};
+ghost use Rattle.rules.specs.Repeat.{needed, last-mix, stretch-at, rest-lent, positions, lent-each, lent-plan, body-tests, known-tests, body-limit-refusal, body-bound-refusal};
 ghost use Rattle.repeat_laws.specs.Standing.{Standing};
 ghost use Rattle.repeat_limits.specs.Limits.{signed-above, most-entry, greatest-mix, greatest-reach, CountsIn, Stands, Summed, later-of, BodiesAfter, Before, mix-before, LeavesRoom, Nears, room-left, fits-in, MoreAfter, Spans, Coasts, Passes, LimitAnswers, BoundAnswers};
 
@@ -52,21 +52,29 @@ fn number_at(summaries: &[u32], x: usize, k: usize) -> u64
     summaries[x * rules::SUMMARY_NUMBERS + k] as u64
 }
 
-// The whole bodies after one at a level, summed up: how many they are, and where there are some W and M of them all.
+// The whole bodies after one at a level, summed up: W and M of them all, in 2005 their averages for M; and whether the averages of the rest before them
+// count, which in 2008 they do where there is a body.
 struct Later {
-    bodies: u64,
+    counts: bool,
     lowest: u64,
     mix: u64,
 }
 
 // So many bodies, each summed up in entry q.
-fn bodies_after(summaries: &[u32], q: usize, after: u64) -> Later
+fn bodies_after(policy: u32, summaries: &[u32], q: usize, after: u64) -> Later
     requires { ⌜ (q * summary-numbers + summary-numbers ≤ length (now summaries)) × (after < most-repeats) ⌝ }
-    ensures { λ r. ⌜ BodiesAfter (now (summaries .entry)) q after r ⌝ }
+    ensures { λ r. ⌜ BodiesAfter policy (now (summaries .entry)) q after r ⌝ }
 {
+    if policy == rules::POLICY_2005 {
+        return Later {
+            counts: true,
+            lowest: after * number_at(summaries, q, 1),
+            mix: after * number_at(summaries, q, 0),
+        };
+    }
     if after == 0 {
         return Later {
-            bodies: 0,
+            counts: false,
             lowest: 0,
             mix: 0,
         };
@@ -76,32 +84,32 @@ fn bodies_after(summaries: &[u32], q: usize, after: u64) -> Later
     let mix = number_at(summaries, q, 2) + (after - 1) * greater(average, lowest);
     let all = after * lowest;
     Later {
-        bodies: after,
+        counts: true,
         lowest: all,
         mix,
     }
 }
 
-// M of the rest of a body, summed up in entry x, with these bodies after it.
+// What the limit takes off the cycle for the rest of a body, summed up in entry x, with these bodies after it.
 fn mix_before(summaries: &[u32], x: usize, later: Later) -> u64
     requires { ⌜ Before (now summaries) x later ⌝ }
     ensures mixed { λ r. ⌜ r ≡ mix-before (stretch-at (now (summaries .entry)) x) later ⌝ }
     ensures small { λ r. ⌜ r ≤ greatest-mix ⌝ }
 {
     let mix = number_at(summaries, x, 2);
-    if later.bodies == 0 {
-        return mix;
+    if later.counts {
+        return greater(mix + later.lowest, number_at(summaries, x, 0) + later.mix);
     }
-    greater(mix + later.lowest, number_at(summaries, x, 0) + later.mix)
+    mix
 }
 
 // The same, with so many bodies after it, each summed up in entry q.
-fn mix_from(summaries: &[u32], x: usize, q: usize, after: u32) -> u64
+fn mix_from(policy: u32, summaries: &[u32], x: usize, q: usize, after: u32) -> u64
     requires { ⌜ Summed (now summaries) x q after ⌝ }
-    ensures mixed { λ r. ⌜ r ≡ followed (stretch-at (now (summaries .entry)) x) (bodies (stretch-at (now (summaries .entry)) q) after) .mix ⌝ }
+    ensures mixed { λ r. ⌜ r ≡ needed policy (stretch-at (now (summaries .entry)) x) (stretch-at (now (summaries .entry)) q) after ⌝ }
     ensures small { λ r. ⌜ r ≤ greatest-mix ⌝ }
 {
-    let later = bodies_after(summaries, q, after as u64);
+    let later = bodies_after(policy, summaries, q, after as u64);
     mix_before(summaries, x, later)
 }
 
@@ -110,7 +118,8 @@ fn mix_from(summaries: &[u32], x: usize, q: usize, after: u32) -> u64
 // More than any time and any average that is looked at: 2 to the 62nd.
 const AMPLE: u64 = 4_611_686_018_427_387_904;
 
-// What the rest of a body may come to: M at most `mix`, and the averages at most `average`, which are of no account without a body after it.
+// What the rest of a body may come to: M (in 2005 the safe sum) at most `mix`, and the averages at most `average`, which is ample where they do not
+// count.
 pub struct Room {
     pub mix: i64,
     pub average: i64,
@@ -133,29 +142,40 @@ fn given(room: i64, much: u64) -> i64
 }
 
 // What is left of the cycle for the rest of a body that begins at a time, before so many bodies, each summed up in entry q.
-pub fn room_before(summaries: &[u32], q: usize, after: u64, cycle: u32, begins: u64) -> Room
+pub fn room_before(
+    policy: u32,
+    summaries: &[u32],
+    q: usize,
+    after: u64,
+    cycle: u32,
+    begins: u64,
+) -> Room
     requires { ⌜ LeavesRoom (now summaries) q after begins ⌝ }
-    ensures { λ r. ⌜ r ≡ room-left cycle begins (later-of (stretch-at (now (summaries .entry)) q) after) ⌝ }
+    ensures { λ r. ⌜ r ≡ room-left cycle begins (later-of policy (stretch-at (now (summaries .entry)) q) after) ⌝ }
 {
-    let later = bodies_after(summaries, q, after);
+    let later = bodies_after(policy, summaries, q, after);
     let left = less(cycle as u64, begins);
     let mix = taken(left, later.lowest);
-    if after == 0 {
-        let average = less(cycle as u64 + AMPLE, begins);
+    if later.counts {
+        let average = taken(left, later.mix);
         return Room { mix, average };
     }
-    let average = taken(left, later.mix);
+    let average = less(cycle as u64 + AMPLE, begins);
     Room { mix, average }
 }
 
 // The same before one body fewer, without a multiplication: it gives back what it took.
-pub fn room_nearer(summaries: &[u32], q: usize, after: u64, room: Room) -> Room
-    requires { ⌜ Nears (now summaries) q after room ⌝ }
-    ensures { λ r. ⌜ ((cycle begins : ℕ) → room ≡ room-left cycle begins (later-of (stretch-at (now (summaries .entry)) q) after)
-        → r ≡ room-left cycle begins (later-of (stretch-at (now (summaries .entry)) q) (after - 1))) ⌝ }
+pub fn room_nearer(policy: u32, summaries: &[u32], q: usize, after: u64, room: Room) -> Room
+    requires { ⌜ Nears policy (now summaries) q after room ⌝ }
+    ensures { λ r. ⌜ ((cycle begins : ℕ) → room ≡ room-left cycle begins (later-of policy (stretch-at (now (summaries .entry)) q) after)
+        → r ≡ room-left cycle begins (later-of policy (stretch-at (now (summaries .entry)) q) (after - 1))) ⌝ }
 {
     let lowest = number_at(summaries, q, 1);
     let mix = given(room.mix, lowest);
+    if policy == rules::POLICY_2005 {
+        let average = given(room.average, number_at(summaries, q, 0));
+        return Room { mix, average };
+    }
     if after == 1 {
         let average = given(mix, AMPLE);
         return Room { mix, average };
@@ -227,14 +247,20 @@ fn reach(
         ≡ lent-each body (record { order = []; summaries = now (summaries .entry); worst = now (worst .entry) }) .bound i level length) ⌝ }
 {
     let levels = body.levels as usize;
-    let mut most = mix_from(summaries, place * levels + level, level, after);
+    let mut most = mix_from(body.policy, summaries, place * levels + level, level, after);
     let mut spent: u64 = 0;
     let mut spot = Spot { place, after };
     let mut k = 1;
     while k < length {
         spent += worst[spot.place * levels + level] as u64;
         spot = next_spot(body, spot.place, spot.after);
-        let here = mix_from(summaries, spot.place * levels + level, level, spot.after);
+        let here = mix_from(
+            body.policy,
+            summaries,
+            spot.place * levels + level,
+            level,
+            spot.after,
+        );
         most = greater(most, spent + here);
         k += 1;
     }
@@ -274,7 +300,7 @@ pub fn last_reach(
     let passed = ahead / body.n;
     let y = (ahead % body.n) as usize * levels + level;
     let spent = spent_before(summaries, place * levels + level, y, level, passed);
-    spent + mix_from(summaries, y, level, after - passed)
+    spent + mix_from(body.policy, summaries, y, level, after - passed)
 }
 
 // What the cycle must have room for over a coast: at each of its positions, or by its ends where these may tell, whichever is less.
@@ -299,7 +325,7 @@ fn least_reach(
     if (level + 1 < levels) | ((length < rules::LONGEST_COAST) & (length < left)) {
         return each;
     }
-    let first = mix_from(summaries, place * levels + level, level, after);
+    let first = mix_from(body.policy, summaries, place * levels + level, level, after);
     let last = last_reach(body, summaries, place, after, level, length);
     lesser(each, greater(first, last))
 }
@@ -329,11 +355,26 @@ pub fn body_refusal(body: Body) -> u32
     0
 }
 
+// And 20.
+pub fn known_refusal(body: Body) -> u32
+    ensures { λ r. ⌜ r ≡ first (known-tests body) ⌝ }
+{
+    let number = body_refusal(body);
+    if number != 0 {
+        return number;
+    }
+    let policy = body.policy;
+    if (policy != rules::POLICY_2008) & (policy != rules::POLICY_2005) {
+        return rules::REFUSED_POLICY;
+    }
+    0
+}
+
 // Those of the body, 17, then 18.
 fn limit_refusal(body: Body, summaries: &[u32], position: usize, level: usize) -> u32
     ensures { λ r. ⌜ r ≡ body-limit-refusal body (now (summaries .entry)) position level ⌝ }
 {
-    let number = body_refusal(body);
+    let number = known_refusal(body);
     if number != 0 {
         return number;
     }
@@ -360,7 +401,7 @@ fn bound_refusal(
     ensures { λ r. ⌜ r ≡ body-bound-refusal body (record { order = []; summaries = now (summaries .entry); worst = now (worst .entry) })
         position level length ⌝ }
 {
-    let number = body_refusal(body);
+    let number = known_refusal(body);
     if number != 0 {
         return number;
     }
@@ -390,7 +431,10 @@ fn limit_at(body: Body, summaries: &[u32], position: usize, level: usize) -> i64
 {
     let spot = spot_of(body, position);
     let x = spot.place * body.levels as usize + level;
-    less(body.cycle as u64, mix_from(summaries, x, level, spot.after))
+    less(
+        body.cycle as u64,
+        mix_from(body.policy, summaries, x, level, spot.after),
+    )
 }
 
 // The limit at an unrolled position and a level, any values.

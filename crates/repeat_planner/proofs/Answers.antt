@@ -7,11 +7,11 @@ use mathlib.Core.Logic.{inl, inr, _≢_, _↔_}
 use native.Mathlib.Omega.{arith}
 use lib.Dec.{lit<}
 use lib.ListN.{length}
-use Rattle.rules.specs.Numbers.{most-repeats, refused-unfit, refused-room, refused-repeats}
+use Rattle.rules.specs.Numbers.{most-repeats, refused-unfit, refused-room, refused-repeats, refused-policy}
 use Rattle.rules.specs.Words.{Some, sum}
 use Rattle.rules.specs.Image.{Profile, profile}
 use Rattle.rules.specs.Order.{Order}
-use Rattle.rules.specs.Refusals.{Ground, _when_, First, Count, Range, Table, Looped, Unfit, Length, Tight, loop-checks}
+use Rattle.rules.specs.Refusals.{Ground, _when_, First, Count, Range, Table, Looped, Unfit, Length, Tight, UnknownPolicy, kept, loop-checks}
 use Rattle.rules.specs.Repeat.{unrolled, OwnDeadline, Repeats, LentBody, no-body, body-checks, body-call}
 use Rattle.rules.proofs.Differences.{not-above}
 use Rattle.rules.proofs.Refusals.{Numbered, Blameless, first-stops, first-goes-on, first-parts, first-none, handed-on, loop-numbered}
@@ -19,7 +19,7 @@ use Rattle.image_fields.specs.Reading.{HasRecords}
 use Rattle.image_fields.proofs.Reading.{has-records}
 use Rattle.image_check.specs.declared.Checked.{Checked}
 use Rattle.image_check.specs.Checks.{BodyAnswers}
-use Rattle.planner.proofs.Answers.{kept-old, kept-new, by-number}
+use Rattle.planner.proofs.Answers.{kept-old, kept-new, by-number, first-both}
 use Rattle.repeat_laws.proofs.Fits.{unfit-exact}
 use Rattle.repeat_tables.specs.Summing.{BodyInput, SomeBodyInput, EntriesFit, BodyFilled}
 use Rattle.repeat_planner.specs.declared.BodyPlanned.{BodyPlanned}
@@ -72,21 +72,27 @@ module _ {s : List ℕ} {n L cycle : ℕ} (p : Passed s n L cycle) where
 -- ---- none of the call's
 
 -- nothing of what planning may give is given
-pub record Clear (s : List ℕ) (N : ℕ) (rooms : List (ℕ × ℕ)) : Type 0 where
+pub record Clear (s : List ℕ) (N policy : ℕ) (rooms : List (ℕ × ℕ)) : Type 0 where
   pub body : Sound s
   pub repeats : Repeats (profile s) N → ⊥
   pub fits : Unfit (unrolled (profile s) N) → ⊥
+  pub known : UnknownPolicy policy → ⊥
   pub room : Tight rooms → ⊥
 
-pub clear : (s : List ℕ) (N : ℕ) (rooms : List (ℕ × ℕ)) → First (body-call s N rooms) 0 → Clear s N rooms
-clear s N rooms p = elim (first-parts (loop-checks s) rest 0 (loop-numbered s) p) [
+pub clear : (s : List ℕ) (N policy : ℕ) (rooms : List (ℕ × ℕ)) → First (body-call s N policy rooms) 0 → Clear s N policy rooms
+clear s N policy rooms p = elim (first-parts (loop-checks s) rest 0 (loop-numbered s) p) [
   | inl x ↦ absurd (x .1 refl)
-  | inr x ↦ (let none = first-none rest (lit< tt, (lit< tt, (lit< tt, tt))) .0 (x .1) in
-      record { body = sound s (x .0); repeats = none .0; fits = none .1 .0; room = none .1 .1 .0 })
+  | inr x ↦ (let none = first-none rest (lit< tt, (lit< tt, (lit< tt, (lit< tt, tt)))) .0 (x .1) in
+      record { body = sound s (x .0); repeats = none .0; fits = none .1 .0; known = none .1 .1 .0; room = none .1 .1 .1 .0 })
 ]
   where
     rest : List Ground
-    rest = refused-repeats when Repeats (profile s) N ∷ refused-unfit when Unfit (unrolled (profile s) N) ∷ refused-room when Tight rooms ∷ []
+    rest =
+        refused-repeats when Repeats (profile s) N
+        ∷ refused-unfit when Unfit (unrolled (profile s) N)
+        ∷ refused-policy when UnknownPolicy policy
+        ∷ refused-room when Tight rooms
+        ∷ []
 
 -- ---- by what a check answers: refused, or what comes after it
 
@@ -127,6 +133,13 @@ passed a none =
 pub body-numbered : (s : List ℕ) (N : ℕ) → Numbered (body-checks s N)
 body-numbered s N = (lit< tt, (lit< tt, (lit< tt, (lit< tt, (lit< tt, (lit< tt, (lit< tt, (lit< tt, (lit< tt, (lit< tt, tt))))))))))
 
+-- and 20
+abbrev pub policy-checks : List ℕ → ℕ → ℕ → List Ground
+policy-checks s N policy = body-checks s N ++ (refused-policy when UnknownPolicy policy ∷ [])
+
+pub policy-numbered : (s : List ℕ) (N policy : ℕ) → Numbered (policy-checks s N policy)
+policy-numbered s N policy = (lit< tt, (lit< tt, (lit< tt, (lit< tt, (lit< tt, (lit< tt, (lit< tt, (lit< tt, (lit< tt, (lit< tt, (lit< tt, tt)))))))))))
+
 -- the check with 19 and 9
 module _ {s : List ℕ} {N : ℕ} {r : Checked} (a : Admits (body-checks s N) s r) where
   pub body-records : r .refusal .number ≡ 0 → HasRecords s (r .levels) (r .n)
@@ -135,9 +148,15 @@ module _ {s : List ℕ} {N : ℕ} {r : Checked} (a : Admits (body-checks s N) s 
       let given = first-none (body-checks s N) (body-numbered s N) .0 (rw none at (a .number)) in
       has-records s (found .n) (found .levels) (given .1 .1 .0) (given .1 .1 .1 .0)
 
-  pub room-said : (lent : LentBody) {k : ℕ} → r .refusal .number ≡ 0 → First (refused-room when Tight (body-rooms (r .n) (r .levels) lent) ∷ []) k
+  room-said : (lent : LentBody) {k : ℕ} → r .refusal .number ≡ 0 → First (refused-room when Tight (body-rooms (r .n) (r .levels) lent) ∷ []) k
       → First (refused-room when Tight (body-rooms (profile s .n) (profile s .levels) lent) ∷ []) k
   room-said lent none p = let found = a .found none in rw (found .n, found .levels) at p
+
+  -- and 20 before it
+  pub own-said : (policy : ℕ) (lent : LentBody) {k m x : ℕ} → r .refusal .number ≡ 0 → First (refused-policy when UnknownPolicy policy ∷ []) k
+      → First (refused-room when Tight (body-rooms (r .n) (r .levels) lent) ∷ []) m → x ≡ kept k m k
+      → First (refused-policy when UnknownPolicy policy ∷ refused-room when Tight (body-rooms (profile s .n) (profile s .levels) lent) ∷ []) x
+  own-said policy lent {k} {m} none p q e = first-both (refused-policy when UnknownPolicy policy ∷ []) (refused-room when Tight (body-rooms (profile s .n) (profile s .levels) lent) ∷ []) k m (lit< tt, tt) p (room-said lent none q) e
 
 -- ---- by what all checks answer
 
@@ -145,8 +164,8 @@ module _ {s : List ℕ} {N : ℕ} {r : Checked} (a : Admits (body-checks s N) s 
 pub same-body : {x y : LentBody} → x .order ≡ y .order → x .summaries ≡ y .summaries → x .worst ≡ y .worst → x ≡ y
 same-body a b c = λ i. record { order = a i; summaries = b i; worst = c i }
 
-module _ {s : List ℕ} {N : ℕ} (lent : LentBody) {r : Checked} (a : Admits (body-call s N (body-rooms (profile s .n) (profile s .levels) lent)) s r) where
-  pub refused-plans : {p : BodyPlanned} → r .refusal .number ≢ 0 → p ≡ record { refusal = r .refusal; body = no-body } → PlansBody s N lent lent p
+module _ {s : List ℕ} {N policy : ℕ} (lent : LentBody) {r : Checked} (a : Admits (body-call s N policy (body-rooms (profile s .n) (profile s .levels) lent)) s r) where
+  pub refused-plans : {p : BodyPlanned} → r .refusal .number ≢ 0 → p ≡ record { refusal = r .refusal; body = no-body } → PlansBody s N policy lent lent p
   refused-plans some e = rw e (record {
     number = a .number;
     action = a .action;
@@ -158,8 +177,8 @@ module _ {s : List ℕ} {N : ℕ} (lent : LentBody) {r : Checked} (a : Admits (b
 
   module _ (none : r .refusal .number ≡ 0) where
     -- nothing is given
-    nothing : Clear s N (body-rooms (profile s .n) (profile s .levels) lent)
-    nothing = clear s N _ (rw none at (a .number))
+    nothing : Clear s N policy (body-rooms (profile s .n) (profile s .levels) lent)
+    nothing = clear s N policy _ (rw none at (a .number))
 
     input : BodyInput s (r .n) (r .levels) (r .order) (a .found none .order .0)
     input =
@@ -192,15 +211,15 @@ module _ {s : List ℕ} {N : ℕ} (lent : LentBody) {r : Checked} (a : Admits (b
         let found = a .found none in
         has-records s (found .n) (found .levels) (nothing .body .not-count) (nothing .body .not-length)
 
-    pub all-written : {after : LentBody} → ((o : Order (profile s .n)) → BodyInput s (r .n) (r .levels) (r .order) o → BodyFilled s lent after o)
-        → PlansBody s N lent after (record { refusal = r .refusal; body = record { n = r .n; levels = r .levels; cycle = r .cycle; repeats = N } })
+    pub all-written : {after : LentBody} → ((o : Order (profile s .n)) → BodyInput s (r .n) (r .levels) (r .order) o → BodyFilled s policy lent after o)
+        → PlansBody s N policy lent after (record { refusal = r .refusal; body = record { n = r .n; levels = r .levels; cycle = r .cycle; repeats = N; policy = policy } })
     all-written filled =
         let found = a .found none in
         let written = filled (found .order .0) input in
         record {
           number = a .number;
           action = a .action;
-          body = kept-new _ _ _ none (λ i. record { n = found .n i; levels = found .levels i; cycle = found .cycle i; repeats = N });
+          body = kept-new _ _ _ none (λ i. record { n = found .n i; levels = found .levels i; cycle = found .cycle i; repeats = N; policy = policy });
           o = found .order .0;
           the-order = λ _. found .order .1;
           tables-are = kept-new _ _ _ none (same-body (written .order-is) (written .summaries-are) (written .worst-is));

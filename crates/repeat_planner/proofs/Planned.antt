@@ -1,6 +1,6 @@
 -- A body that was planned without a refusal: what it is, and how the tables at the fronts of the lent ones read. Assumes nothing.
 use Prim.Native.Nat.{ℕ, _+_, _*_, _<_}
-use mathlib.Core.Path.{_≡_, refl, sym, ap, subst, _∙_}
+use mathlib.Core.Path.{_≡_, refl, sym, ap, ap₂, subst, _∙_}
 use mathlib.Core.List.{List}
 use native.Mathlib.Omega.{arith}
 use lib.ListN.{getD}
@@ -9,7 +9,7 @@ use Rattle.rules.specs.Words.{cat, tab, rows}
 use Rattle.rules.specs.Image.{Profile, profile}
 use Rattle.rules.specs.Order.{Order}
 use Rattle.rules.specs.Limits.{tables}
-use Rattle.rules.specs.Refusals.{Unfit}
+use Rattle.rules.specs.Refusals.{Unfit, UnknownPolicy}
 use Rattle.rules.specs.Repeat.{unrolled, Repeats, Sums, LentBody, numbers-of, rest-of, body-tables, body-of, stretch-at, PlannedBody}
 use Rattle.rules.specs.declared.Body.{Body}
 use Rattle.fields.specs.Fields.{splice}
@@ -27,7 +27,7 @@ four x = refl
 
 -- ---- the tables
 
-module _ (F : Profile) (o : Order (F .n)) (before : LentBody) {after : LentBody} (e : after ≡ with-body-fronts before (body-tables F o)) where
+module _ (policy : ℕ) (F : Profile) (o : Order (F .n)) (before : LentBody) {after : LentBody} (e : after ≡ with-body-fronts before (body-tables policy F o)) where
   pub reads-order : (i : ℕ) → i < F .n → getD (after .order) i 0 ≡ o .at i
   reads-order i l = tab-written (o .at) (before .order) (F .n) 0 (ap (λ (x : LentBody). x .order) e) i l
 
@@ -36,14 +36,14 @@ module _ (F : Profile) (o : Order (F .n)) (before : LentBody) {after : LentBody}
 
   -- the summaries, number by number
   abbrev number : ℕ → ℕ → ℕ → ℕ
-  number i q r = getD (numbers-of (rest-of (tables F o) i q)) r 0
+  number i q r = getD (numbers-of (rest-of policy (tables F o) i q)) r 0
 
   stored : after .summaries ≡ splice (before .summaries) 0 (cat (λ i. rows (number i) (F .levels) summary-numbers) (F .n))
   stored =
       ap (λ (x : LentBody). x .summaries) e
-      ∙ ap (splice (before .summaries) 0) (cat-ext _ _ (F .n) (λ i _. cat-ext _ _ (F .levels) (λ q _. four (rest-of (tables F o) i q))))
+      ∙ ap (splice (before .summaries) 0) (cat-ext _ _ (F .n) (λ i _. cat-ext _ _ (F .levels) (λ q _. four (rest-of policy (tables F o) i q))))
 
-  pub reads-summaries : (i q : ℕ) → i < F .n → q < F .levels → stretch-at (after .summaries) (i * F .levels + q) ≡ rest-of (tables F o) i q
+  pub reads-summaries : (i q : ℕ) → i < F .n → q < F .levels → stretch-at (after .summaries) (i * F .levels + q) ≡ rest-of policy (tables F o) i q
   reads-summaries i q l m =
       let first : (i * F .levels + q) * summary-numbers ≡ (i * F .levels + q) * summary-numbers + 0 = omega arith in
       same (ap (λ (k : ℕ). getD (after .summaries) k 0) first ∙ part 0 (omega arith)) (part 1 (omega arith)) (part 2 (omega arith)) (part 3 (omega arith))
@@ -53,29 +53,33 @@ module _ (F : Profile) (o : Order (F .n)) (before : LentBody) {after : LentBody}
 
 -- ---- all of it
 
-pub planned-body : {s : List ℕ} {N : ℕ} {before after : LentBody} {r : BodyPlanned} (p : PlansBody s N before after r) → r .refusal .number ≡ 0
+pub planned-body : {s : List ℕ} {N policy : ℕ} {before after : LentBody} {r : BodyPlanned} (p : PlansBody s N policy before after r) → r .refusal .number ≡ 0
     → PlannedBody (profile s) (p .o) (r .body) after
-planned-body {s} {N} {before} {after} {r} p none = record {
+planned-body {s} {N} {policy} {before} {after} {r} p none = record {
   counts = nothing .body .not-count;
   range = nothing .body .not-range;
   table = nothing .body .not-table;
   repeats = λ h. nothing .repeats (subst (Repeats (profile s)) often h);
   fits = λ h. nothing .fits (subst (λ (m : ℕ). Unfit (unrolled (profile s) m)) often h);
+  known = λ h. nothing .known (subst UnknownPolicy by h);
   the-order = p .the-order none;
-  body-is = body-is ∙ ap (body-of (profile s)) (sym often);
-  order-is = reads-order (profile s) (p .o) before written;
-  summaries-are = reads-summaries (profile s) (p .o) before written;
-  worst-is = reads-worst (profile s) (p .o) before written;
+  body-is = body-is ∙ ap₂ (body-of (profile s)) (sym often) (sym by);
+  order-is = reads-order policy (profile s) (p .o) before written;
+  summaries-are = λ i q l m. reads-summaries policy (profile s) (p .o) before written i q l m ∙ ap (λ (y : ℕ). rest-of y (tables (profile s) (p .o)) i q) (sym by);
+  worst-is = reads-worst policy (profile s) (p .o) before written;
 }
   where
-    nothing : Clear s N (body-rooms (profile s .n) (profile s .levels) before)
-    nothing = clear s N _ (rw none at (p .number))
+    nothing : Clear s N policy (body-rooms (profile s .n) (profile s .levels) before)
+    nothing = clear s N policy _ (rw none at (p .number))
 
-    body-is : r .body ≡ body-of (profile s) N
+    body-is : r .body ≡ body-of (profile s) N policy
     body-is = rw none at (p .body)
 
     often : r .body .repeats ≡ N
     often = ap (λ (b : Body). b .repeats) body-is
 
-    written : after ≡ with-body-fronts before (body-tables (profile s) (p .o))
+    by : r .body .policy ≡ policy
+    by = ap (λ (b : Body). b .policy) body-is
+
+    written : after ≡ with-body-fronts before (body-tables policy (profile s) (p .o))
     written = rw none at (p .tables-are)

@@ -26,10 +26,10 @@ with-body-fronts lent new = record {
 
 -- What planning answers, and what it leaves of the lent tables: planning's at their fronts, whose tails are kept, and with a refusal all that
 -- was there. Without one the order is the body's; with one there need not be any, and o counts for nothing.
-pub record PlansBody (s : List ℕ) (N : ℕ) (before after : LentBody) (r : BodyPlanned) : Type 0 where
-  pub number : First (body-call s N (body-rooms (profile s .n) (profile s .levels) before)) (r .refusal .number)
-  pub action : AtFault (body-call s N (body-rooms (profile s .n) (profile s .levels) before)) (r .refusal .action)
-  pub body : r .body ≡ kept (r .refusal .number) (body-of (profile s) N) no-body
+pub record PlansBody (s : List ℕ) (N policy : ℕ) (before after : LentBody) (r : BodyPlanned) : Type 0 where
+  pub number : First (body-call s N policy (body-rooms (profile s .n) (profile s .levels) before)) (r .refusal .number)
+  pub action : AtFault (body-call s N policy (body-rooms (profile s .n) (profile s .levels) before)) (r .refusal .action)
+  pub body : r .body ≡ kept (r .refusal .number) (body-of (profile s) N policy) no-body
   pub o : Order (profile s .n)
   pub the-order : r .refusal .number ≡ 0 → TheOrder (profile s) o
-  pub tables-are : after ≡ kept (r .refusal .number) (with-body-fronts before (body-tables (profile s) o)) before
+  pub tables-are : after ≡ kept (r .refusal .number) (with-body-fronts before (body-tables policy (profile s) o)) before

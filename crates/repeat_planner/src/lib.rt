@@ -2,6 +2,8 @@
 // repeat, so that planning costs the same however often the body is repeated.
 use image_check::Checked;
 use image_check::whole;
+use planner::first_of;
+use planner::policy_refusal;
 use rules::Body;
 use rules::Fault;
 use rules::Refusal;
@@ -19,7 +21,7 @@ ghost use Rattle.image_fields.specs.Reading.{HasRecords};
 ghost use Rattle.repeat_planner.specs.Admitting.{Passed, Admits};
 ghost use Rattle.repeat_planner.specs.PlanningBody.{body-rooms, PlansBody};
 
-// The answer of planning: with a refusal all else is 0; without one what the header says, and N.
+// The answer of planning: with a refusal all else is 0; without one what the header says, N and the policy.
 #[repr(C)]
 pub struct BodyPlanned {
     pub refusal: Fault,
@@ -108,9 +110,16 @@ fn tight(n: usize, levels: usize, order: &[u8], summaries: &[u32], worst: &[u32]
     Refusal { number: 0 }
 }
 
-// What the check of the image answers, with 17 after it.
-fn with_room(image: &[u8], repeats: u32, order: &[u8], summaries: &[u32], worst: &[u32]) -> Checked
-    ensures { λ r. ⌜ Admits (body-call (now (image .entry)) repeats
+// What the check of the image answers, with 20 and 17 after it.
+fn with_room(
+    image: &[u8],
+    repeats: u32,
+    policy: u32,
+    order: &[u8],
+    summaries: &[u32],
+    worst: &[u32],
+) -> Checked
+    ensures { λ r. ⌜ Admits (body-call (now (image .entry)) repeats policy
         (body-rooms (profile (now (image .entry)) .n) (profile (now (image .entry)) .levels)
         (record { order = now (order .entry); summaries = now (summaries .entry); worst = now (worst .entry) }))) (now (image .entry)) r ⌝ }
 {
@@ -118,8 +127,10 @@ fn with_room(image: &[u8], repeats: u32, order: &[u8], summaries: &[u32], worst:
     if found.refusal.number != 0 {
         return found;
     }
+    let unknown = policy_refusal(policy);
     let room = tight(found.n, found.levels, order, summaries, worst);
-    found.refusal.number = room.number;
+    let own = first_of(unknown, room);
+    found.refusal.number = own.number;
     found
 }
 
@@ -132,23 +143,25 @@ fn refused(refusal: Fault) -> BodyPlanned
         levels: 0,
         cycle: 0,
         repeats: 0,
+        policy: 0,
     };
     BodyPlanned { refusal, body }
 }
 
-// Plans an image as a body done `repeats` times. A refusal leaves the tables untouched, and what they have beyond what is needed stays.
+// Plans an image as a body done `repeats` times, by the policy of 2008 or of 2005. A refusal leaves the tables untouched, and what they have beyond what is needed stays.
 pub fn plan(
     image: &[u8],
     repeats: u32,
+    policy: u32,
     order: &mut [u8],
     summaries: &mut [u32],
     worst: &mut [u32],
 ) -> BodyPlanned
-    ensures { λ r. ⌜ PlansBody (now (image .entry)) repeats
+    ensures { λ r. ⌜ PlansBody (now (image .entry)) repeats policy
         (record { order = now (order .entry); summaries = now (summaries .entry); worst = now (worst .entry) })
         (record { order = now (order .exit); summaries = now (summaries .exit); worst = now (worst .exit) }) r ⌝ }
 {
-    let found = with_room(image, repeats, order, summaries, worst);
+    let found = with_room(image, repeats, policy, order, summaries, worst);
     let refusal = found.refusal;
     if refusal.number != 0 {
         return refused(refusal);
@@ -157,12 +170,13 @@ pub fn plan(
     let levels = found.levels;
     let cycle = found.cycle;
     let actions = found.order;
-    repeat_tables::fill(image, n, levels, &actions, order, summaries, worst);
+    repeat_tables::fill(image, n, levels, policy, &actions, order, summaries, worst);
     let body = Body {
         n: n as u32,
         levels: levels as u32,
         cycle,
         repeats,
+        policy,
     };
     BodyPlanned { refusal, body }
 }

@@ -3,6 +3,7 @@
 use repeat_decision::Choice;
 use repeat_decision::choose;
 use repeat_limits::body_refusal;
+use repeat_limits::known_refusal;
 use repeat_limits::spot_of;
 use rules::Body;
 use rules::Refusal;
@@ -23,14 +24,14 @@ ghost use Rattle.repeat_run.specs.Calls.{steps-of, passed-by, cut-short,
 #[repr(C)]
 pub struct BodyRun {
     pub body: Body,
-    pub clock: u64,
     pub level: u32,
+    pub clock: u64,
     pub position: u32,
-    pub decisions: u32,
     pub left: u8,
     pub running: bool,
     pub overrun: bool,
     pub late: bool,
+    pub decisions: u32,
 }
 
 // What a start answers: the record begun, and the refusal.
@@ -81,14 +82,14 @@ pub fn begun(body: Body) -> BodyRun
 {
     BodyRun {
         body,
-        clock: 0,
         level: 0,
+        clock: 0,
         position: 0,
-        decisions: 0,
         left: 0,
         running: false,
         overrun: false,
         late: false,
+        decisions: 0,
     }
 }
 
@@ -97,7 +98,7 @@ impl BodyRun {
     pub fn start(body: Body) -> BodyStarted
         ensures { λ r. ⌜ started-of r ≡ body-start body ⌝ }
     {
-        let number = body_refusal(body);
+        let number = known_refusal(body);
         if number != 0 {
             return BodyStarted {
                 run: begun(Body {
@@ -105,6 +106,7 @@ impl BodyRun {
                     levels: 0,
                     cycle: 0,
                     repeats: 0,
+                    policy: 0,
                 }),
                 refusal: Refusal { number },
             };

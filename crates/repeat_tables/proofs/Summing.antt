@@ -1,17 +1,19 @@
 -- The summaries of the rest of a body and its worst times, worked from the last position back. Assumes nothing.
-use Prim.Native.Nat.{ℕ, suc, _+_, _-_, _*_, _≤_, _<_}
+use Prim.Native.Nat.{ℕ, suc, _+_, _-_, _*_, _≤_, _<_, max}
 use mathlib.Core.Path.{_≡_, refl, sym, ap, subst, _∙_}
+use mathlib.Core.Bool.{Bool, true, false, cond}
 use mathlib.Core.List.{List, []}
 use mathlib.Core.Logic.{⊎-elim}
 use native.Mathlib.Nat.{mul-le-mul-right, eq-or-lt-of-le}
 use native.Mathlib.Omega.{arith}
+use lib.Dec.{eqb}
 use lib.ListN.{getD, replicate, getD-replicate}
-use Rattle.rules.specs.Numbers.{summary-numbers}
+use Rattle.rules.specs.Numbers.{policy-2005, summary-numbers}
 use Rattle.rules.specs.Words.{cat, tab, rows}
 use Rattle.rules.specs.Image.{worst-of, profile}
 use Rattle.rules.specs.Order.{Order}
 use Rattle.rules.specs.Limits.{Tables, tables}
-use Rattle.rules.specs.Repeat.{Sums, stretch, joined, LentBody, numbers-of, rest-of, summaries-from}
+use Rattle.rules.specs.Repeat.{Sums, stretch-by, joined-by, LentBody, numbers-of, rest-of, summaries-from}
 use Rattle.rules.proofs.Accepted.{some-level, tables-sound}
 use Rattle.rules.proofs.Speed.Reading.{times-small}
 use Rattle.fields.specs.Fields.{splice}
@@ -21,8 +23,8 @@ use Rattle.fields.proofs.Cats.{cat-from, cat-ext, length-cat, from-none, from-m
 use Rattle.fields.proofs.Tabs.{tab-ext, length-tab}
 use Rattle.image_fields.specs.Reading.{HasRecord, HasRecords}
 use Rattle.image_fields.proofs.Reading.{has-records, has-record}
-use Rattle.repeat_laws.proofs.Joins.{same, stretch-one}
-use Rattle.repeat_laws.proofs.Closed.{stretch-front}
+use Rattle.repeat_laws.proofs.Joins.{same}
+use Rattle.repeat_laws.proofs.Closed.{alone as place, stretch-front, stretch-last}
 use Rattle.repeat_laws.proofs.Ranges.{average-within, worst-within, body-within}
 use Rattle.repeat_tables.specs.Summing.{BodyInput, EntriesFit, carried, alone, with-rest, Half, SumsRow, RowsSummed, BodyFilled}
 
@@ -33,31 +35,31 @@ abbrev nothing : Sums
 nothing = record { average = 0; lowest = 0; mix = 0; worst = 0 }
 
 -- x is what is carried where position i is the next to be passed: the rest of the body, if there is any
-pub record Rest (S : Tables) (n q i : ℕ) (x : Sums) : Type 0 where
+pub record Rest (policy : ℕ) (S : Tables) (n q i : ℕ) (x : Sums) : Type 0 where
   pub none : i ≡ n → x ≡ nothing
-  pub some : i < n → x ≡ rest-of S i q
+  pub some : i < n → x ≡ rest-of policy S i q
 
--- position i alone
-abbrev place : Tables → ℕ → ℕ → Sums
-place S q i = record { average = S .average i q; lowest = S .worst i 0; mix = S .worst i q; worst = S .worst i q }
-
--- its summary from the one after it
-rest-more : (S : Tables) (n q i : ℕ) {x : Sums} → n ≡ S .n → i < n → S .average i q ≤ S .worst i q → Rest S n q (suc i) x
-    → joined (place S q i) x ≡ rest-of S i q
-rest-more S n q i {x} e l ordered r =
+-- the summary of position i from the one after it
+rest-more : (policy : ℕ) (S : Tables) (n q i : ℕ) {x : Sums} → n ≡ S .n → i < n → S .average i q ≤ S .worst i q → Rest policy S n q (suc i) x
+    → joined-by policy (place S i q) x ≡ rest-of policy S i q
+rest-more policy S n q i {x} e l ordered r =
     ⊎-elim
     (λ h. let last : S .n - 1 ≡ i = omega arith in
-    ap (joined (place S q i)) (r .none h)
-    ∙ same (omega arith) (omega arith) (omega (arith, ordered)) (omega arith)
-    ∙ sym (stretch-one S q i)
-    ∙ sym (ap (stretch S q i) last))
-    (λ h. ap (joined (place S q i)) (r .some h) ∙ sym (stretch-front S q i (S .n - 1) (omega arith)))
+    ap (joined-by policy (place S i q)) (r .none h)
+    ∙ same (omega arith) (omega arith) (either (eqb policy policy-2005)) (omega arith)
+    ∙ sym (stretch-last policy S q i)
+    ∙ sym (ap (stretch-by policy S q i) last))
+    (λ h. ap (joined-by policy (place S i q)) (r .some h) ∙ sym (stretch-front policy S q i (S .n - 1) (omega arith)))
     (eq-or-lt-of-le l)
+  where
+    either : (b : Bool) → cond b (S .worst i q + 0) (max (S .worst i q + 0) (S .average i q + 0)) ≡ S .worst i q
+    either true = omega arith
+    either false = omega (arith, ordered)
 
 -- The loop before it works the position in front of i: what is carried, and the rows from i on in both tables.
-pub record Back (S : Tables) (n L : ℕ) (lent : LentBody) (i : ℕ) (rest : ℕ → Sums) (now : LentBody) : Type 0 where
-  pub carries : (q : ℕ) → q < L → Rest S n q i (rest q)
-  pub summed : now .summaries ≡ splice (lent .summaries) (i * L * summary-numbers) (cat-from (summaries-from S L) i n)
+pub record Back (policy : ℕ) (S : Tables) (n L : ℕ) (lent : LentBody) (i : ℕ) (rest : ℕ → Sums) (now : LentBody) : Type 0 where
+  pub carries : (q : ℕ) → q < L → Rest policy S n q i (rest q)
+  pub summed : now .summaries ≡ splice (lent .summaries) (i * L * summary-numbers) (cat-from (summaries-from policy S L) i n)
   pub stored : now .worst ≡ splice (lent .worst) (i * L) (cat-from (λ k. tab (S .worst k) L) i n)
 
 module _ {s : List ℕ} {n L : ℕ} {actions : List ℕ} {o : Order (profile s .n)} (g : BodyInput s n L actions o) where
@@ -75,17 +77,9 @@ module _ {s : List ℕ} {n L : ℕ} {actions : List ℕ} {o : Order (profile s .
     unfolding profile
     worsts q = ap (λ (a : ℕ). worst-of s a q) action
 
-    alone-is : (q : ℕ) → alone s (getD actions i 0) q ≡ place (tables (profile s) o) q i
+    alone-is : (q : ℕ) → alone s (getD actions i 0) q ≡ place (tables (profile s) o) i q
     unfolding profile
     alone-is q = ap (λ (a : ℕ). alone s a q) action
-
-    -- what is worked there
-    row-more : (rest : ℕ → Sums) (q : ℕ) → q < L → Rest (tables (profile s) o) n q (suc i) (rest q)
-        → with-rest s (getD actions i 0) rest q ≡ rest-of (tables (profile s) o) i q
-    row-more rest q m r =
-        let sound = tables-sound (profile s) o (some-level (profile s) o (g .counts)) (g .table) in
-        ap (λ (x : Sums). joined x (rest q)) (alone-is q)
-        ∙ rest-more (tables (profile s) o) n q i (g .n-is) l (sound .ordered i q (omega (arith, g .n-is)) (omega (arith, g .levels-are))) r
 
     -- its own numbers are small
     pub own-half : Bytes s → (q : ℕ) → q < L → Half (alone s (getD actions i 0) q)
@@ -101,12 +95,22 @@ module _ {s : List ℕ} {n L : ℕ} {actions : List ℕ} {o : Order (profile s .
           worst = omega (arith, worst-within F o times i q place-lt level-lt);
         })
 
+module _ {s : List ℕ} {n L : ℕ} {actions : List ℕ} {o : Order (profile s .n)} (g : BodyInput s n L actions o) (policy : ℕ) where
+  module _ (i : ℕ) (l : i < n) where
+    -- what is worked there
+    row-more : (rest : ℕ → Sums) (q : ℕ) → q < L → Rest policy (tables (profile s) o) n q (suc i) (rest q)
+        → with-rest s policy (getD actions i 0) rest q ≡ rest-of policy (tables (profile s) o) i q
+    row-more rest q m r =
+        let sound = tables-sound (profile s) o (some-level (profile s) o (g .counts)) (g .table) in
+        ap (λ (x : Sums). joined-by policy x (rest q)) (alone-is g i l q)
+        ∙ rest-more policy (tables (profile s) o) n q i (g .n-is) l (sound .ordered i q (omega (arith, g .n-is)) (omega (arith, g .levels-are))) r
+
   -- what is carried is small
-  pub rest-half : Bytes s → (j q : ℕ) {x : Sums} → j ≤ n → q < L → Rest (tables (profile s) o) n q j x → Half x
+  pub rest-half : Bytes s → (j q : ℕ) {x : Sums} → j ≤ n → q < L → Rest policy (tables (profile s) o) n q j x → Half x
   rest-half bytes j q h m r =
       ⊎-elim
       (λ e. subst Half (sym (r .none e)) (record { average = omega arith; lowest = omega arith; mix = omega arith; worst = omega arith }))
-      (λ l. let w = body-within (profile s) o (g .counts) (times-small s bytes) q (omega (arith, g .levels-are)) j (omega (arith, g .n-is)) in
+      (λ l. let w = body-within (profile s) o (g .counts) (times-small s bytes) q (omega (arith, g .levels-are)) policy j (omega (arith, g .n-is)) in
       subst Half (sym (r .some l))
       (record { average = omega (arith, w .average); lowest = omega (arith, w .lowest); mix = omega (arith, w .mix); worst = omega (arith, w .worst) }))
       (eq-or-lt-of-le h)
@@ -114,48 +118,48 @@ module _ {s : List ℕ} {n L : ℕ} {actions : List ℕ} {o : Order (profile s .
   -- ---- the loop: before it, a turn from position j down to i, and after it
 
   module _ (lent : LentBody) where
-    pub back-none : Back (tables (profile s) o) n L lent n (carried (replicate 8 0) 0 (replicate 8 0) (replicate 8 0)) lent
+    pub back-none : Back policy (tables (profile s) o) n L lent n (carried (replicate 8 0) 0 (replicate 8 0) (replicate 8 0)) lent
     back-none = record {
       carries = λ q m. record { none = λ _. zeros q m; some = λ h. absurd (omega arith) };
-      summed = from-none (summaries-from (tables (profile s) o) L) (lent .summaries) (n * L * summary-numbers) n;
+      summed = from-none (summaries-from policy (tables (profile s) o) L) (lent .summaries) (n * L * summary-numbers) n;
       stored = from-none (λ k. tab (tables (profile s) o .worst k) L) (lent .worst) (n * L) n;
     }
       where
         zeros : (q : ℕ) → q < L → carried (replicate 8 0) 0 (replicate 8 0) (replicate 8 0) q ≡ nothing
         zeros q m =
-            let zero = getD-replicate {A = ℕ} 8 q 0 0 (omega (arith, records .few-levels)) in
+            let zero = getD-replicate {A = ℕ} 8 q 0 0 (omega (arith, records g .few-levels)) in
             same zero refl zero zero
 
     pub back-more : {rest now : ℕ → Sums} {before after : LentBody} (i j : ℕ) → j ≡ i + 1 → j ≤ n
-        → EntriesFit (n * L) lent → Back (tables (profile s) o) n L lent j rest before
-        → SumsRow s L (getD actions i 0) rest now (i * L) before after → Back (tables (profile s) o) n L lent i now after
+        → EntriesFit (n * L) lent → Back policy (tables (profile s) o) n L lent j rest before
+        → SumsRow s L policy (getD actions i 0) rest now (i * L) before after → Back policy (tables (profile s) o) n L lent i now after
     back-more {rest} {now} {before} i j e h room was is =
         let S = tables (profile s) o in
         let ends = mul-le-mul-right L h in
         let starts : j * L ≡ i * L + L = ap (λ (k : ℕ). k * L) e ∙ stride-more i L in
         let next : j ≡ suc i = omega arith in
-        let at : (q : ℕ) → q < L → Rest S n q (suc i) (rest q) = λ q m. subst (λ (k : ℕ). Rest S n q k (rest q)) next (was .carries q m) in
+        let at : (q : ℕ) → q < L → Rest policy S n q (suc i) (rest q) = λ q m. subst (λ (k : ℕ). Rest policy S n q k (rest q)) next (was .carries q m) in
         record {
           carries = λ q m. record {
             none = λ f. absurd (omega arith);
             some = λ _. is .carried-is q m ∙ row-more i (omega arith) rest q m (at q m);
           };
-          summed = from-more (summaries-from S L) (L * summary-numbers) (λ k. length-cat _ summary-numbers (λ q. refl) L) (lent .summaries)
+          summed = from-more (summaries-from policy S L) (L * summary-numbers) (λ k. length-cat _ summary-numbers (λ q. refl) L) (lent .summaries)
               i j n (j * L * summary-numbers) (i * L * summary-numbers) e h (omega arith) (omega (arith, room .summaries-room)) (was .summed)
               (is .summaries-are
               ∙ ap (splice (before .summaries) (i * L * summary-numbers)) (cat-ext _ _ L (λ q m. ap numbers-of (row-more i (omega arith) rest q m (at q m)))));
           stored = from-more (λ k. tab (S .worst k) L) L (λ k. length-tab (S .worst k) L) (lent .worst) i j n (j * L) (i * L) e h starts
               (omega (arith, room .worst-room)) (was .stored)
-              (is .worst-is ∙ ap (splice (before .worst) (i * L)) (tab-ext _ _ L (λ q m. worsts i (omega arith) q)));
+              (is .worst-is ∙ ap (splice (before .worst) (i * L)) (tab-ext _ _ L (λ q m. worsts g i (omega arith) q)));
         }
 
-    pub back-done : {rest : ℕ → Sums} {after : LentBody} (i : ℕ) → i ≡ 0 → Back (tables (profile s) o) n L lent i rest after
-        → RowsSummed s n L lent after o
+    pub back-done : {rest : ℕ → Sums} {after : LentBody} (i : ℕ) → i ≡ 0 → Back policy (tables (profile s) o) n L lent i rest after
+        → RowsSummed s n L policy lent after o
     back-done i e b =
         let S = tables (profile s) o in
         let start : i * L ≡ 0 = ap (λ (k : ℕ). k * L) e ∙ omega arith in
         record {
-          summaries-are = from-done (summaries-from S L) (lent .summaries) 0 i n (i * L * summary-numbers) e (omega arith) (b .summed);
+          summaries-are = from-done (summaries-from policy S L) (lent .summaries) 0 i n (i * L * summary-numbers) e (omega arith) (b .summed);
           worst-is = from-done (λ k. tab (S .worst k) L) (lent .worst) 0 i n (i * L) e start (b .stored);
         }
 
@@ -166,12 +170,12 @@ module _ {s : List ℕ} {n L : ℕ} {actions : List ℕ} {o : Order (profile s .
 
   -- the order copied and the rows stored
   pub all-filled : (before after : LentBody) → after .order ≡ splice (before .order) 0 (tab (λ k. getD actions k 0) n)
-      → RowsSummed s n L (record { order = []; summaries = before .summaries; worst = before .worst })
+      → RowsSummed s n L policy (record { order = []; summaries = before .summaries; worst = before .worst })
       (record { order = []; summaries = after .summaries; worst = after .worst }) o
-      → BodyFilled s before after o
+      → BodyFilled s policy before after o
   all-filled before after e filled = record {
     order-is = as-said (λ (m k : ℕ). splice (before .order) 0 (tab (o .at) m))
         (e ∙ ap (splice (before .order) 0) (tab-ext (λ k. getD actions k 0) (o .at) n (λ k l. g .lists k (omega (arith, g .n-is)))));
-    summaries-are = as-said (λ (m k : ℕ). splice (before .summaries) 0 (cat (summaries-from (tables (profile s) o) k) m)) (filled .summaries-are);
+    summaries-are = as-said (λ (m k : ℕ). splice (before .summaries) 0 (cat (summaries-from policy (tables (profile s) o) k) m)) (filled .summaries-are);
     worst-is = as-said (λ (m k : ℕ). splice (before .worst) 0 (rows (tables (profile s) o .worst) m k)) (filled .worst-is);
   }

@@ -9,7 +9,7 @@ use Rattle.rules.specs.Image.{average-of, worst-of, profile}
 use Rattle.rules.specs.Order.{Order}
 use Rattle.rules.specs.Limits.{tables}
 use Rattle.rules.specs.Refusals.{Count, Table, Length}
-use Rattle.rules.specs.Repeat.{Sums, joined, LentBody, numbers-of, summaries-from, body-tables}
+use Rattle.rules.specs.Repeat.{Sums, joined-by, LentBody, numbers-of, summaries-from, body-tables}
 use Rattle.fields.specs.Fields.{splice}
 use Rattle.image_fields.specs.Reading.{HasRecord}
 
@@ -33,7 +33,7 @@ pub record EntriesFit (entries : ℕ) (lent : LentBody) : Type 0 where
 
 -- ---- a position
 
--- A summary is carried from position to position: A, M and V by level, W for all levels.
+-- A summary is carried from position to position: A, M (in 2005 the safe sum) and V by level, W for all levels.
 abbrev pub carried : List ℕ → ℕ → List ℕ → List ℕ → ℕ → Sums
 carried averages lowest mixes worsts q = record { average = getD averages q 0; lowest = lowest; mix = getD mixes q 0; worst = getD worsts q 0 }
 
@@ -42,8 +42,8 @@ abbrev pub alone : List ℕ → ℕ → ℕ → Sums
 alone s a q = record { average = average-of s a q; lowest = worst-of s a 0; mix = worst-of s a q; worst = worst-of s a q }
 
 -- and what is carried after it
-abbrev pub with-rest : List ℕ → ℕ → (ℕ → Sums) → ℕ → Sums
-with-rest s a rest q = joined (alone s a q) (rest q)
+abbrev pub with-rest : List ℕ → ℕ → ℕ → (ℕ → Sums) → ℕ → Sums
+with-rest s policy a rest q = joined-by policy (alone s a q) (rest q)
 
 -- the four numbers have 31 bits, so that two such add up in 32
 pub record Half (x : Sums) : Type 0 where
@@ -64,20 +64,20 @@ pub record CanSum (s : List ℕ) (L a : ℕ) (averages : List ℕ) (lowest : ℕ
   pub room : EntriesFit (from + L) lent
 
 -- the summaries worked: what is carried from now on, and what is stored
-pub record SumsRow (s : List ℕ) (L a : ℕ) (rest carried : ℕ → Sums) (from : ℕ) (before after : LentBody) : Type 0 where
-  pub carried-is : (q : ℕ) → q < L → carried q ≡ with-rest s a rest q
-  pub summaries-are : after .summaries ≡ splice (before .summaries) (from * summary-numbers) (cat (λ q. numbers-of (with-rest s a rest q)) L)
+pub record SumsRow (s : List ℕ) (L policy a : ℕ) (rest carried : ℕ → Sums) (from : ℕ) (before after : LentBody) : Type 0 where
+  pub carried-is : (q : ℕ) → q < L → carried q ≡ with-rest s policy a rest q
+  pub summaries-are : after .summaries ≡ splice (before .summaries) (from * summary-numbers) (cat (λ q. numbers-of (with-rest s policy a rest q)) L)
   pub worst-is : after .worst ≡ splice (before .worst) from (tab (worst-of s a) L)
 
 -- ---- all of them
 
--- of the order o: n positions at L levels
-pub record RowsSummed (s : List ℕ) (n L : ℕ) (before after : LentBody) (o : Order (profile s .n)) : Type 0 where
-  pub summaries-are : after .summaries ≡ splice (before .summaries) 0 (cat (summaries-from (tables (profile s) o) L) n)
+-- of the order o by a policy: n positions at L levels
+pub record RowsSummed (s : List ℕ) (n L policy : ℕ) (before after : LentBody) (o : Order (profile s .n)) : Type 0 where
+  pub summaries-are : after .summaries ≡ splice (before .summaries) 0 (cat (summaries-from policy (tables (profile s) o) L) n)
   pub worst-is : after .worst ≡ splice (before .worst) 0 (rows (tables (profile s) o .worst) n L)
 
--- all three tables written at the fronts of lent ones, of the order o; their tails are kept
-pub record BodyFilled (s : List ℕ) (before after : LentBody) (o : Order (profile s .n)) : Type 0 where
-  pub order-is : after .order ≡ splice (before .order) 0 (body-tables (profile s) o .order)
-  pub summaries-are : after .summaries ≡ splice (before .summaries) 0 (body-tables (profile s) o .summaries)
-  pub worst-is : after .worst ≡ splice (before .worst) 0 (body-tables (profile s) o .worst)
+-- all three tables written at the fronts of lent ones, of the order o by a policy; their tails are kept
+pub record BodyFilled (s : List ℕ) (policy : ℕ) (before after : LentBody) (o : Order (profile s .n)) : Type 0 where
+  pub order-is : after .order ≡ splice (before .order) 0 (body-tables policy (profile s) o .order)
+  pub summaries-are : after .summaries ≡ splice (before .summaries) 0 (body-tables policy (profile s) o .summaries)
+  pub worst-is : after .worst ≡ splice (before .worst) 0 (body-tables policy (profile s) o .worst)

@@ -3,11 +3,12 @@
 use image_fields::read;
 ghost use Prim.Native.Nat.{_+_, _*_, _≤_, max};
 ghost use mathlib.Core.Path.{_≡_};
-ghost use mathlib.Core.Bool.{true};
+ghost use mathlib.Core.Bool.{true, cond};
 ghost use mathlib.Core.List.{[], _∷_};
 ghost use mathlib.Core.Logic.{_↔_};
+ghost use lib.Dec.{eqb};
 ghost use lib.ListN.{length};
-ghost use Rattle.rules.specs.Numbers.{summary-numbers};
+ghost use Rattle.rules.specs.Numbers.{policy-2005, summary-numbers};
 ghost use Rattle.rules.specs.Words.{sum, Some};
 ghost use Rattle.rules.specs.Image.{profile};
 ghost use Rattle.rules.specs.Order.{Order};
@@ -55,6 +56,16 @@ fn greater(x: u32, y: u32) -> u32
     if x < y { y } else { x }
 }
 
+// The third number of a summary: in 2008 M, the greater of both; in 2005 the safe sum alone.
+fn mix_of(policy: u32, safe: u32, mixed: u32) -> u32
+    ensures { λ r. ⌜ r ≡ cond (eqb policy policy-2005) safe (max safe mixed) ⌝ }
+{
+    if policy == rules::POLICY_2005 {
+        return safe;
+    }
+    greater(safe, mixed)
+}
+
 // The four numbers of a summary, stored from index `at` on.
 fn put_sums(average: u32, lowest: u32, mix: u32, worst: u32, at: usize, summaries: &mut [u32])
     requires { ⌜ at + summary-numbers ≤ length (now summaries) ⌝ }
@@ -71,6 +82,7 @@ fn put_sums(average: u32, lowest: u32, mix: u32, worst: u32, at: usize, summarie
 fn sum_row(
     image: &[u8],
     levels: usize,
+    policy: u32,
     a: usize,
     averages: &mut [u32],
     after: u32,
@@ -82,7 +94,7 @@ fn sum_row(
 ) -> u32
     requires { ⌜ CanSum (now image) levels a (now averages) after (now mixes) (now worsts) from
         (record { order = []; summaries = now summaries; worst = now worst }) ⌝ }
-    ensures { λ r. ⌜ SumsRow (now (image .entry)) levels a (carried (now (averages .entry)) after (now (mixes .entry)) (now (worsts .entry)))
+    ensures { λ r. ⌜ SumsRow (now (image .entry)) levels policy a (carried (now (averages .entry)) after (now (mixes .entry)) (now (worsts .entry)))
         (carried (now (averages .exit)) r (now (mixes .exit)) (now (worsts .exit))) from
         (record { order = []; summaries = now (summaries .entry); worst = now (worst .entry) })
         (record { order = []; summaries = now (summaries .exit); worst = now (worst .exit) }) ⌝ }
@@ -93,7 +105,7 @@ fn sum_row(
         let average = read::average_at(image, levels, a, q);
         let longest = read::worst_at(image, levels, a, q);
         let sum = average + averages[q];
-        let mix = greater(longest + after, average + mixes[q]);
+        let mix = mix_of(policy, longest + after, average + mixes[q]);
         let all = longest + worsts[q];
         averages[q] = sum;
         mixes[q] = mix;
@@ -117,6 +129,7 @@ fn sum_rows(
     image: &[u8],
     n: usize,
     levels: usize,
+    policy: u32,
     actions: &[u8; rules::MOST_ACTIONS],
     summaries: &mut [u32],
     worst: &mut [u32],
@@ -124,7 +137,7 @@ fn sum_rows(
     requires { ⌜ SomeBodyInput (now image) n levels (now actions) ⌝ }
     requires { ⌜ EntriesFit (n * levels) (record { order = []; summaries = now summaries; worst = now worst }) ⌝ }
     ensures { λ r. ⌜ ((o : Order (profile (now (image .entry)) .n)) → BodyInput (now (image .entry)) n levels (now (actions .entry)) o
-        → RowsSummed (now (image .entry)) n levels (record { order = []; summaries = now (summaries .entry); worst = now (worst .entry) })
+        → RowsSummed (now (image .entry)) n levels policy (record { order = []; summaries = now (summaries .entry); worst = now (worst .entry) })
         (record { order = []; summaries = now (summaries .exit); worst = now (worst .exit) }) o) ⌝ }
 {
     let mut averages = [0u32; rules::MOST_LEVELS];
@@ -137,6 +150,7 @@ fn sum_rows(
         lowest = sum_row(
             image,
             levels,
+            policy,
             actions[i] as usize,
             &mut averages,
             lowest,
@@ -149,11 +163,12 @@ fn sum_rows(
     }
 }
 
-// The order and the two tables.
+// The order and the two tables, by a policy.
 pub fn fill(
     image: &[u8],
     n: usize,
     levels: usize,
+    policy: u32,
     actions: &[u8; rules::MOST_ACTIONS],
     order: &mut [u8],
     summaries: &mut [u32],
@@ -163,9 +178,9 @@ pub fn fill(
     requires { ⌜ (n ≤ length (now order))
         × EntriesFit (n * levels) (record { order = now order; summaries = now summaries; worst = now worst }) ⌝ }
     ensures { λ r. ⌜ ((o : Order (profile (now (image .entry)) .n)) → BodyInput (now (image .entry)) n levels (now (actions .entry)) o
-        → BodyFilled (now (image .entry)) (record { order = now (order .entry); summaries = now (summaries .entry); worst = now (worst .entry) })
+        → BodyFilled (now (image .entry)) policy (record { order = now (order .entry); summaries = now (summaries .entry); worst = now (worst .entry) })
         (record { order = now (order .exit); summaries = now (summaries .exit); worst = now (worst .exit) }) o) ⌝ }
 {
     fields::copy_front(actions, n, order);
-    sum_rows(image, n, levels, actions, summaries, worst);
+    sum_rows(image, n, levels, policy, actions, summaries, worst);
 }

@@ -11,9 +11,9 @@ use borrow.Author.Tests.{le-ltb, lt-leb}
 use Rattle.rules.specs.Words.{cat, tab}
 use Rattle.rules.specs.Image.{Profile}
 use Rattle.rules.specs.Order.{Order, TheOrder}
-use Rattle.rules.specs.Limits.{tables, limit}
-use Rattle.rules.specs.Refusals.{first}
-use Rattle.rules.specs.Repeat.{unrolled, LentBody, positions, lent-plan, PlannedBody, body-tests, body-limit-refusal, action-at}
+use Rattle.rules.specs.Limits.{tables, limit-by}
+use Rattle.rules.specs.Refusals.{first, UnknownPolicy}
+use Rattle.rules.specs.Repeat.{unrolled, LentBody, positions, lent-plan, PlannedBody, known-tests, body-limit-refusal, action-at}
 use Rattle.rules.specs.declared.Body.{Body}
 use Rattle.fields.proofs.Cats.{cat-ext}
 use Rattle.text.specs.Digits.{newline, space, decimal, signed}
@@ -24,28 +24,28 @@ use Rattle.print.proofs.Plans.{position-ext}
 use Rattle.repeat_laws.proofs.Lent.{lent-limit, lent-action}
 use Rattle.repeat_limits.specs.Limits.{CountsIn, Stands, LimitAnswers}
 use Rattle.repeat_limits.specs.declared.Limited.{Limited}
-use Rattle.repeat_limits.proofs.Refusing.{limit-passed}
+use Rattle.repeat_limits.proofs.Refusing.{known-not-out, limit-passed}
 use Rattle.repeat_text.specs.Text.{longest-line, lent-line, lent-lines, unrolled-line, Lent}
 
 -- ---- no refusal
 
-passes : {b : Body} → CountsIn b → 0 ≡ first (body-tests b)
+passes : {b : Body} → CountsIn b → (UnknownPolicy (b .policy) → ⊥) → 0 ≡ first (known-tests b)
 unfolding first
-passes c =
-    rw (le-ltb _ _ (c .some-action), le-ltb _ _ (c .few), le-ltb _ _ (c .some-level), le-ltb _ _ (c .few-levels), le-ltb _ _ (c .some-cycle), le-ltb _ _ (c .cycle-in), le-ltb _ _ (c .some-repeat), le-ltb _ _ (c .few-repeats))
+passes {b} c known =
+    rw (known-not-out b known, le-ltb _ _ (c .some-action), le-ltb _ _ (c .few), le-ltb _ _ (c .some-level), le-ltb _ _ (c .few-levels), le-ltb _ _ (c .some-cycle), le-ltb _ _ (c .cycle-in), le-ltb _ _ (c .some-repeat), le-ltb _ _ (c .few-repeats))
 
-stands : {b : Body} {s : List ℕ} {i q : ℕ} → Stands b s i q → body-limit-refusal b s i q ≡ 0
-stands {b} {s} {i} {q} h =
-    limit-passed b s i q (passes (h .counts))
+stands : {b : Body} {s : List ℕ} {i q : ℕ} → Stands b s i q → (UnknownPolicy (b .policy) → ⊥) → body-limit-refusal b s i q ≡ 0
+stands {b} {s} {i} {q} h known =
+    limit-passed b s i q (passes (h .counts) known)
     ∙ rw (le-ltb _ _ (h .summed), lt-leb _ _ (h .present), lt-leb _ _ (h .level))
 
 pub at-level : {b : Body} {s : List ℕ} {i q : ℕ} → Stands b s i 0 → q < b .levels → Stands b s i q
 at-level h l = record { counts = h .counts; summed = h .summed; present = h .present; level = l }
 
 -- so that the limit answered is the one lent
-pub limit-told : {b : Body} {s : List ℕ} {i q : ℕ} {r : Limited} → Stands b s i q → LimitAnswers b s i q r
+pub limit-told : {b : Body} {s : List ℕ} {i q : ℕ} {r : Limited} → Stands b s i q → (UnknownPolicy (b .policy) → ⊥) → LimitAnswers b s i q r
     → r .limit ≡ lent-plan b (record { order = []; summaries = s; worst = [] }) .limit i q
-limit-told h a = let none = a .number ∙ stands h in rw none at (a .limit-is)
+limit-told h known a = let none = a .number ∙ stands h known in rw none at (a .limit-is)
 
 -- the limit at level q after a space
 abbrev pub entry : Body → List ℕ → ℕ → ℕ → List ℕ
@@ -84,7 +84,7 @@ line-length b order summaries i c = position-length i _ _ (b .levels) (c .few-le
 
 module _ {F : Profile} {o : Order (F .n)} {b : Body} {T : LentBody} (P : PlannedBody F o b T) {p : Order (b .repeats * F .n)}
     (y : TheOrder (unrolled F (b .repeats)) p) where
-  line-unrolled : (i : ℕ) → i < positions b → lent-line b (T .order) (T .summaries) i ≡ unrolled-line (unrolled F (b .repeats)) p i
+  line-unrolled : (i : ℕ) → i < positions b → lent-line b (T .order) (T .summaries) i ≡ unrolled-line (b .policy) (unrolled F (b .repeats)) p i
   unfolding lent-line lent-plan
   line-unrolled i l =
       let n-is : b .n ≡ F .n = ap (λ (x : Body). x .n) (P .body-is) in
@@ -95,5 +95,5 @@ module _ {F : Profile} {o : Order (F .n)} {b : Body} {T : LentBody} (P : Planned
       (λ q m. lent-limit P y i q l′ m)
 
   pub lines-unrolled : (from to : ℕ) → to ≤ positions b
-      → lent-lines b (T .order) (T .summaries) from to ≡ cat (λ k. unrolled-line (unrolled F (b .repeats)) p (from + k)) (to - from)
+      → lent-lines b (T .order) (T .summaries) from to ≡ cat (λ k. unrolled-line (b .policy) (unrolled F (b .repeats)) p (from + k)) (to - from)
   lines-unrolled from to most = cat-ext _ _ (to - from) (λ k m. line-unrolled (from + k) (omega arith))

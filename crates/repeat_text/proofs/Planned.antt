@@ -16,14 +16,14 @@ use Rattle.repeat_planner.specs.declared.BodyPlanned.{BodyPlanned}
 use Rattle.repeat_planner.proofs.Answers.{Clear, clear}
 use Rattle.repeat_text.specs.Text.{Lent}
 
-module _ {s : List ℕ} {N : ℕ} {before after : LentBody} {r : BodyPlanned} (p : PlansBody s N before after r) (none : r .refusal .number ≡ 0) where
-  body-is : r .body ≡ body-of (profile s) N
+module _ {s : List ℕ} {N policy : ℕ} {before after : LentBody} {r : BodyPlanned} (p : PlansBody s N policy before after r) (none : r .refusal .number ≡ 0) where
+  body-is : r .body ≡ body-of (profile s) N policy
   body-is = rw none at (p .body)
 
-  nothing : Clear s N (body-rooms (profile s .n) (profile s .levels) before)
-  nothing = clear s N _ (rw none at (p .number))
+  nothing : Clear s N policy (body-rooms (profile s .n) (profile s .levels) before)
+  nothing = clear s N policy _ (rw none at (p .number))
 
-  in-ranges : CountsIn (body-of (profile s) N)
+  in-ranges : CountsIn (body-of (profile s) N policy)
   in-ranges = record {
     some-action = not-above (λ l. nothing .body .not-count (inl (inl l)));
     few = not-above (λ l. nothing .body .not-count (inl (inr (inl l))));
@@ -39,6 +39,7 @@ module _ {s : List ℕ} {N : ℕ} {before after : LentBody} {r : BodyPlanned} (p
       → Lent (r .body) (after .order) (after .summaries)
   lent-of same-o same-s = rw body-is (record {
     counts = in-ranges;
+    known = nothing .known;
     ordered = rw same-o (not-above (λ l. nothing .room (inl l)));
     summed = rw same-s (not-above (λ l. nothing .room (inr (inl l))));
   })

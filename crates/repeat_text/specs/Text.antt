@@ -7,8 +7,8 @@ use Rattle.rules.specs.Numbers.{summary-numbers}
 use Rattle.rules.specs.Words.{cat}
 use Rattle.rules.specs.Image.{Profile, profile}
 use Rattle.rules.specs.Order.{Order, TheOrder}
-use Rattle.rules.specs.Limits.{tables, limit}
-use Rattle.rules.specs.Refusals.{kept}
+use Rattle.rules.specs.Limits.{tables, limit-by}
+use Rattle.rules.specs.Refusals.{kept, UnknownPolicy}
 use Rattle.rules.specs.Repeat.{unrolled, LentBody, positions, lent-plan, PlannedBody, action-at}
 use Rattle.rules.specs.declared.Body.{Body}
 use Rattle.rules.specs.declared.Fault.{Fault}
@@ -34,15 +34,16 @@ lent-line b order summaries i =
 abbrev pub lent-lines : Body → List ℕ → List ℕ → ℕ → ℕ → List ℕ
 lent-lines b order summaries from to = cat (λ k. lent-line b order summaries (from + k)) (to - from)
 
--- that of the unrolled system, which the plan program would print of it, in its order
-abbrev pub unrolled-line : (F : Profile) → Order (F .n) → ℕ → List ℕ
-unrolled-line F p i = position-line i (p .at i) (limit (tables F p) i) (F .levels)
+-- that of the unrolled system, which the plan program would print of it by the policy, in its order
+abbrev pub unrolled-line : ℕ → (F : Profile) → Order (F .n) → ℕ → List ℕ
+unrolled-line policy F p i = position-line i (p .at i) (limit-by policy (tables F p) i) (F .levels)
 
 -- ---- the calls
 
--- tables lent for a body in its ranges
+-- tables lent for a body in its ranges, of a policy that is known
 pub record Lent (b : Body) (order summaries : List ℕ) : Type 0 where
   pub counts : CountsIn b
+  pub known : UnknownPolicy (b .policy) → ⊥
   pub ordered : b .n ≤ length order
   pub summed : b .n * b .levels * summary-numbers ≤ length summaries
 
@@ -55,14 +56,14 @@ pub record TellsLines (b : Body) (order summaries out : List ℕ) (at from : ℕ
   pub whole : r .at ≡ at + length (lent-lines b order summaries from (r .next))
   pub unrolled-lines : {F : Profile} {o : Order (F .n)} {T : LentBody} → T .order ≡ order → T .summaries ≡ summaries → PlannedBody F o b T
       → {p : Order (b .repeats * F .n)} → TheOrder (unrolled F (b .repeats)) p
-      → lent-lines b order summaries from (r .next) ≡ cat (λ k. unrolled-line (unrolled F (b .repeats)) p (from + k)) (r .next - from)
+      → lent-lines b order summaries from (r .next) ≡ cat (λ k. unrolled-line (b .policy) (unrolled F (b .repeats)) p (from + k)) (r .next - from)
 
 -- n, L, the cycle and N; or the refusal
 abbrev pub first-text : List ℕ → ℕ → Fault → List ℕ
 first-text s N refusal = kept (refusal .number) (four-line (profile s .n) (profile s .levels) (profile s .cycle) N) (fault-text refusal)
 
 -- The body is planned, and that line is put into the buffer from its start on. Without a refusal the tables are lent for the lines.
-pub record TellsFirst (s : List ℕ) (N : ℕ) (before after : LentBody) (out out′ : List ℕ) (r : Begun) : Type 0 where
-  pub plans : PlansBody s N before after (r .planned)
+pub record TellsFirst (s : List ℕ) (N policy : ℕ) (before after : LentBody) (out out′ : List ℕ) (r : Begun) : Type 0 where
+  pub plans : PlansBody s N policy before after (r .planned)
   pub lent : r .planned .refusal .number ≡ 0 → Lent (r .planned .body) (after .order) (after .summaries)
   pub text : Puts out 0 (first-text s N (r .planned .refusal)) out′ (r .at)

@@ -15,6 +15,7 @@ ghost use lib.ListN.{length};
 ghost use Rattle.io.specs.Counts.{Counts};
 ghost use Rattle.rules.specs.Numbers.{most-positions};
 ghost use Rattle.rules.specs.Words.{cat};
+ghost use Rattle.rules.specs.Refusals.{UnknownPolicy};
 ghost use Rattle.rules.specs.Repeat.{positions, lent-plan, action-at};
 ghost use Rattle.text.specs.Digits.{space, signed};
 ghost use Rattle.text.specs.Put.{Puts};
@@ -28,7 +29,7 @@ const LONGEST_LINE: usize = 218;
 
 // The limits of a position by level, each after a space.
 fn put_limits(out: &mut [u8], at: usize, body: Body, summaries: &[u32], position: usize) -> usize
-    requires { ⌜ Counts at (now out) × Stands body (now summaries) position 0 ⌝ }
+    requires { ⌜ Counts at (now out) × Stands body (now summaries) position 0 × (UnknownPolicy (body .policy) → ⊥) ⌝ }
     ensures { λ r. ⌜ Puts (now (out .entry)) at
         (cat (λ q. space ∷ signed (lent-plan body (record { order = []; summaries = now (summaries .entry); worst = [] }) .limit position q)) (body .levels))
         (now (out .exit)) r ⌝ }
@@ -110,21 +111,22 @@ pub struct Begun {
     pub at: usize,
 }
 
-// Plans an image as a body done `repeats` times, and puts the first line: n, L, the cycle and N, or the refusal.
+// Plans an image as a body done `repeats` times by a policy, and puts the first line: n, L, the cycle and N, or the refusal.
 pub fn begin(
     image: &[u8],
     repeats: u32,
+    policy: u32,
     order: &mut [u8],
     summaries: &mut [u32],
     worst: &mut [u32],
     out: &mut [u8],
 ) -> Begun
-    ensures { λ r. ⌜ TellsFirst (now (image .entry)) repeats
+    ensures { λ r. ⌜ TellsFirst (now (image .entry)) repeats policy
         (record { order = now (order .entry); summaries = now (summaries .entry); worst = now (worst .entry) })
         (record { order = now (order .exit); summaries = now (summaries .exit); worst = now (worst .exit) })
         (now (out .entry)) (now (out .exit)) r ⌝ }
 {
-    let planned = repeat_planner::plan(image, repeats, order, summaries, worst);
+    let planned = repeat_planner::plan(image, repeats, policy, order, summaries, worst);
     let refusal = planned.refusal;
     if refusal.number != 0 {
         let at = put_fault(out, 0, refusal);
@@ -171,9 +173,9 @@ fn tell_positions(
     end
 }
 
-// The text of an image done `repeats` times, any number: one out of its range is refused as planning does. What has no room in `out` is written to the
+// The text of an image done `repeats` times by a policy, any numbers: those out of their range are refused as planning does. What has no room in `out` is written to the
 // descriptor `to`; the answer is how much of `out` is still to be written.
-pub fn plan_text(image: &[u8], repeats: u32, out: &mut [u8], to: i32) -> usize
+pub fn plan_text(image: &[u8], repeats: u32, policy: u32, out: &mut [u8], to: i32) -> usize
     requires { ⌜ longest-line ≤ length (now out) ⌝ }
     ensures { λ r. ⌜ Counts r (now (out .exit)) ⌝ }
 {
@@ -183,6 +185,7 @@ pub fn plan_text(image: &[u8], repeats: u32, out: &mut [u8], to: i32) -> usize
     let begun = begin(
         image,
         repeats,
+        policy,
         &mut order,
         &mut summaries,
         &mut worst,

@@ -1,4 +1,4 @@
--- Of a profile that is not refused: its tables obey the rule and the ranges, refusal 9 is 0 above limit (0, 0), and demand 3 holds.
+-- Of a profile that is not refused: its tables obey the rule and the ranges, refusal 9 is 0 above limit (0, 0), and demand 3 holds, by either policy.
 -- Assumes nothing.
 use Prim.Native.Nat.{ℕ, suc, _≤_, _<_, zero-le}
 use mathlib.Core.Bool.{Bool, true, false, cond}
@@ -14,7 +14,7 @@ use Rattle.rules.specs.Numbers.{last-clock}
 use Rattle.rules.specs.Words.{sum}
 use Rattle.rules.specs.Image.{Profile, due, profile}
 use Rattle.rules.specs.Order.{Order, Meets, TheOrder, FitFrom, Fit}
-use Rattle.rules.specs.Limits.{tables, limit}
+use Rattle.rules.specs.Limits.{tables, limit-by}
 use Rattle.rules.specs.Refusals.{Count, Range, Falls, Table, Unfit, Accepted}
 use Rattle.rules.specs.Demand.{Safe, Policy, WithinWorst, DemandThree}
 use Rattle.rules.proofs.Sums.{sum-longer}
@@ -22,8 +22,8 @@ use Rattle.rules.proofs.Differences.{not-above}
 use Rattle.rules.proofs.Refusals.{accepted-sound, Sound as SoundImage}
 use Rattle.rules.proofs.Faults.{TimeOut}
 use Rattle.rules.proofs.Order.OfProfile.{fit-exact, fit?}
-use Rattle.rules.proofs.Limits.Mixed.{Sound, mixed-passes, mixed-safe}
-use Rattle.rules.proofs.Limits.Shape.{limit-fits, mixed-policy}
+use Rattle.rules.proofs.Limits.Mixed.{Sound}
+use Rattle.rules.proofs.Limits.Years.{policy-by}
 use Rattle.rules.proofs.Limits.Range.{Small}
 use Rattle.rules.proofs.Demand.Record.{demand-three}
 
@@ -82,19 +82,16 @@ module _ {F : Profile} {o : Order (F .n)} (x : TheOrder F o) where
   pub fit-safe : (t : ℕ) → Safe (tables F o) t 0 0 ↔ FitFrom t F
   fit-safe t = ((λ s. fit-exact x t .0 (safe-meets t .0 s)), (λ f. safe-meets t .1 (fit-exact x t .1 f)))
 
-  module _ (level : 0 < F .levels) (table : Table F → ⊥) where
-    sound : Sound (tables F o)
-    sound = tables-sound F o level table
-
-    pub fit-limit : 0 < F .n → (t : ℕ) → (pos t ≤ℤ limit (tables F o) 0 0) ↔ FitFrom t F
-    fit-limit l t = (
-      (λ h. fit-safe t .0 (mixed-safe (tables F o) sound t 0 0 l level (limit-fits (tables F o) t 0 0 l .0 h))),
-      (λ f. limit-fits (tables F o) t 0 0 l .1 (mixed-passes (tables F o) sound t 0 l (fit-safe t .1 f))),
-    )
-
-    -- the policy of the rules for F
+  module _ (level : 0 < F .levels) (table : Table F → ⊥) (year : ℕ) where
+    -- the chosen policy of the rules for F
     abbrev pub policy : Policy (tables F o)
-    policy = mixed-policy (tables F o) (tables-sound F o level table)
+    policy = policy-by (tables F o) (tables-sound F o level table) year
+
+    pub fit-limit : 0 < F .n → (t : ℕ) → (pos t ≤ℤ limit-by year (tables F o) 0 0) ↔ FitFrom t F
+    fit-limit l t = (
+      (λ h. fit-safe t .0 (policy .is-safe t 0 0 l level h)),
+      (λ f. policy .passes t 0 l (fit-safe t .1 f)),
+    )
 
     -- Demand 3, from any start that fits.
     pub fit-demand : (t : ℕ) → FitFrom t F → (d : ℕ → ℕ → ℕ) → WithinWorst 16 policy t d → DemandThree 16 policy t d
@@ -108,14 +105,14 @@ not-unfit F h = by (fit? 0 F)
     by (yes f) = f
     by (no f) = absurd (h f)
 
--- the policy of the rules for a sound image
-abbrev pub sound-policy : {s : List ℕ} → SoundImage s → {o : Order (profile s .n)} → TheOrder (profile s) o → Policy (tables (profile s) o)
+-- the chosen policy of the rules for a sound image
+abbrev pub sound-policy : {s : List ℕ} → SoundImage s → {o : Order (profile s .n)} → TheOrder (profile s) o → ℕ → Policy (tables (profile s) o)
 sound-policy {s} h {o} x = policy x (some-level (profile s) o (h .not-count)) (h .not-table)
 
--- Demand 3 of an accepted image.
-pub accepted-demand : (s : List ℕ) (a : Accepted s) {o : Order (profile s .n)} (x : TheOrder (profile s) o)
-    → let P = sound-policy (accepted-sound s .0 a) x in
+-- Demand 3 of an accepted image, by either policy.
+pub accepted-demand : (s : List ℕ) (a : Accepted s) {o : Order (profile s .n)} (x : TheOrder (profile s) o) (year : ℕ)
+    → let P = sound-policy (accepted-sound s .0 a) x year in
     (d : ℕ → ℕ → ℕ) → WithinWorst 16 P 0 d → DemandThree 16 P 0 d
-accepted-demand s a {o} x =
+accepted-demand s a {o} x year =
     let h = accepted-sound s .0 a in
-    fit-demand x (some-level (profile s) o (h .not-count)) (h .not-table) 0 (not-unfit (profile s) (h .not-unfit))
+    fit-demand x (some-level (profile s) o (h .not-count)) (h .not-table) year 0 (not-unfit (profile s) (h .not-unfit))

@@ -13,18 +13,18 @@ use lib.IntN.{pos}
 use lib.ListN.{length, getD}
 use lib.Pow.{pow-mono}
 use lib.Signed.{leZ, _≤ℤ_}
-use Rattle.rules.specs.Numbers.{last-clock, refused-loop, refused-unfit}
+use Rattle.rules.specs.Numbers.{last-clock, policy-2008, refused-loop, refused-unfit}
 use Rattle.rules.specs.Words.{all-pass, last-passing, sum, greatest-of, least-of, cat}
 use Rattle.rules.specs.Image.{Profile, has, due, header, version, actions, levels, cycle, header-spare, record-bytes, record-at, image-bytes, mask-of, deadline-of, spare-of, average-of, worst-of, profile, header-of, level-image, record-image, image}
 use Rattle.rules.specs.Order.{Order, TheOrder, Fit, Before, MustFollow}
-use Rattle.rules.specs.Limits.{tables, margin, mixed, limit, coast-bound, Plan, Gives, Late}
+use Rattle.rules.specs.Limits.{tables, margin, mixed, limit, limit-2005, coast-bound, Plan, Gives, Late}
 use Rattle.rules.specs.Refusals.{LowestFault, _when_, First, LoopFault, Unfit, image-checks, Count, Falls, Table, Short, Version, Length, Spare, Range}
 use Rattle.rules.specs.Run.{level-given, fits, qualifies, left-granted, begun, decides, given, ended, lent}
 use Rattle.rules.specs.Dry.{step, before, dry-end}
 use Rattle.rules.specs.Recording.{frame-bytes, frames, lowest-of, lowest-given, ran-of, long-entry, line-of, with-frame, with-line, totals-from}
 use Rattle.rules.specs.Repeat.{unrolled}
 use Rattle.rules.specs.Speed.{quotient, room, reading-by, reading}
-use Rattle.rules.specs.Cases.{three, eight, around, cases, AllHold, AroundRefused}
+use Rattle.rules.specs.Cases.{three, eight, falling, around, cases, AllHold, AroundRefused}
 use Rattle.rules.proofs.Tests.{pass, passed, failed, and-true, or-true, not-true, all-pass-each}
 use Rattle.rules.proofs.Refusals.{refuses-blamed}
 use Rattle.rules.proofs.Order.Loops.{no-loop}
@@ -197,7 +197,7 @@ module _ (s : List ℕ) (ok : plain s ≡ true) where
       inr (plain-is .short, inr (plain-is .version-is, inr (plain-is .count, inr (plain-is .size, inr (spares, inr (ranges, inr (table, inr (order-loopless x, last b e))))))))
     where
       fit : (pos 0 ≤ℤ limit (tables (profile s) o) 0 0) ↔ Fit (profile s)
-      fit = fit-limit x (some-level (profile s) o (plain-is .count)) table (some-action (profile s) o (plain-is .count)) 0
+      fit = fit-limit x (some-level (profile s) o (plain-is .count)) table policy-2008 (some-action (profile s) o (plain-is .count)) 0
 
       last : (b : Bool) → leZ (pos 0) (limit (tables (profile s) o) 0 0) ≡ b → First (refused-unfit when Unfit (profile s) ∷ []) (cond b 0 9)
       last true e = inr ((λ unfit. unfit (fit .0 (record { le = pass _ e }))), refl)
@@ -224,7 +224,7 @@ swapped k = getD (0 ∷ 2 ∷ 1 ∷ []) k 0
 pub every-case : AllHold cases
 unfolding placed action-at all-pass has due plain orderly
     cat image header-of record-image level-image profile header version actions levels cycle header-spare record-bytes record-at image-bytes mask-of deadline-of spare-of average-of worst-of
-    sum greatest-of least-of last-passing margin mixed limit coast-bound
+    sum greatest-of least-of last-passing margin mixed limit limit-2005 coast-bound
     level-given fits qualifies left-granted begun decides given ended step before frame-bytes frames long-entry line-of lowest-of lowest-given dry-end lent ran-of totals-from with-line with-frame quotient room reading reading-by div ofInt round
 every-case = (
   refl,
@@ -260,7 +260,22 @@ every-case = (
                                 (named eight swapped refl, named-is eight swapped refl, refl),
                                 (
                                   (number (image eight) refl (named (profile (image eight)) swapped refl) (named-is (profile (image eight)) swapped refl) true refl),
-                                  ((named (unrolled (three 40) 2) chain refl, named-is (unrolled (three 40) 2) chain refl, refl), tt),
+                                  (
+                                    (named (unrolled (three 40) 2) chain refl, named-is (unrolled (three 40) 2) chain refl, refl),
+                                    (
+                                      (named (three 20) chain refl, named-is (three 20) chain refl, refl),
+                                      (
+                                        (named (three 20) chain refl, named-is (three 20) chain refl, (given-is _ 7 1 1 false (omega arith) refl refl)),
+                                        (
+                                          (named falling chain refl, named-is falling chain refl, refl),
+                                          (
+                                            (named falling chain refl, named-is falling chain refl, (refl, (refl, refl))),
+                                            ((named falling chain refl, named-is falling chain refl, (refl, (refl, refl))), tt),
+                                          ),
+                                        ),
+                                      ),
+                                    ),
+                                  ),
                                 ),
                               ),
                             ),

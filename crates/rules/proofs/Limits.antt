@@ -4,3 +4,6 @@ pub mod Rows
 pub mod Shape
 pub mod Range
 pub mod Alike
+pub mod Earlier
+pub mod Parts
+pub mod Years

@@ -347,10 +347,10 @@ module _ (n L : ℕ) (T : LentTables) where
 
 -- ---- demand 3 from the mark
 
--- Demand 3 of an accepted image in its order, for durations d (position, level) over which the overrun mark is not set.
-pub unmarked-demand : (s : List ℕ) (a : Accepted s) {o : Order (profile s .n)} (x : TheOrder (profile s) o) (d : ℕ → ℕ → ℕ)
-    → let S = tables (profile s) o in before longest-coast (planned S) (S .worst) d 0 (S .n) .overrun ≡ false
-    → DemandThree longest-coast (sound-policy (accepted-sound s .0 a) x) 0 d
-unmarked-demand s a {o} x d e =
+-- Demand 3 of an accepted image in its order, by either policy, for durations d (position, level) over which the overrun mark is not set.
+pub unmarked-demand : (s : List ℕ) (a : Accepted s) {o : Order (profile s .n)} (x : TheOrder (profile s) o) (year : ℕ) (d : ℕ → ℕ → ℕ)
+    → let S = tables (profile s) o in before longest-coast (planned year S) (S .worst) d 0 (S .n) .overrun ≡ false
+    → DemandThree longest-coast (sound-policy (accepted-sound s .0 a) x year) 0 d
+unmarked-demand s a {o} x year d e =
     let S = tables (profile s) o in
-    accepted-demand s a x d (overrun-within longest-coast (planned S) (S .worst) d 0 (S .n) e)
+    accepted-demand s a x year d (overrun-within longest-coast (planned year S) (S .worst) d 0 (S .n) e)

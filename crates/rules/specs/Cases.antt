@@ -1,4 +1,4 @@
--- Worked values, those marked as proved: a case is a profile, a question and its reply.
+-- Worked values, those marked as proved: a case is a profile, a policy, a question and its reply.
 use Prim.Native.Nat.{ℕ, zero, suc}
 use mathlib.Core.Path.{_≡_}
 use mathlib.Core.Bool.{Bool, true, false}
@@ -6,11 +6,11 @@ use mathlib.Core.List.{List, [], _∷_, _++_}
 use mathlib.Core.Logic.{_↔_}
 use lib.IntN.{ℤ, pos}
 use lib.ListN.{length, getD}
-use Rattle.rules.specs.Numbers.{longest-coast, duration-bytes, refused-loop}
+use Rattle.rules.specs.Numbers.{longest-coast, policy-2008, policy-2005, duration-bytes, refused-loop}
 use Rattle.rules.specs.Words.{cat, tab, rows}
 use Rattle.rules.specs.Image.{Profile, bytes, image}
 use Rattle.rules.specs.Order.{Order, TheOrder}
-use Rattle.rules.specs.Limits.{tables, limit, planned, planner-tables, Gives, Late}
+use Rattle.rules.specs.Limits.{tables, limit-by, planned, planner-tables, Gives, Late}
 use Rattle.rules.specs.Refusals.{_blames_below_, First, Refuses, LoopFault, image-checks}
 use Rattle.rules.specs.Run.{Run}
 use Rattle.rules.specs.Dry.{before, level-of}
@@ -47,6 +47,19 @@ eight = record {
   deadline = λ a. getD (9 ∷ 6 ∷ 5 ∷ []) a 0;
   average = λ a q. 2;
   worst = λ a q. 2;
+}
+
+-- Falling: a chain of four, cycle 20, deadlines 0; average/worst at level 0, then at level 1: 8/8 and 8/8, 1/2 and 6/12, 1/2 and 2/3, 1/2 and 4/14. Its
+-- 2005 limit at level 1 falls from position 2 to 3.
+abbrev pub falling : Profile
+falling = record {
+  n = 4;
+  levels = 2;
+  cycle = 20;
+  mask = λ a. getD (0 ∷ 1 ∷ 2 ∷ 4 ∷ []) a 0;
+  deadline = λ a. 0;
+  average = λ a q. by-level (getD (8 ∷ 1 ∷ 1 ∷ 1 ∷ []) a 0) (getD (8 ∷ 6 ∷ 2 ∷ 4 ∷ []) a 0) q;
+  worst = λ a q. by-level (getD (8 ∷ 2 ∷ 2 ∷ 2 ∷ []) a 0) (getD (8 ∷ 12 ∷ 3 ∷ 14 ∷ []) a 0) q;
 }
 
 -- Around: 1 and 2 each come before the other; 0 leads into this loop, 3 comes after it.
@@ -96,34 +109,40 @@ abbrev pub recorded : ℕ → List (List ℕ) → List ℕ
 recorded L [] = []
 recorded L (f ∷ fs) = cat (λ i. cat (λ q. bytes duration-bytes (getD f i 0)) L) (length f) ++ recorded L fs
 
-abbrev pub Answers : (F : Profile) (question : Question) → Reply question → Type 0
-Answers F written reply = image F ≡ reply
-Answers F checked reply = First (image-checks (image F)) reply
-Answers F ordered reply = (o : Order (F .n)) × TheOrder F o × (tab (o .at) (F .n) ≡ reply)
-Answers F printed reply = (o : Order (F .n)) × TheOrder F o × (rows (limit (tables F o)) (F .n) (F .levels) ≡ reply)
-Answers F (asked i t) reply =
-    (o : Order (F .n)) × TheOrder F o × (Gives (planned (tables F o)) t i (reply .0) × ((reply .1 ≡ true) ↔ Late (planned (tables F o)) t i))
-Answers F (run durations) reply =
+abbrev pub Answers : (F : Profile) (policy : ℕ) (question : Question) → Reply question → Type 0
+Answers F policy written reply = image F ≡ reply
+Answers F policy checked reply = First (image-checks (image F)) reply
+Answers F policy ordered reply = (o : Order (F .n)) × TheOrder F o × (tab (o .at) (F .n) ≡ reply)
+Answers F policy printed reply = (o : Order (F .n)) × TheOrder F o × (rows (limit-by policy (tables F o)) (F .n) (F .levels) ≡ reply)
+Answers F policy (asked i t) reply =
+    (o : Order (F .n)) × TheOrder F o
+    × (let P = planned policy (tables F o) in Gives P t i (reply .0) × ((reply .1 ≡ true) ↔ Late P t i))
+Answers F policy (run durations) reply =
     (o : Order (F .n)) × TheOrder F o
     × (let S = tables F o in
     let d : ℕ → ℕ → ℕ = λ i q. getD durations i 0 in
-    let end : Run = before longest-coast (planned S) (S .worst) d 0 (S .n) in
-    (tab (level-of longest-coast (planned S) (S .worst) d 0) (S .n) ≡ reply .0) × ((end .decisions ≡ reply .1) × (end .clock ≡ reply .2)))
-Answers F (rehearsed durations) reply =
+    let end : Run = before longest-coast (planned policy S) (S .worst) d 0 (S .n) in
+    (tab (level-of longest-coast (planned policy S) (S .worst) d 0) (S .n) ≡ reply .0) × ((end .decisions ≡ reply .1) × (end .clock ≡ reply .2)))
+Answers F policy (rehearsed durations) reply =
     (o : Order (F .n)) × TheOrder F o
-    × (let ls : List Line = lines (F .n) (F .levels) (planner-tables F o) (recorded (F .levels) durations) in
+    × (let ls : List Line = lines (F .n) (F .levels) (planner-tables policy F o) (recorded (F .levels) durations) in
     (ls ≡ reply .0) × (totals ls ≡ reply .1))
-Answers F (read i k q t) reply = (o : Order (F .n)) × TheOrder F o × (reading (tables F o) i k q t ≡ reply)
+Answers F policy (read i k q t) reply = (o : Order (F .n)) × TheOrder F o × (reading (tables F o) i k q t ≡ reply)
 
 pub record Case : Type 0 where
   pub profile : Profile
+  pub policy : ℕ
   pub question : Question
   pub reply : Reply question
 
 -- ---- the cases
 
+-- by the policy of 2008, and by that of 2005
 abbrev pub of : (F : Profile) (question : Question) → Reply question → Case
-of F question reply = record { profile = F; question = question; reply = reply }
+of F question reply = record { profile = F; policy = policy-2008; question = question; reply = reply }
+
+abbrev pub in-2005 : (F : Profile) (question : Question) → Reply question → Case
+in-2005 F question reply = record { profile = F; policy = policy-2005; question = question; reply = reply }
 
 -- an action's record of Three after its mask: no deadline, then average and worst by level
 abbrev pub times : List ℕ → List ℕ
@@ -168,12 +187,19 @@ cases =
     ∷ of (unrolled (three 40) 2) printed (
     pos 16 ∷ pos 2 ∷ pos 20 ∷ pos 8 ∷ pos 24 ∷ pos 14 ∷ pos 28 ∷ pos 20 ∷ pos 32 ∷ pos 26 ∷ pos 36 ∷ pos 32 ∷ []
     )
+    -- Three by the policy of 2005, where at position 1, time 7 level 1 fits that in 2008 does not (4)
+    ∷ in-2005 (three 20) printed (pos 8 ∷ pos 2 ∷ pos 12 ∷ pos 8 ∷ pos 16 ∷ pos 12 ∷ [])
+    ∷ in-2005 (three 20) (asked 1 7) (1, false)
+    -- Falling: the limits fall along the order, and at position 1, time 8, a coast tested at its ends alone would keep level 0 at position 2 too
+    ∷ in-2005 falling printed (pos 6 ∷ pos 0 ∷ pos 14 ∷ pos 4 ∷ pos 16 ∷ pos 14 ∷ pos 18 ∷ pos 6 ∷ [])
+    ∷ in-2005 falling (run (8 ∷ 2 ∷ 2 ∷ 2 ∷ [])) (1 ∷ 0 ∷ 1 ∷ 0 ∷ [], 4, 14)
+    ∷ of falling (run (8 ∷ 2 ∷ 2 ∷ 2 ∷ [])) (0 ∷ 0 ∷ 0 ∷ 0 ∷ [], 2, 14)
     ∷ []
 
 -- every listed case holds
 abbrev pub AllHold : List Case → Type 0
 AllHold [] = Unit {0}
-AllHold (c ∷ cs) = Answers (c .profile) (c .question) (c .reply) × AllHold cs
+AllHold (c ∷ cs) = Answers (c .profile) (c .policy) (c .question) (c .reply) × AllHold cs
 
 -- Around is refused with 8, and of the actions on its loop 1 is the lowest.
 abbrev pub AroundRefused : Type 0

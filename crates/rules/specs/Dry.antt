@@ -3,11 +3,11 @@ use Prim.Native.Nat.{ℕ, zero, suc, _+_, _*_, _<_}
 use mathlib.Core.Bool.{Bool}
 use mathlib.Core.List.{List, [], _∷_, _++_}
 use lib.ListN.{getD}
-use Rattle.rules.specs.Numbers.{longest-time, longest-coast, refused-count, refused-duration, refused-room}
+use Rattle.rules.specs.Numbers.{longest-time, longest-coast, refused-count, refused-duration, refused-room, refused-policy}
 use Rattle.rules.specs.Words.{tab, one-if}
 use Rattle.rules.specs.Limits.{LentTables, Plan}
 use Rattle.rules.specs.Image.{profile}
-use Rattle.rules.specs.Refusals.{Ground, _when_, CountsOut, Tight, image-checks}
+use Rattle.rules.specs.Refusals.{Ground, _when_, CountsOut, Tight, UnknownPolicy, image-checks}
 use Rattle.rules.specs.Run.{Run, begun, decides, given, ended, lent}
 
 -- An action asked for, and reported when the duration d (position, level) has passed; w has the worst times by position and level.
@@ -54,7 +54,11 @@ LongEntry cells durations = (k : ℕ) × (k < cells) × (longest-time < getD dur
 abbrev pub dry-call : ℕ → ℕ → List ℕ → List (ℕ × ℕ) → List Ground
 dry-call n L durations rooms = refused-count when CountsOut n L ∷ refused-room when Tight rooms ∷ refused-duration when LongEntry (n * L) durations ∷ []
 
--- Of an image and durations: the image's, then 17, 16.
-abbrev pub frame-call : List ℕ → List ℕ → List (ℕ × ℕ) → List Ground
-frame-call s durations rooms =
-    image-checks s ++ (refused-room when Tight rooms ∷ refused-duration when LongEntry (profile s .n * profile s .levels) durations ∷ [])
+-- Of an image, a policy and durations: the image's, then 20, 17, 16.
+abbrev pub frame-call : List ℕ → ℕ → List ℕ → List (ℕ × ℕ) → List Ground
+frame-call s policy durations rooms =
+    image-checks s
+    ++ (refused-policy when UnknownPolicy policy
+    ∷ refused-room when Tight rooms
+    ∷ refused-duration when LongEntry (profile s .n * profile s .levels) durations
+    ∷ [])

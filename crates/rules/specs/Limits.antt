@@ -4,11 +4,11 @@ use mathlib.Core.Path.{_≡_}
 use mathlib.Core.Bool.{cond}
 use mathlib.Core.List.{List}
 use mathlib.Core.Logic.{_⊎_}
-use lib.Dec.{ltb}
+use lib.Dec.{eqb, ltb}
 use lib.IntN.{ℤ, pos, negsuc, _-ℤ_}
 use lib.Signed.{_≤ℤ_}
-use Rattle.rules.specs.Numbers.{longest-coast}
-use Rattle.rules.specs.Words.{span, greatest-of, least-of, cat, tab, rows}
+use Rattle.rules.specs.Numbers.{longest-coast, policy-2005}
+use Rattle.rules.specs.Words.{span, greatest-of, minZ, least-of, cat, tab, rows}
 use Rattle.rules.specs.Image.{Profile, due}
 use Rattle.rules.specs.Order.{Order}
 
@@ -50,6 +50,23 @@ mixed S i k q = average S i k q + margin S i k q
 unfoldable pub limit : Tables → ℕ → ℕ → ℤ
 limit S i q = least-of (λ k. pos (S .deadline k) -ℤ pos (mixed S i k q)) i (S .n - 1 - i)
 
+-- ---- the 2005 policy (E5): a level must pass two tests, the average sums alone and the safe sums alone, each against every deadline to come
+
+-- the limit of the sums c (i, k, q): the least deadline (k) - c (i, k, q) over k from i to n - 1
+abbrev pub limit-of-sums : Tables → (ℕ → ℕ → ℕ → ℕ) → ℕ → ℕ → ℤ
+limit-of-sums S c i q = least-of (λ k. pos (S .deadline k) -ℤ pos (c i k q)) i (S .n - 1 - i)
+
+-- the lesser of the two tests' limits
+unfoldable pub limit-2005 : Tables → ℕ → ℕ → ℤ
+limit-2005 S i q = minZ (limit-of-sums S (average S) i q) (limit-of-sums S (safe S) i q)
+
+-- The limit of the policy chosen at planning, by its year. Any other year than 2008 and 2005 is refused, so that it does not matter which limit it
+-- would have.
+abbrev pub limit-by : ℕ → Tables → ℕ → ℕ → ℤ
+limit-by policy S = cond (eqb policy policy-2005) (limit-2005 S) (limit S)
+
+-- ---- coast bounds, of either policy
+
 -- -2,147,483,648
 abbrev pub absent : ℤ
 absent = negsuc 2147483647
@@ -71,16 +88,16 @@ pub record LentTables : Type 0 where
   pub bounds : List ℤ
 
 -- the coast bounds by position, level and length from 1 to 16
-abbrev pub coast-bounds : Tables → ℕ → ℕ → List ℤ
-coast-bounds S n L = cat (λ i. rows (λ q x. coast-bound S (limit S) i q (suc x)) L longest-coast) n
+abbrev pub coast-bounds : Tables → (ℕ → ℕ → ℤ) → ℕ → ℕ → List ℤ
+coast-bounds S limit n L = cat (λ i. rows (λ q x. coast-bound S limit i q (suc x)) L longest-coast) n
 
--- The planner writes the order, the limits, the worst times by position and level, and the coast bounds.
-abbrev pub planner-tables : (F : Profile) → Order (F .n) → LentTables
-planner-tables F o = record {
+-- The planner writes the order, the limits of the chosen policy, the worst times by position and level, and the coast bounds.
+abbrev pub planner-tables : ℕ → (F : Profile) → Order (F .n) → LentTables
+planner-tables policy F o = record {
   order = tab (o .at) (F .n);
-  limits = rows (limit (tables F o)) (F .n) (F .levels);
+  limits = rows (limit-by policy (tables F o)) (F .n) (F .levels);
   worst = rows (tables F o .worst) (F .n) (F .levels);
-  bounds = coast-bounds (tables F o) (F .n) (F .levels);
+  bounds = coast-bounds (tables F o) (limit-by policy (tables F o)) (F .n) (F .levels);
 }
 
 -- ---- what the manager reads
@@ -92,12 +109,12 @@ pub record Plan : Type 0 where
   pub limit : ℕ → ℕ → ℤ
   pub bound : ℕ → ℕ → ℕ → ℤ
 
--- The plan by any limits, and the planner's.
+-- The plan by any limits, and the planner's by the chosen policy.
 abbrev pub plan-by : Tables → (ℕ → ℕ → ℤ) → Plan
 plan-by S limit = record { n = S .n; levels = S .levels; limit = limit; bound = coast-bound S limit }
 
-abbrev pub planned : Tables → Plan
-planned S = plan-by S (limit S)
+abbrev pub planned : ℕ → Tables → Plan
+planned policy S = plan-by S (limit-by policy S)
 
 -- The manager asked at position i and time t gives the greatest q with t at most limit (i, q); if there is none, level 0 with the late mark.
 pub record Gives (P : Plan) (t i q : ℕ) : Type 0 where

@@ -43,6 +43,14 @@ most-repeats = 1620
 abbrev pub most-positions : ℕ
 most-positions = 103680
 
+-- ---- the policies, by their year
+
+abbrev pub policy-2008 : ℕ
+policy-2008 = 2008
+
+abbrev pub policy-2005 : ℕ
+policy-2005 = 2005
+
 -- ---- the image's header, 48 bits: version 4, actions 7, levels 4, cycle 30, spare 3
 
 -- the one version there is
@@ -177,3 +185,6 @@ refused-reading = 18
 
 abbrev pub refused-repeats : ℕ
 refused-repeats = 19
+
+abbrev pub refused-policy : ℕ
+refused-policy = 20

@@ -5,11 +5,11 @@ use mathlib.Core.List.{List, [], _∷_, _++_, map}
 use mathlib.Core.Logic.{_⊎_, _≢_}
 use lib.Dec.{leb}
 use lib.ListN.{length, getD, take, drop}
-use Rattle.rules.specs.Numbers.{most-actions, most-levels, longest-time, longest-coast, most-frames, duration-bytes, refused-count, refused-turn, refused-trace, refused-duration, refused-room}
+use Rattle.rules.specs.Numbers.{most-actions, most-levels, longest-time, longest-coast, most-frames, duration-bytes, refused-count, refused-turn, refused-trace, refused-duration, refused-room, refused-policy}
 use Rattle.rules.specs.Words.{tab, one-if, all-pass, every}
 use Rattle.rules.specs.Image.{be, profile}
 use Rattle.rules.specs.Limits.{LentTables}
-use Rattle.rules.specs.Refusals.{Ground, _when_, CountsOut, Tight, image-checks}
+use Rattle.rules.specs.Refusals.{Ground, _when_, CountsOut, Tight, UnknownPolicy, image-checks}
 use Rattle.rules.specs.Run.{Run, lent}
 use Rattle.rules.specs.Dry.{level-of, cell, dry-end, LongEntry}
 
@@ -157,10 +157,14 @@ sums n L T fs = record {
 abbrev pub NotFrames : ℕ → ℕ → ℕ → Type 0
 NotFrames n L bytes = (bytes % frame-bytes n L ≢ 0) ⊎ (most-frames < bytes / frame-bytes n L)
 
--- A recording of so many bytes against an image: the image's, then 14, then 17.
-abbrev pub recording-call : List ℕ → ℕ → List (ℕ × ℕ) → List Ground
-recording-call s bytes rooms =
-    image-checks s ++ (refused-trace when NotFrames (profile s .n) (profile s .levels) bytes ∷ refused-room when Tight rooms ∷ [])
+-- A recording of so many bytes against an image by a policy: the image's, then 20, 14, 17.
+abbrev pub recording-call : List ℕ → ℕ → ℕ → List (ℕ × ℕ) → List Ground
+recording-call s policy bytes rooms =
+    image-checks s
+    ++ (refused-policy when UnknownPolicy policy
+    ∷ refused-trace when NotFrames (profile s .n) (profile s .levels) bytes
+    ∷ refused-room when Tight rooms
+    ∷ [])
 
 -- A frame on totals: out of range 11, a frame too many 14; then a dry run's 3, 17, 16.
 abbrev pub recorded-call : Totals → ℕ → ℕ → List ℕ → List (ℕ × ℕ) → List Ground

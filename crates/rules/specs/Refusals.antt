@@ -6,7 +6,7 @@ use mathlib.Core.List.{List, [], _∷_, _++_}
 use mathlib.Core.Logic.{_⊎_, _≢_}
 use lib.Dec.{eqb}
 use lib.ListN.{length}
-use Rattle.rules.specs.Numbers.{most-actions, most-levels, last-clock, longest-time, first-version, header-bytes, refused-short, refused-version, refused-count, refused-length, refused-spare, refused-range, refused-table, refused-loop, refused-unfit, refused-name, refused-room}
+use Rattle.rules.specs.Numbers.{most-actions, most-levels, last-clock, longest-time, policy-2008, policy-2005, first-version, header-bytes, refused-short, refused-version, refused-count, refused-length, refused-spare, refused-range, refused-table, refused-loop, refused-unfit, refused-name, refused-room, refused-policy}
 use Rattle.rules.specs.Words.{Some}
 use Rattle.rules.specs.Image.{Profile, has, version, header-spare, spare-of, image-bytes, profile}
 use Rattle.rules.specs.Order.{OnLoop, Before, Fit}
@@ -177,9 +177,17 @@ abbrev pub Tight : List (ℕ × ℕ) → Type 0
 Tight [] = ⊥
 Tight (r ∷ rest) = (r .0 < r .1) ⊎ Tight rest
 
--- Reading and planning: the image's, then 17.
+-- Reading: the image's, then 17.
 abbrev pub image-call : List ℕ → List (ℕ × ℕ) → List Ground
 image-call s rooms = image-checks s ++ (refused-room when Tight rooms ∷ [])
+
+-- 20 Policy: a policy other than those of 2008 and 2005
+abbrev pub UnknownPolicy : ℕ → Type 0
+UnknownPolicy policy = (policy ≢ policy-2008) × (policy ≢ policy-2005)
+
+-- Planning by a policy: the image's, 20, then 17.
+abbrev pub plan-call : List ℕ → ℕ → List (ℕ × ℕ) → List Ground
+plan-call s policy rooms = image-checks s ++ (refused-policy when UnknownPolicy policy ∷ refused-room when Tight rooms ∷ [])
 
 -- Lookup of action a: the image's, then 15.
 abbrev pub lookup-call : List ℕ → ℕ → List Ground

@@ -2,18 +2,18 @@
 -- is a profile as any other: its order, limits, coast bounds and demand 3 are those of the other files.
 use Prim.Native.Nat.{ℕ, zero, suc, _+_, _-_, _*_, _/_, _%_, _^_, _<_, max, min}
 use mathlib.Core.Path.{_≡_}
-use mathlib.Core.Bool.{Bool, cond, _&&_, _||_}
+use mathlib.Core.Bool.{Bool, not, cond, _&&_, _||_}
 use mathlib.Core.List.{List, [], _∷_, _++_}
 use mathlib.Core.Logic.{_⊎_, _≢_}
 use lib.Dec.{leb, ltb, eqb}
 use lib.IntN.{ℤ, pos, negsuc, _-ℤ_}
 use lib.ListN.{length, getD}
-use Rattle.rules.specs.Numbers.{most-actions, most-levels, last-clock, most-repeats, longest-coast, summary-numbers, refused-count, refused-unfit, refused-duration, refused-room, refused-reading, refused-repeats}
+use Rattle.rules.specs.Numbers.{most-actions, most-levels, last-clock, most-repeats, longest-coast, policy-2008, policy-2005, summary-numbers, refused-count, refused-unfit, refused-duration, refused-room, refused-reading, refused-repeats, refused-policy}
 use Rattle.rules.specs.Words.{span, greatest-of, maxZ, least-of, every, Some, cat, tab, rows}
 use Rattle.rules.specs.Image.{Profile, profile}
 use Rattle.rules.specs.Order.{Order, TheOrder}
 use Rattle.rules.specs.Limits.{Tables, tables, safe, average, Plan}
-use Rattle.rules.specs.Refusals.{Ground, _when_, Test, _if_, first, Count, Range, Table, Unfit, loop-checks, Tight}
+use Rattle.rules.specs.Refusals.{Ground, _when_, Test, _if_, first, Count, Range, Table, Unfit, loop-checks, Tight, UnknownPolicy}
 use Rattle.rules.specs.Run.{Run, begun, in-cycle, Next, Answer, ask-row, asked-by, report-row, reported-by}
 use Rattle.rules.specs.Dry.{cell, LongEntry}
 use Rattle.rules.specs.declared.Body.{Body}
@@ -46,9 +46,9 @@ Repeats F N = RepeatsOut N ⊎ Some (OwnDeadline F) (F .n)
 abbrev pub body-checks : List ℕ → ℕ → List Ground
 body-checks s N = loop-checks s ++ (refused-repeats when Repeats (profile s) N ∷ refused-unfit when Unfit (unrolled (profile s) N) ∷ [])
 
--- Planning one: these, then 17.
-abbrev pub body-call : List ℕ → ℕ → List (ℕ × ℕ) → List Ground
-body-call s N rooms = body-checks s N ++ (refused-room when Tight rooms ∷ [])
+-- Planning one by a policy: these, 20, then 17.
+abbrev pub body-call : List ℕ → ℕ → ℕ → List (ℕ × ℕ) → List Ground
+body-call s N policy rooms = body-checks s N ++ (refused-policy when UnknownPolicy policy ∷ refused-room when Tight rooms ∷ [])
 
 -- ---- summaries
 
@@ -107,6 +107,38 @@ bodies x (suc m) = of (record {
   worst = suc m * x .worst;
 })
 
+-- ---- summaries in 2005
+
+-- The averages and the level 0 worst times are all that it needs of a stretch. In the place of M stands the safe sum of its first position: the worst
+-- time of that at q and the level 0 worst times of those after it.
+abbrev pub stretch-2005 : Tables → ℕ → ℕ → ℕ → Sums
+stretch-2005 S q i k = record {
+  average = stretch S q i k .average;
+  lowest = stretch S q i k .lowest;
+  mix = safe S i k q;
+  worst = stretch S q i k .worst;
+}
+
+abbrev pub stretch-by : ℕ → Tables → ℕ → ℕ → ℕ → Sums
+stretch-by policy S = cond (eqb policy policy-2005) (stretch-2005 S) (stretch S)
+
+-- one after another: M is joined as above, the safe sum grows by the level 0 worst times
+abbrev pub joined-by : ℕ → Sums → Sums → Sums
+joined-by policy x y = record {
+  average = x .average + y .average;
+  lowest = x .lowest + y .lowest;
+  mix = cond (eqb policy policy-2005) (x .mix + y .lowest) (max (x .mix + y .lowest) (x .average + y .mix));
+  worst = x .worst + y .worst;
+}
+
+-- What the limit takes off the cycle for a stretch and m bodies after it: in 2008 M of them all; in 2005 the greater of the safe sum and the averages
+-- of them all.
+abbrev pub needed-2005 : Sums → Sums → ℕ → ℕ
+needed-2005 x y m = max (x .mix + m * y .lowest) (x .average + m * y .average)
+
+abbrev pub needed : ℕ → Sums → Sums → ℕ → ℕ
+needed policy x y m = cond (eqb policy policy-2005) (needed-2005 x y m) (followed x (bodies y m) .mix)
+
 -- ---- what planning a body writes
 
 -- As it is lent to a call, whoever wrote it: the order, n; by position and level the summaries of the rest of the body, n by L by 4; the worst
@@ -120,17 +152,17 @@ abbrev pub numbers-of : Sums → List ℕ
 numbers-of x = x .average ∷ x .lowest ∷ x .mix ∷ x .worst ∷ []
 
 -- the rest of the body from a position at a level
-abbrev pub rest-of : Tables → ℕ → ℕ → Sums
-rest-of S i q = stretch S q i (S .n - 1)
+abbrev pub rest-of : ℕ → Tables → ℕ → ℕ → Sums
+rest-of policy S i q = stretch-by policy S q i (S .n - 1)
 
 -- by level
-abbrev pub summaries-from : Tables → ℕ → ℕ → List ℕ
-summaries-from S L i = cat (λ q. numbers-of (rest-of S i q)) L
+abbrev pub summaries-from : ℕ → Tables → ℕ → ℕ → List ℕ
+summaries-from policy S L i = cat (λ q. numbers-of (rest-of policy S i q)) L
 
-abbrev pub body-tables : (F : Profile) → Order (F .n) → LentBody
-body-tables F o = record {
+abbrev pub body-tables : ℕ → (F : Profile) → Order (F .n) → LentBody
+body-tables policy F o = record {
   order = tab (o .at) (F .n);
-  summaries = cat (summaries-from (tables F o) (F .levels)) (F .n);
+  summaries = cat (summaries-from policy (tables F o) (F .levels)) (F .n);
   worst = rows (tables F o .worst) (F .n) (F .levels);
 }
 
@@ -139,20 +171,17 @@ body-tables F o = record {
 abbrev pub positions : Body → ℕ
 positions b = b .repeats * b .n
 
--- the body of a profile, N times
-abbrev pub body-of : Profile → ℕ → Body
-body-of F N = record { n = F .n; levels = F .levels; cycle = F .cycle; repeats = N }
+-- the body of a profile, N times, by a policy
+abbrev pub body-of : Profile → ℕ → ℕ → Body
+body-of F N policy = record { n = F .n; levels = F .levels; cycle = F .cycle; repeats = N; policy = policy }
 
--- All positions from x on, where `rest` has the summaries of the rest of a body: those of its own body, then the whole bodies after it
-abbrev pub sums-from : Body → (ℕ → ℕ → Sums) → ℕ → ℕ → Sums
-sums-from b rest x q = followed (rest (x % b .n) q) (bodies (rest 0 q) (b .repeats - 1 - x / b .n))
-
--- M of them, and V
+-- All positions from x on, where `rest` has the summaries of the rest of a body: those of its own body, then the whole bodies after it. What the limit
+-- takes off the cycle for them (M in 2008), and V of them
 unfoldable pub mix-from : Body → (ℕ → ℕ → Sums) → ℕ → ℕ → ℕ
-mix-from b rest x q = sums-from b rest x q .mix
+mix-from b rest x q = needed (b .policy) (rest (x % b .n) q) (rest 0 q) (b .repeats - 1 - x / b .n)
 
 unfoldable pub worst-from : Body → (ℕ → ℕ → Sums) → ℕ → ℕ → ℕ
-worst-from b rest x q = sums-from b rest x q .worst
+worst-from b rest x q = followed (rest (x % b .n) q) (bodies (rest 0 q) (b .repeats - 1 - x / b .n)) .worst
 
 -- The limit at a position, and the coast bound by these limits: as in any plan the least, over the positions j of the coast, of limit (j, q)
 -- minus the worst times before j.
@@ -167,8 +196,8 @@ body-plan b rest worst = record {
   bound = λ i q r. least-of (λ j. limit-from b rest j q -ℤ pos (span (λ p. worst (p % b .n) q) i j)) i (r - 1);
 }
 
--- A coast read by its ends, its first and its last position alone: the cycle must have room for M from the first on, and for the worst times
--- before the last and M from that on. These worst times are V from the first on less V from the last on, and 0 where that is the greater.
+-- A coast read by its ends, its first and its last position alone: the cycle must have room for what the limit of the first takes off it, and for the
+-- worst times before the last and what the limit of that takes off it. These worst times are V from the first on less V from the last on, and 0 where that is the greater.
 abbrev pub last-mix : Body → (ℕ → ℕ → Sums) → ℕ → ℕ → ℕ → ℕ
 last-mix b rest i q r = let last : ℕ = i + (r - 1) in worst-from b rest i q - worst-from b rest last q + mix-from b rest last q
 
@@ -217,10 +246,11 @@ pub record PlannedBody (F : Profile) (o : Order (F .n)) (b : Body) (T : LentBody
   pub table : Table F → ⊥
   pub repeats : Repeats F (b .repeats) → ⊥
   pub fits : Unfit (unrolled F (b .repeats)) → ⊥
+  pub known : UnknownPolicy (b .policy) → ⊥
   pub the-order : TheOrder F o
-  pub body-is : b ≡ body-of F (b .repeats)
+  pub body-is : b ≡ body-of F (b .repeats) (b .policy)
   pub order-is : (i : ℕ) → i < F .n → getD (T .order) i 0 ≡ o .at i
-  pub summaries-are : (i q : ℕ) → i < F .n → q < F .levels → stretch-at (T .summaries) (i * F .levels + q) ≡ rest-of (tables F o) i q
+  pub summaries-are : (i q : ℕ) → i < F .n → q < F .levels → stretch-at (T .summaries) (i * F .levels + q) ≡ rest-of (b .policy) (tables F o) i q
   pub worst-is : (i q : ℕ) → i < F .n → q < F .levels → cell (T .worst) (F .levels) i q ≡ tables F o .worst i q
 
 -- ---- the calls, on lent summaries whoever wrote them
@@ -232,6 +262,11 @@ body-tests b =
     ∷ refused-repeats if (ltb (b .repeats) 1 || ltb most-repeats (b .repeats))
     ∷ []
 
+-- An unknown policy 20: at a start, of a limit and of a coast bound. A record that was started has a known one; in any record, as in every limit, 2005
+-- is read as it is and any other year as 2008.
+abbrev pub known-tests : Body → List Test
+known-tests b = body-tests b ++ (refused-policy if (not (eqb (b .policy) policy-2008) && not (eqb (b .policy) policy-2005)) ∷ [])
+
 -- The limit at a position and level, and the coast bound at a length too: room 17, an absent position or level 18, and a length outside 1 to
 -- 16. A coast that would go past the last position has the least number of 64 bits, -9,223,372,036,854,775,808.
 abbrev pub absent-long : ℤ
@@ -240,14 +275,14 @@ absent-long = negsuc 9223372036854775807
 unfoldable pub body-limit-refusal : Body → List ℕ → ℕ → ℕ → ℕ
 body-limit-refusal b summaries i q =
     first
-    (body-tests b
+    (known-tests b
     ++ (refused-room if ltb (length summaries) (b .n * b .levels * summary-numbers) ∷ refused-reading if (leb (positions b) i || leb (b .levels) q) ∷ []))
 
 unfoldable pub body-bound-refusal : Body → LentBody → ℕ → ℕ → ℕ → ℕ
 body-bound-refusal b T i q r =
     let cells : ℕ = b .n * b .levels in
     first
-    (body-tests b
+    (known-tests b
     ++ (refused-room if (ltb (length (T .summaries)) (cells * summary-numbers) || ltb (length (T .worst)) cells)
     ∷ refused-reading if (leb (positions b) i || leb (b .levels) q || ltb r 1 || ltb longest-coast r)
     ∷ []))
@@ -259,15 +294,15 @@ bound-or-absent P i q r = cond (ltb (P .n - i) r) absent-long (P .bound i q r)
 unfoldable pub body-in-range : Body → Run → Bool
 body-in-range b r = eqb (first (body-tests b)) 0 && every (in-cycle r)
 
--- A start gives 3 or 19, and then a record of zero actions.
+-- A start gives 3, 19 or 20, and then a record of zero actions.
 abbrev pub no-body : Body
-no-body = record { n = 0; levels = 0; cycle = 0; repeats = 0 }
+no-body = record { n = 0; levels = 0; cycle = 0; repeats = 0; policy = 0 }
 
 unfoldable pub body-start : Body → Body × Next
 body-start b =
-    cond (eqb (first (body-tests b)) 0)
+    cond (eqb (first (known-tests b)) 0)
     (b, record { number = 0; run = begun (positions b) (b .levels) 0 })
-    (no-body, record { number = first (body-tests b); run = begun 0 0 0 })
+    (no-body, record { number = first (known-tests b); run = begun 0 0 0 })
 
 -- The action at a position is told by its number in the unrolled system.
 abbrev pub action-at : ℕ → List ℕ → ℕ → ℕ
@@ -290,7 +325,11 @@ body-report b worst t r = reported-by (body-report-refusal b worst t r) (cell wo
 
 -- ---- a frame run dry
 
--- Of an image, N and n N by L durations by position: the body's, then 17, 16.
-abbrev pub body-frame-call : List ℕ → ℕ → List ℕ → List (ℕ × ℕ) → List Ground
-body-frame-call s N durations rooms =
-    body-checks s N ++ (refused-room when Tight rooms ∷ refused-duration when LongEntry (N * profile s .n * profile s .levels) durations ∷ [])
+-- Of an image, N, a policy and n N by L durations by position: the body's, then 20, 17, 16.
+abbrev pub body-frame-call : List ℕ → ℕ → ℕ → List ℕ → List (ℕ × ℕ) → List Ground
+body-frame-call s N policy durations rooms =
+    body-checks s N
+    ++ (refused-policy when UnknownPolicy policy
+    ∷ refused-room when Tight rooms
+    ∷ refused-duration when LongEntry (N * profile s .n * profile s .levels) durations
+    ∷ [])

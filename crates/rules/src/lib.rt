@@ -24,6 +24,12 @@ pub const MOST_REPEATS: u32 = 1_620;
 // What a limit or a coast bound of 64 bits is where there is none.
 pub const ABSENT_LONG: i64 = -9_223_372_036_854_775_808;
 
+// ---- the policies, by their year
+
+pub const POLICY_2008: u32 = 2_008;
+
+pub const POLICY_2005: u32 = 2_005;
+
 // ---- the image's header, 48 bits: version 4, actions 7, levels 4, cycle 30, spare 3
 
 pub const HEADER_BYTES: usize = 6;
@@ -74,13 +80,14 @@ pub const DURATION_BYTES: usize = 4;
 
 pub const SUMMARY_NUMBERS: usize = 4;
 
-// What every call over a body repeated takes of it: n, L and the cycle of the body, and how often it is repeated.
+// What every call over a body repeated takes of it: n, L and the cycle of the body, how often it is repeated, and by which policy it was planned.
 #[repr(C)]
 pub struct Body {
     pub n: u32,
     pub levels: u32,
     pub cycle: u32,
     pub repeats: u32,
+    pub policy: u32,
 }
 
 // ---- refusals
@@ -138,3 +145,5 @@ pub const REFUSED_ROOM: u32 = 17;
 pub const REFUSED_READING: u32 = 18;
 
 pub const REFUSED_REPEATS: u32 = 19;
+
+pub const REFUSED_POLICY: u32 = 20;

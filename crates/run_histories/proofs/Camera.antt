@@ -65,7 +65,8 @@ module _ {T : LentTables} where
 
 -- ---- demand 3
 
-module _ {s : List ℕ} {B T : LentTables} {p : Planned} {b : Started} {l : List Made} {r : Run} (c : CameraCycle s B T p b l r) where
+module _ {s : List ℕ} {policy : ℕ} {B T : LentTables} {p : Planned} {b : Started} {l : List Made} {r : Run}
+    (c : CameraCycle s policy B T p b l r) where
   abbrev S : Tables
   S = tables (profile s) (c .plans .o)
 
@@ -108,16 +109,16 @@ module _ {s : List ℕ} {B T : LentTables} {p : Planned} {b : Started} {l : List
   camera-actions = rw (sym askings-are) (actions-are P level 0 (c .plans .o .at) cs on)
 
   -- Demand 3 of the calls that a camera makes, where no accepted report's duration is above worst at the level answered.
-  pub camera-keeps : WithinAnswered (tables (profile s) (c .plans .o)) 0 (made-clocks l) (made-askings l) → CameraKeeps s (c .plans .o) l r
+  pub camera-keeps : WithinAnswered (tables (profile s) (c .plans .o)) 0 (made-clocks l) (made-askings l) → CameraKeeps s policy (c .plans .o) l r
   camera-keeps within = record {
     policy = P;
-    mixed = refl;
+    chosen = refl;
     kept = rw (sym clocks-are, sym askings-are, sym after-is)
         (demand-of-calls P level 0 (c .plans .o .at) cs on (planned-safe (c .plans) (c .planned)) (rw (clocks-are, askings-are) within));
     actions = camera-actions;
   }
 
   -- The same from the overrun mark: where it is not set then, every duration was within worst.
-  pub camera-unmarked : r .overrun ≡ false → CameraKeeps s (c .plans .o) l r
+  pub camera-unmarked : r .overrun ≡ false → CameraKeeps s policy (c .plans .o) l r
   camera-unmarked e = camera-keeps (rw (sym clocks-are, sym askings-are)
       (unmarked-within P level 0 (c .plans .o .at) cs on (ap (λ (x : rules.Run). x .overrun) after-is ∙ e)))

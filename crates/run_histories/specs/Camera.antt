@@ -5,7 +5,7 @@ use mathlib.Core.List.{List, [], _∷_, _++_}
 use lib.ListN.{length}
 use Rattle.rules.specs.Image.{profile}
 use Rattle.rules.specs.Order.{Order}
-use Rattle.rules.specs.Limits.{LentTables, tables, limit}
+use Rattle.rules.specs.Limits.{LentTables, tables, limit-by}
 use Rattle.rules.specs.Run.{start, ask, report}
 use Rattle.rules.specs.Demand.{Policy}
 use Rattle.planner.specs.declared.Planned.{Planned}
@@ -66,19 +66,20 @@ made-askings l = said asking-of l
 abbrev pub made-clocks : List Made → List ℕ
 made-clocks l = said clock-of l
 
--- A cycle as a camera calls it: planning, not refused, which leaves the tables T where B were lent; a start with the counts that it answers; then askings and reports on what it wrote.
-pub record CameraCycle (s : List ℕ) (B T : LentTables) (p : Planned) (b : Started) (l : List Made) (r : Run) : Type 0 where
-  pub plans : Plans s B T p
+-- A cycle as a camera calls it: planning by a policy, not refused, which leaves the tables T where B were lent; a start with the counts that it
+-- answers; then askings and reports on what it wrote.
+pub record CameraCycle (s : List ℕ) (policy : ℕ) (B T : LentTables) (p : Planned) (b : Started) (l : List Made) (r : Run) : Type 0 where
+  pub plans : Plans s policy B T p
   pub planned : p .refusal .number ≡ 0
   pub starts : start-of b ≡ start (p .n) (p .levels)
   pub traced : Traced T (b .run) l r
 
 -- ---- the demand
 
--- Demand 3 of calls made from a start at time 0, on the tables of the image s in the order o, with r the record then: it is kept by the mixed
--- limits, and the actions are the order's.
-pub record CameraKeeps (s : List ℕ) (o : Order (profile s .n)) (l : List Made) (r : Run) : Type 0 where
+-- Demand 3 of calls made from a start at time 0, on the tables of the image s in the order o, with r the record then: it is kept by the limits
+-- of the policy chosen by its year, and the actions are the order's.
+pub record CameraKeeps (s : List ℕ) (year : ℕ) (o : Order (profile s .n)) (l : List Made) (r : Run) : Type 0 where
   pub policy : Policy (tables (profile s) o)
-  pub mixed : policy .limit ≡ limit (tables (profile s) o)
+  pub chosen : policy .limit ≡ limit-by year (tables (profile s) o)
   pub kept : CallsKeep policy 0 (made-clocks l) (made-askings l) (run-of r)
   pub actions : (j : ℕ) → j < length (made-askings l) → asking-at (made-askings l) j .action ≡ o .at j

@@ -1,5 +1,5 @@
-// Outside cases: NNN.profile is an image, NNN.plan what the plan program prints for it, NNN.durations its durations and NNN.dry what the
-// dry-run program prints for both. 000 to 070 come with the rules, the first three of them cases 1 to 3 of its worked values: Three with the
+// Outside cases, by the 2008 policy: NNN.profile is an image, NNN.plan what the plan program prints for it, NNN.durations its durations and NNN.dry
+// what the dry-run program prints for both. 000 to 070 come with the rules, the first three of them cases 1 to 3 of its worked values: Three with the
 // durations 6, 8, 4, then 0, 8, 8, then 8, 4, 8, each at both levels. Those from 071 on are written by the independent program of host/.
 // Last, what the programs print where a file is not there: it is empty, so an image is refused as short and durations are too few.
 use test_kit::read_case;
@@ -18,7 +18,7 @@ fn plan(case: usize, out: &mut [u8]) -> usize
 {
     let mut image = io::buffer();
     let n = read_case(case, b".profile", &mut image);
-    print::plan_text(&image[..n], out)
+    print::plan_text(&image[..n], rules::POLICY_2008, out)
 }
 
 // What the dry-run program prints for the profile of one case and the durations of another.
@@ -29,7 +29,7 @@ fn dry_run(profile: usize, durations: usize, out: &mut [u8]) -> usize
     let n = read_case(profile, b".profile", &mut image);
     let mut bytes = io::buffer();
     let m = read_case(durations, b".durations", &mut bytes);
-    print::dry_text(&image[..n], &bytes[..m], out)
+    print::dry_text(&image[..n], rules::POLICY_2008, &bytes[..m], out)
 }
 
 // Whether the plan of a case is what its file says.

@@ -33,7 +33,14 @@ fn plan_and_tell(image: &[u8], row: [u32; 24]) {
     let mut limits = [0i32; 512];
     let mut worst = [0u32; 512];
     let mut bounds = [0i32; 8192];
-    planner::plan(image, &mut order, &mut limits, &mut worst, &mut bounds);
+    planner::plan(
+        image,
+        rules::POLICY_2008,
+        &mut order,
+        &mut limits,
+        &mut worst,
+        &mut bounds,
+    );
     tell_cycle(row[0], row[1], &order, &limits, &worst, &bounds, row);
 }
 

@@ -23,7 +23,7 @@ fn plan_agrees(case: usize) -> bool {
     let mut image = io::buffer();
     let n = read_case(case, b".profile", &mut image);
     let mut out = io::large_buffer();
-    let k = print::plan_text(&image[..n], &mut out);
+    let k = print::plan_text(&image[..n], rules::POLICY_2008, &mut out);
     let mut want = io::large_buffer();
     let wanted = read_case(case, b".plan", &mut want);
     same(&out[..k], &want[..wanted])
@@ -39,7 +39,7 @@ fn dry_run_agrees(case: usize) -> bool {
     let mut image = io::buffer();
     let n = read_case(case, b".profile", &mut image);
     let mut out = io::large_buffer();
-    let k = print::dry_text(&image[..n], b"", &mut out);
+    let k = print::dry_text(&image[..n], rules::POLICY_2008, b"", &mut out);
     same(&out[..k], &want[..wanted])
 }
 

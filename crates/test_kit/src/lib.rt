@@ -5,8 +5,11 @@ use rules::Fault;
 use text::put_bytes;
 ghost use Prim.Native.Nat.{ℕ, _+_, _≤_, _<_, min};
 ghost use mathlib.Core.Path.{_≡_};
+ghost use mathlib.Core.Bool.{cond};
+ghost use lib.Dec.{eqb};
 ghost use lib.ListN.{length, getD};
 ghost use Rattle.io.specs.Counts.{Counts};
+ghost use Rattle.rules.specs.Numbers.{policy-2008};
 ghost use Rattle.text.specs.Words.{from-word, digits-say, capped};
 
 pub mod samples;
@@ -63,6 +66,13 @@ pub fn part(n: u32, most: usize) -> usize
     ensures { λ r. ⌜ r ≡ min n most ⌝ }
 {
     if n as usize <= most { n as usize } else { most }
+}
+
+// The policy of a case by its year, 2008 where it says none.
+pub fn year(said: u32) -> u32
+    ensures { λ r. ⌜ r ≡ cond (eqb said 0) policy-2008 said ⌝ }
+{
+    if said == 0 { rules::POLICY_2008 } else { said }
 }
 
 // A count. The largest number of 32 bits, which stands for every larger one, stands for the largest count.

@@ -1,4 +1,4 @@
-// The same of a body repeated: Three, in a cycle of 40, which two repeats fit. A case is a line of bodies.txt: `start`, n and how often; `ask`, and
+// The same of a body repeated: Three, in a cycle of 40, which two repeats fit. A case is a line of bodies.txt: `start`, n, how often, and the year, 2008 where there is none; `ask`, and
 // how much of the order is lent; `report`, the clock, and how much of the worst times is lent.
 use crate::end_line;
 use crate::part;
@@ -15,12 +15,19 @@ pub fn tell_all(text: &[u8]) {
     let mut order = [0u8; 3];
     let mut summaries = [0u32; 24];
     let mut worst = [0u32; 6];
-    repeat_planner::plan(&image, 1, &mut order, &mut summaries, &mut worst);
+    repeat_planner::plan(
+        &image,
+        1,
+        rules::POLICY_2008,
+        &mut order,
+        &mut summaries,
+        &mut worst,
+    );
     tell_each(text, order, &summaries, worst);
 }
 
 fn tell_each(text: &[u8], order: [u8; 3], summaries: &[u32], worst: [u32; 6]) {
-    let mut run = BodyRun::start(of_three(0, 0)).run;
+    let mut run = BodyRun::start(of_three(0, 0, rules::POLICY_2008)).run;
     let mut at = 0;
     while at < text.len() {
         let end = words::find(text, at, b'\n');
@@ -29,12 +36,13 @@ fn tell_each(text: &[u8], order: [u8; 3], summaries: &[u32], worst: [u32; 6]) {
     }
 }
 
-fn of_three(n: u32, repeats: u32) -> Body {
+fn of_three(n: u32, repeats: u32, policy: u32) -> Body {
     Body {
         n,
         levels: 2,
         cycle: 40,
         repeats,
+        policy,
     }
 }
 
@@ -47,7 +55,7 @@ fn tell(run: BodyRun, line: &[u8], order: [u8; 3], summaries: &[u32], worst: [u3
     io::write_all(1, line);
     io::write_all(1, b":");
     match line[0] {
-        b's' => start(run, of_three(a, b)),
+        b's' => start(run, of_three(a, b, test_kit::year(words::number(line, 3)))),
         b'a' => ask(run, a, order, summaries, &worst),
         _ => report(run, a, b, worst),
     }

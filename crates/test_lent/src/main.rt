@@ -17,7 +17,14 @@ fn main() {
     let mut limits = [0i32; 6];
     let mut worst = [0u32; 6];
     let mut bounds = [0i32; 96];
-    planner::plan(&image, &mut order, &mut limits, &mut worst, &mut bounds);
+    planner::plan(
+        &image,
+        rules::POLICY_2008,
+        &mut order,
+        &mut limits,
+        &mut worst,
+        &mut bounds,
+    );
     let mut text = io::large_buffer();
     let n = files::read_file(b"cases.txt", &mut text);
     tell_each(&text[..n], order, &limits, worst, &bounds);

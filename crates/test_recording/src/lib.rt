@@ -27,7 +27,7 @@ pub fn tell(line: &[u8]) {
 
 // ---- opened
 
-// A profile, the bytes of the recording, and how much there is of order, limits, worst times and bounds.
+// A profile, the bytes of the recording, how much there is of order, limits, worst times and bounds, and the year.
 fn tell_open(line: &[u8]) {
     let mut image = [0u8; 78];
     let n = test_kit::sample(line, &mut image);
@@ -45,6 +45,7 @@ fn open(image: &[u8], row: [u32; 24]) {
     let d = part(row[4], 96);
     let opened = recording::open(
         image,
+        test_kit::year(row[5]),
         count(row[0]),
         &mut order[0..a],
         &mut limits[0..b],
@@ -86,7 +87,14 @@ fn tell_frame(row: [u32; 24]) {
     let mut limits = [0i32; 6];
     let mut worst = [0u32; 6];
     let mut bounds = [0i32; 96];
-    planner::plan(&image, &mut order, &mut limits, &mut worst, &mut bounds);
+    planner::plan(
+        &image,
+        rules::POLICY_2008,
+        &mut order,
+        &mut limits,
+        &mut worst,
+        &mut bounds,
+    );
     let a = part(row[6], 6);
     let b = part(row[7], 6);
     let c = part(row[8], 96);
@@ -146,7 +154,15 @@ fn open_and_tell(image: &[u8], row: [u32; 24]) {
     let mut limits = [0i32; 512];
     let mut worst = [0u32; 512];
     let mut bounds = [0i32; 8192];
-    let opened = recording::open(image, 0, &mut order, &mut limits, &mut worst, &mut bounds);
+    let opened = recording::open(
+        image,
+        rules::POLICY_2008,
+        0,
+        &mut order,
+        &mut limits,
+        &mut worst,
+        &mut bounds,
+    );
     let frame = frame_of(row, 0, opened.levels);
     let none = Totals {
         frames: 0,

@@ -1,4 +1,4 @@
-// Outside recordings: NNN.profile is an image, NNN.recording a recording and NNN.rehearse what the rehearse program prints for both. They come with
+// Outside recordings, by the 2008 policy: NNN.profile is an image, NNN.recording a recording and NNN.rehearse what the rehearse program prints for both. They come with
 // the request for recordings. Last, what it prints where a file is not there: it is empty, so that an image is refused as short, and a recording
 // has no frames.
 use test_kit::read_case;
@@ -21,7 +21,7 @@ fn rehearse(profile: usize, recording: usize, out: &mut [u8]) -> usize
     let mut name = [0u8; 32];
     let end = test_kit::case_name(recording, b".recording", &mut name);
     let fd = os::open_read(&name[..end]);
-    let k = rehearsal::rehearse(&image[..n], fd, out, 1);
+    let k = rehearsal::rehearse(&image[..n], rules::POLICY_2008, fd, out, 1);
     libc::close(fd);
     k
 }

@@ -24,22 +24,23 @@ pub fn tell(line: &[u8]) {
 
 // ---- planned
 
-// A profile, N, and how much there is of order, summaries and worst times.
+// A profile, N, how much there is of order, summaries and worst times, and the year.
 fn tell_plan(line: &[u8]) {
     let mut image = [0u8; 78];
     let n = test_kit::sample(line, &mut image);
-    plan(&image[..n], test_kit::numbers(line));
+    let row = test_kit::numbers(line);
+    plan(&image[..n], row, test_kit::year(row[4]));
 }
 
 // Due: Three, but action 1 has a deadline of its own. It is the last number of the case, up to 63.
 fn tell_due(row: [u32; 24]) {
     let mut image = test_kit::samples::three();
     image[41] = (row[4] % 64 * 4) as u8;
-    plan(&image, row);
+    plan(&image, row, rules::POLICY_2008);
 }
 
 // Each table is one longer than Three needs, and full of nines.
-fn plan(image: &[u8], row: [u32; 24]) {
+fn plan(image: &[u8], row: [u32; 24], policy: u32) {
     let mut order = [9u8; 4];
     let mut summaries = [9u32; 25];
     let mut worst = [9u32; 7];
@@ -49,6 +50,7 @@ fn plan(image: &[u8], row: [u32; 24]) {
     let planned = repeat_planner::plan(
         image,
         row[0],
+        policy,
         &mut order[0..a],
         &mut summaries[0..b],
         &mut worst[0..c],
@@ -82,47 +84,55 @@ fn say_planned(planned: BodyPlanned) {
     let body = planned.body;
     say_fault(b": refusal ", planned.refusal);
     say(
-        b", n _, levels _, cycle _, repeats _",
-        &[body.n, body.levels, body.cycle, body.repeats],
+        b", n _, levels _, cycle _, repeats _, policy _",
+        &[body.n, body.levels, body.cycle, body.repeats, body.policy],
     );
 }
 
 // ---- limits and coast bounds
 
-// The summaries and the worst times of Three.
-fn plan_three(summaries: &mut [u32], worst: &mut [u32]) {
+// The summaries and the worst times of Three by a policy.
+fn plan_three(policy: u32, summaries: &mut [u32], worst: &mut [u32]) {
     let image = test_kit::samples::three();
     let mut order = [0u8; 3];
-    repeat_planner::plan(&image, 1, &mut order, summaries, worst);
+    repeat_planner::plan(&image, 1, policy, &mut order, summaries, worst);
 }
 
-fn body_of(row: [u32; 24]) -> Body {
+fn body_of(row: [u32; 24], policy: u32) -> Body {
     Body {
         n: row[0],
         levels: row[1],
         cycle: row[2],
         repeats: row[3],
+        policy,
     }
 }
 
-// n, levels, cycle and N, how much there is of the summaries, position and level.
+// n, levels, cycle and N, how much there is of the summaries, position and level, and the year.
 fn tell_limit(row: [u32; 24]) {
     let mut summaries = [0u32; 24];
     let mut worst = [0u32; 6];
-    plan_three(&mut summaries, &mut worst);
+    let policy = test_kit::year(row[7]);
+    plan_three(policy, &mut summaries, &mut worst);
     let a = part(row[4], 24);
-    say_limited(repeat_limits::limit(body_of(row), &summaries[0..a], count(row[5]), count(row[6])));
+    say_limited(repeat_limits::limit(
+        body_of(row, policy),
+        &summaries[0..a],
+        count(row[5]),
+        count(row[6]),
+    ));
 }
 
-// n, levels, cycle and N, how much there is of the summaries and the worst times, position, level and length.
+// n, levels, cycle and N, how much there is of the summaries and the worst times, position, level and length, and the year.
 fn tell_bound(row: [u32; 24]) {
     let mut summaries = [0u32; 24];
     let mut worst = [0u32; 6];
-    plan_three(&mut summaries, &mut worst);
+    let policy = test_kit::year(row[9]);
+    plan_three(policy, &mut summaries, &mut worst);
     let a = part(row[4], 24);
     let b = part(row[5], 6);
     say_limited(repeat_limits::bound(
-        body_of(row),
+        body_of(row, policy),
         &summaries[0..a],
         &worst[0..b],
         count(row[6]),

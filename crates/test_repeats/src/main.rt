@@ -63,7 +63,7 @@ fn lines_agree(want: &[u8], body: Body, order: &[u8], summaries: &[u32]) -> bool
 // All that the program prints: the first line, then the others. It fits into a large buffer: what did not would stand on standard output.
 fn text_agrees(image: &[u8], repeats: u32, first: &[u8], others: &[u8]) -> bool {
     let mut out = io::large_buffer();
-    let k = repeat_text::plan_text(image, repeats, &mut out, 1);
+    let k = repeat_text::plan_text(image, repeats, rules::POLICY_2008, &mut out, 1);
     let begun = first.len();
     if k < begun {
         return false;
@@ -167,6 +167,7 @@ fn dry_text(image: &[u8], repeats: u32, bytes: &[u8], out: &mut [u8]) -> usize
     let framed = repeat_frame::dry_frame(
         image,
         repeats,
+        rules::POLICY_2008,
         &durations[..count],
         &mut order,
         &mut given,
@@ -239,6 +240,7 @@ fn plan_agrees(case: usize, image: &[u8], repeats: u32, first: &[u8], others: &[
     let begun = repeat_text::begin(
         image,
         repeats,
+        rules::POLICY_2008,
         &mut order,
         &mut summaries,
         &mut worst,

@@ -1,9 +1,9 @@
 -- Words of a line, and the number that a word says.
 use Prim.Native.Nat.{ℕ, zero, suc, _+_, _*_, _-_, min}
-use mathlib.Core.Bool.{Bool, true, cond, _&&_}
+use mathlib.Core.Bool.{Bool, true, false, cond, _&&_}
 use mathlib.Core.List.{List, [], _∷_}
 use lib.Dec.{leb, eqb}
-use lib.ListN.{drop}
+use lib.ListN.{length, drop}
 
 -- a text from its first byte b on; nothing where it has none
 unfoldable pub from-first : ℕ → List ℕ → List ℕ
@@ -36,3 +36,7 @@ only-digits (x ∷ xs) = (leb 48 x && leb x 57) && only-digits xs
 -- the number that a whole text is; 0 where it is none
 abbrev pub whole-number : List ℕ → ℕ
 whole-number text = cond (only-digits text) (capped (digits-say 0 text)) 0
+
+-- whether it is one: digits, one at the least, and nothing else
+unfoldable pub is-number : List ℕ → Bool
+is-number text = cond (eqb (length text) 0) false (only-digits text)

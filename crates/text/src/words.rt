@@ -3,7 +3,7 @@ ghost use Prim.Native.Nat.{_+_, _≤_, _<_};
 ghost use mathlib.Core.Path.{_≡_};
 ghost use lib.ListN.{length, drop};
 ghost use Rattle.io.specs.Counts.{Counts};
-ghost use Rattle.text.specs.Words.{from-first, after-first, from-word, digits-say, only-digits, whole-number};
+ghost use Rattle.text.specs.Words.{from-first, after-first, from-word, digits-say, only-digits, whole-number, is-number};
 ghost use Rattle.text.specs.Words.{capped as Words·capped};
 
 // Where the byte stands first, from index `from` on; the length where it does not.
@@ -117,6 +117,16 @@ pub fn whole_number(text: &[u8]) -> u32
         return number(text, 0);
     }
     0
+}
+
+// Whether it is one, so that a text that is none is told from the number 0.
+pub fn is_number(text: &[u8]) -> bool
+    ensures { λ r. ⌜ r ≡ is-number (now (text .entry)) ⌝ }
+{
+    if text.len() == 0 {
+        return false;
+    }
+    only_digits(text)
 }
 
 // The byte that two hexadecimal digits say; 256 where they are not there.

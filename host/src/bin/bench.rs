@@ -5,7 +5,9 @@
 mod bodies;
 
 use nyokazerubi_host::c::C;
-use nyokazerubi_host::calls::{Calls, Counts, Fast, Opened, Run, Tables, Totals, LONGEST_COAST, MOST_FRAMES};
+use nyokazerubi_host::calls::{
+    Calls, Counts, Fast, Opened, Run, Tables, Totals, LONGEST_COAST, MOST_FRAMES, POLICY_2005, POLICY_2008,
+};
 use nyokazerubi_host::draw::{big_endian, Draw, Sketch};
 use nyokazerubi_host::product::Product;
 use std::hint::black_box;
@@ -28,7 +30,7 @@ fn main() {
     let images = [("encoder", encoder()), ("chain", chain()), ("graph", graph())];
     if std::env::args().nth(1).as_deref() != Some("bodies") {
         for (name, image) in &images {
-            table(&sides, name, &Bench::new(image));
+            table(&sides, name, [POLICY_2008, POLICY_2005].map(|policy| Bench::new(image, policy)));
         }
         frame(&sides);
         recordings(&sides, &images[1..]);
@@ -43,19 +45,26 @@ fn main() {
 /// The implementations by name.
 type Sides<'a> = [(&'static str, &'a dyn Calls); 3];
 
-/// The figures of one image.
-fn table(sides: &Sides, name: &str, bench: &Bench) {
+/// The figures of one image, planned by 2008; of the calls that plan and decide, those by 2005 beside them.
+fn table(sides: &Sides, name: &str, [bench, apart]: [Bench; 2]) {
     let Counts { n, levels, .. } = bench.counts;
     println!(
-        "\n### {name}: n = {n}, L = {levels}, {} bytes, {} decisions in the cycle\n",
+        "\n### {name}: n = {n}, L = {levels}, {} bytes, {} decisions in the cycle, by 2005 {}\n",
         bench.image.len(),
-        bench.decisions
+        bench.decisions,
+        apart.decisions
     );
     println!("| call | product | Rust | C | ratio |\n|---|---|---|---|---|");
     for (call, run) in CALLS {
         let by = if call.ends_with("an action") { n as f64 } else { 1.0 };
-        let [product, rust, c] = measure(sides, |calls| run(bench, calls)).map(|median| median / by);
-        println!("| {call} | {product:.1} | {rust:.1} | {c:.1} | {:.2} |", product / rust.min(c));
+        let row = |words: &str, bench: &Bench| {
+            let [product, rust, c] = measure(sides, |calls| run(bench, calls)).map(|median| median / by);
+            println!("| {call}{words} | {product:.1} | {rust:.1} | {c:.1} | {:.2} |", product / rust.min(c));
+        };
+        row("", &bench);
+        if BY_POLICY.contains(&call) {
+            row(", 2005", &apart);
+        }
     }
 }
 
@@ -119,6 +128,7 @@ fn measure(sides: &Sides, mut call: impl FnMut(&dyn Calls)) -> [f64; 3] {
 /// What the calls are timed on: an image, its tables, and slices to lend.
 struct Bench {
     image: Vec<u8>,
+    policy: u32,
     counts: Counts,
     masks: Vec<u64>,
     deadlines: Vec<u32>,
@@ -139,11 +149,12 @@ struct Bench {
 }
 
 impl Bench {
-    fn new(image: &[u8]) -> Bench {
+    fn new(image: &[u8], policy: u32) -> Bench {
         let counts = Product.check(image).expect("accepted");
         let (n, cells) = (counts.n, (counts.n * counts.levels));
         let mut bench = Bench {
             image: image.to_vec(),
+            policy,
             counts,
             masks: vec![0; n],
             deadlines: vec![0; n],
@@ -162,7 +173,7 @@ impl Bench {
         let (masks, deadlines) = (&mut bench.masks, &mut bench.deadlines);
         Fast.read(image, masks, deadlines, &mut bench.averages, &mut bench.worst).expect("accepted");
         let (order, limits) = (&mut bench.order, &mut bench.limits);
-        Fast.plan(image, order, limits, &mut bench.by_position, &mut bench.bounds).expect("accepted");
+        Fast.plan(image, policy, order, limits, &mut bench.by_position, &mut bench.bounds).expect("accepted");
         let mut draw = Draw::new(8);
         bench.durations = bench.drawn(&mut draw);
         bench.frame = big_endian(&bench.durations);
@@ -245,6 +256,9 @@ fn room() -> &'static mut Room {
     unsafe { &mut *std::ptr::addr_of_mut!(ROOM) }
 }
 
+/// Those that a policy is told, and those that read its tables.
+const BY_POLICY: [&str; 3] = ["plan", "ask + report, an action", "dry frame"];
+
 const CALLS: [Call; 13] = [
     ("check", |bench, calls| {
         black_box(calls.check(black_box(&bench.image)).is_ok());
@@ -262,7 +276,7 @@ const CALLS: [Call; 13] = [
     }),
     ("plan", |bench, calls| {
         let Room { small: [order, _], limits, numbers: [worst, ..], bounds, .. } = room();
-        black_box(calls.plan(black_box(&bench.image), order, limits, worst, bounds).is_ok());
+        black_box(calls.plan(black_box(&bench.image), bench.policy, order, limits, worst, bounds).is_ok());
     }),
     ("ask + report, an action", |bench, calls| cycle(bench, calls)),
     ("dry run", |bench, calls| {
@@ -272,12 +286,14 @@ const CALLS: [Call; 13] = [
     }),
     ("dry frame", |bench, calls| {
         let Room { small: [given, decided], image: order, .. } = room();
-        black_box(calls.dry_frame(black_box(&bench.image), &bench.durations, order, given, decided).is_ok());
+        let (image, policy) = (black_box(&bench.image), bench.policy);
+        black_box(calls.dry_frame(image, policy, &bench.durations, order, given, decided).is_ok());
     }),
     ("open recording", |bench, calls| {
         let Room { small: [order, _], limits, numbers: [worst, ..], bounds, .. } = room();
         let bytes = black_box(MOST_FRAMES * bench.frame.len());
-        black_box(calls.open_recording(black_box(&bench.image), bytes, order, limits, worst, bounds).is_ok());
+        let (image, policy) = (black_box(&bench.image), bench.policy);
+        black_box(calls.open_recording(image, policy, bytes, order, limits, worst, bounds).is_ok());
     }),
     ("rehearse", |bench, calls| {
         let Counts { n, levels, .. } = bench.counts;
@@ -311,7 +327,7 @@ fn cycle(bench: &Bench, calls: &dyn Calls) {
 /// The manager's cost for a whole frame of the encoder: start, nine times ask and report.
 fn frame(sides: &Sides) {
     let clock = clock();
-    let bench = Bench::new(&encoder());
+    let bench = Bench::new(&encoder(), POLICY_2008);
     let medians = measure(sides, |calls| cycle(&bench, calls));
     println!("\n### The manager in a frame of the encoder, {FRAME} cycles, at {clock:.2} GHz\n");
     println!("| side | ns | cycles | part of the frame |\n|---|---|---|---|");
@@ -326,7 +342,7 @@ fn recordings(sides: &Sides, images: &[(&str, Vec<u8>)]) {
     println!("\n### A recording of {MOST_FRAMES} frames, n = 64, L = 8, in ms\n");
     println!("| frames of | decisions | product | Rust | C | ratio |\n|---|---|---|---|---|---|");
     for (name, image) in images {
-        let bench = Bench::new(image);
+        let bench = Bench::new(image, POLICY_2008);
         let mut draw = Draw::new(4096);
         let recording: Vec<u8> = (0..MOST_FRAMES).flat_map(|_| big_endian(&bench.drawn(&mut draw))).collect();
         let Totals { frames, decisions, .. } = rehearse(&bench, &Product, &recording);
@@ -342,7 +358,7 @@ fn recordings(sides: &Sides, images: &[(&str, Vec<u8>)]) {
 /// A whole recording, a frame at a time.
 fn rehearse(bench: &Bench, calls: &dyn Calls, recording: &[u8]) -> Totals {
     let Room { small: [order, _], limits, numbers: [worst, ..], bounds, .. } = room();
-    let opened = calls.open_recording(&bench.image, recording.len(), order, limits, worst, bounds);
+    let opened = calls.open_recording(&bench.image, bench.policy, recording.len(), order, limits, worst, bounds);
     let Opened { n, levels, frame_bytes, .. } = opened.expect("accepted");
     let tables = Tables { limits, worst_by_position: worst, bounds };
     let mut totals = Totals::default();

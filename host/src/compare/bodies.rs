@@ -1,12 +1,12 @@
 //! The calls on a body repeated.
 
-use super::{hex, in_header, junk, usable, Pair};
+use super::{by_ends, hex, in_header, junk, usable, Pair};
 use crate::calls::{
     Answer, Body, BodyRun, BodyTables, Given, ABSENT_LONG, LAST_CLOCK, LONGEST_COAST, LONGEST_TIME, MOST_ACTIONS,
-    MOST_LEVELS, MOST_REPEATS, SUMMARY_NUMBERS,
+    MOST_LEVELS, MOST_REPEATS, POLICY_2005, POLICY_2008, SUMMARY_NUMBERS,
 };
 use crate::draw::{Size, PACES};
-use crate::reference::{body_fields_out, Longest};
+use crate::reference::{body_fields_out, Lent, Limits, Longest};
 use std::cmp::Ordering;
 
 /// The most positions of which a frame is run, but for a few.
@@ -24,18 +24,32 @@ impl Planned {
     fn tables(&self) -> BodyTables<'_> {
         BodyTables { order: &self.order, summaries: &self.summaries, worst_by_position: &self.worst }
     }
+
+    fn lent(&self) -> Lent<'_> {
+        Lent { body: self.body, summaries: &self.summaries, worst: &self.worst }
+    }
+}
+
+/// Whether a record's policy is none, so that it is read as that of 2008.
+fn unknown(run: BodyRun) -> bool {
+    ![POLICY_2005, POLICY_2008].contains(&run.body.policy)
 }
 
 impl Pair<'_> {
     pub(super) fn bodies(&mut self, size: Size) -> Result<(), String> {
         let repeats = self.draw.repeats();
         let image = self.draw.body_image(size, repeats);
-        self.plan_body(&image, repeats)?;
-        self.body_dry_frame(&image, repeats)?;
+        let [one, other] = [self.draw.year(), self.draw.year()];
+        self.plan_body(&image, repeats, one)?;
+        self.body_dry_frame(&image, repeats, other)?;
         self.body_start()?;
         self.body_single_calls()?;
         self.body_two_readings()?;
-        let Some(planned) = self.planned_body(&image, repeats) else { return Ok(()) };
+        let policy = self.draw.policy();
+        let Some(planned) = self.planned_body(&image, repeats, policy) else { return Ok(()) };
+        if policy == POLICY_2005 {
+            self.note_apart_body(&planned);
+        }
         if repeats == 1 || repeats == MOST_REPEATS {
             self.tally.event(format!("N = {repeats}"));
         }
@@ -45,22 +59,32 @@ impl Pair<'_> {
         self.body_walk(&planned)
     }
 
-    fn planned_body(&self, image: &[u8], repeats: u32) -> Option<Planned> {
+    /// Whether a limit falls within the first body of a plan by two tests apart.
+    fn note_apart_body(&mut self, planned: &Planned) {
+        self.tally.event("2005: a body planned");
+        let lent = planned.lent();
+        let falls = |i: usize| (0..lent.levels()).any(|q| lent.limit(i + 1, q) < lent.limit(i, q));
+        if (0..lent.positions().min(MOST_ACTIONS) - 1).any(falls) {
+            self.tally.event("2005: a body's limit that falls");
+        }
+    }
+
+    fn planned_body(&self, image: &[u8], repeats: u32, policy: u32) -> Option<Planned> {
         const CELLS: usize = MOST_ACTIONS * MOST_LEVELS;
         let (mut order, mut summaries) = (vec![0; MOST_ACTIONS], vec![0; CELLS * SUMMARY_NUMBERS]);
         let mut worst = vec![0; CELLS];
-        let body = self.left.plan_body(image, repeats, &mut order, &mut summaries, &mut worst).ok()?;
+        let body = self.left.plan_body(image, repeats, policy, &mut order, &mut summaries, &mut worst).ok()?;
         Some(Planned { body, order, summaries, worst })
     }
 
-    fn plan_body(&mut self, image: &[u8], repeats: u32) -> Result<(), String> {
+    fn plan_body(&mut self, image: &[u8], repeats: u32, policy: u32) -> Result<(), String> {
         let (n, levels) = in_header(image).unwrap_or((3, 2));
         let draw = &mut self.draw;
         let rooms = [n, n * levels * SUMMARY_NUMBERS, n * levels].map(|needed| draw.room(needed));
         let tables: (Vec<u8>, Vec<u32>, Vec<u32>) = (junk(draw, rooms[0]), junk(draw, rooms[1]), junk(draw, rooms[2]));
-        let result = self.same("plan body", &|| format!("{} {repeats} {rooms:?}", hex(image)), |calls| {
+        let result = self.same("plan body", &|| format!("{} {repeats} {policy} {rooms:?}", hex(image)), |calls| {
             let mut lent = tables.clone();
-            let answer = calls.plan_body(image, repeats, &mut lent.0, &mut lent.1, &mut lent.2);
+            let answer = calls.plan_body(image, repeats, policy, &mut lent.0, &mut lent.1, &mut lent.2);
             (answer, lent)
         })?;
         self.tally.answer("plan body", &result.0);
@@ -68,7 +92,7 @@ impl Pair<'_> {
     }
 
     /// A whole cycle from an image. Where there are many positions what is lent is mostly too short for them.
-    fn body_dry_frame(&mut self, image: &[u8], repeats: u32) -> Result<(), String> {
+    fn body_dry_frame(&mut self, image: &[u8], repeats: u32, policy: u32) -> Result<(), String> {
         let (n, levels) = in_header(image).unwrap_or((3, 2));
         let positions = n * repeats.min(MOST_REPEATS) as usize;
         let whole = self.draw.once_in(if positions * levels < 16_000 { 2 } else { 500 });
@@ -86,10 +110,11 @@ impl Pair<'_> {
         }
         let rooms = [n, lent, lent].map(|needed| self.draw.room(needed));
         let [order, given, marks]: [Vec<u8>; 3] = rooms.map(|room| junk(&mut self.draw, room));
-        let input = || format!("{} {repeats} {durations:?} {rooms:?}", hex(image));
+        let input = || format!("{} {repeats} {policy} {durations:?} {rooms:?}", hex(image));
         let (answer, _) = self.same("body dry frame", &input, |calls| {
             let mut lent = (order.clone(), given.clone(), marks.clone());
-            let answer = calls.body_dry_frame(image, repeats, &durations, &mut lent.0, &mut lent.1, &mut lent.2);
+            let answer =
+                calls.body_dry_frame(image, repeats, policy, &durations, &mut lent.0, &mut lent.1, &mut lent.2);
             (answer, lent)
         })?;
         self.tally.answer("body dry frame", &answer);
@@ -100,6 +125,7 @@ impl Pair<'_> {
                 ("body ends past the last clock", cycle.end > LAST_CLOCK.into()),
                 ("body frame with a tail", rooms[1] > positions && durations.len() > positions * levels),
                 ("all repeats run", repeats == MOST_REPEATS),
+                ("2005: a body's frame", policy == POLICY_2005),
             ] {
                 if so {
                     self.tally.event(event);
@@ -172,12 +198,28 @@ impl Pair<'_> {
             (run, answer)
         })?;
         self.note_body_asked(next, &answer);
+        if unknown(run) && answer.is_ok() {
+            self.note_unknown(run, next, tables);
+        }
         if let Ok(Given { decided: true, late: false, level, .. }) = answer {
             if level + 1 == run.body.levels {
                 self.note_longest(run, tables);
             }
         }
         Ok(next)
+    }
+
+    /// Of a record with no policy that is answered: whether by 2005 it would have been answered otherwise.
+    fn note_unknown(&mut self, run: BodyRun, next: BodyRun, tables: BodyTables) {
+        if run.left > 0 {
+            return self.tally.event("a record of no policy coasts");
+        }
+        self.tally.event("a record of no policy decides");
+        let mut apart = BodyRun { body: Body { policy: POLICY_2005, ..run.body }, ..run };
+        self.left.body_ask(&mut apart, &tables).expect("the same turn");
+        if apart != (BodyRun { body: apart.body, ..next }) {
+            self.tally.event("a record of no policy decides as 2005 would not");
+        }
     }
 
     /// At the top level: which reading grants the coast that is as long as there may be, and whether it is so for want of positions.
@@ -193,6 +235,9 @@ impl Pair<'_> {
             (false, false) => "by no reading",
         };
         self.tally.event(format!("{coast} {reading}"));
+        if run.body.policy == POLICY_2005 && reading.ends_with("alone") {
+            self.tally.event(format!("2005: a body's longest coast {reading}"));
+        }
     }
 
     fn note_body_asked(&mut self, run: BodyRun, answer: &Answer<Given>) {
@@ -204,6 +249,9 @@ impl Pair<'_> {
         self.tally.event(format!("body grant {}", run.left + 1));
         if answer.late {
             self.tally.event("body late");
+            if run.body.policy == POLICY_2005 {
+                self.tally.event("2005: a body's late");
+            }
         }
         if run.position % run.body.n + u32::from(run.left) >= run.body.n {
             self.tally.event("coast into the next repeat");
@@ -218,6 +266,9 @@ impl Pair<'_> {
             (run, number)
         })?;
         self.tally.number("body report", number);
+        if unknown(run) && number == 0 {
+            self.tally.event("a record of no policy reports");
+        }
         Ok(next)
     }
 
@@ -260,7 +311,7 @@ impl Pair<'_> {
         let positions = body.n * body.repeats;
         let left = self.draw.between(0, body.cycle.min(60));
         let run = BodyRun {
-            body,
+            body: self.draw.any_policy(body),
             clock: (body.cycle - left).into(),
             position: self.draw.body_run(body).position.min(positions - 1),
             ..BodyRun::default()
@@ -277,6 +328,7 @@ impl Pair<'_> {
         let Body { n, levels, repeats, .. } = planned.body;
         let mut run = BodyRun::default();
         self.left.body_start(&mut run, planned.body);
+        run.body = self.draw.any_policy(run.body);
         if self.draw.once_in(2) {
             // As if the repeats before it had taken no time.
             run.position = n * self.draw.between(0, repeats - 1);
@@ -285,7 +337,14 @@ impl Pair<'_> {
         for _ in 0..turns {
             let asks = run.running == self.draw.once_in(16);
             run = if asks {
-                self.body_ask(run, planned.tables())?
+                let next = self.body_ask(run, planned.tables())?;
+                if next.decisions > run.decisions && run.body.policy == POLICY_2005 {
+                    let ends = by_ends(&planned.lent(), run.position as usize, run.clock as i64, next.level as usize);
+                    if ends > usize::from(next.left) + 1 {
+                        self.tally.event("2005: a body's coast kept short within");
+                    }
+                }
+                next
             } else {
                 let cell = (run.position % n * levels + run.level) as usize;
                 let longest = planned.worst[cell];

@@ -52,21 +52,24 @@ impl Draw {
             levels: self.between(1, MOST_LEVELS as u32),
             cycle: self.pick(&[1, 5, 40, 1000, LAST_CLOCK - 1, LAST_CLOCK]),
             repeats: self.pick(&[1, 1, 2, 3, 4, 17, MOST_REPEATS - 1, MOST_REPEATS]),
+            policy: self.policy(),
         }
     }
 
     /// The same with a number at its edge or over it.
     pub fn edged_body(&mut self, mut body: Body) -> Body {
-        match self.between(0, 3) {
+        match self.between(0, 4) {
             0 => body.n = self.pick(&[0, 1, 64, 65, u32::MAX]),
             1 => body.levels = self.pick(&[0, 1, 8, 9, u32::MAX]),
             2 => body.cycle = self.pick(&[0, 1, LAST_CLOCK, LAST_CLOCK + 1, u32::MAX]),
-            _ => body.repeats = self.pick(&[0, 1, MOST_REPEATS, MOST_REPEATS + 1, u32::MAX]),
+            3 => body.repeats = self.pick(&[0, 1, MOST_REPEATS, MOST_REPEATS + 1, u32::MAX]),
+            _ => body.policy = self.no_policy(),
         }
         body
     }
 
-    /// A run record with every field inside its range, for a body inside its own: many at the end of the cycle or at that of a repeat.
+    /// A run record with every field inside its range, for a body inside its own: many at the end of the cycle or at that of a repeat. Its policy may
+    /// be any number.
     pub fn body_run(&mut self, body: Body) -> BodyRun {
         let positions = body.n * body.repeats;
         let position = match self.between(0, 5) {
@@ -80,7 +83,7 @@ impl Draw {
         let reached = position + u32::from(running);
         BodyRun {
             clock: self.pick(&[0, 1, 5, 20, 1000, LAST_CLOCK - 1, LAST_CLOCK]).into(),
-            body,
+            body: self.any_policy(body),
             position,
             level: self.between(0, body.levels - 1),
             left: if self.once_in(2) { 0 } else { self.between(0, (positions - reached).min(15)) as u8 },
@@ -88,6 +91,14 @@ impl Draw {
             running,
             overrun: self.once_in(2),
             late: self.once_in(2),
+        }
+    }
+
+    /// The body of a record: its policy is now and then none.
+    pub fn any_policy(&mut self, body: Body) -> Body {
+        match self.between(0, 3) {
+            0 => Body { policy: self.no_policy(), ..body },
+            _ => body,
         }
     }
 
@@ -121,7 +132,7 @@ impl Draw {
         if self.once_in(4) {
             return (0..cells * SUMMARY_NUMBERS).map(|_| self.word() as u32).collect();
         }
-        // M that gives a limit at the clock, and sums that hardly grow from body to body. V falls from place to place, or not at all, and so says
+        // A third number that gives a limit at the clock, and sums that hardly grow from body to body. V falls from place to place, or not at all, and so says
         // more or less of a coast than the worst times do.
         let room = u64::from(body.cycle).saturating_sub(clock) as u32;
         let (spread, growth) = (self.between(0, 3), self.pick(&[0, 0, 1, 3]));
@@ -136,11 +147,13 @@ impl Draw {
                 Some(_) if !self.once_in(20) => room.saturating_add(1 + self.between(0, 3)),
                 _ => near,
             };
-            // Bodies after one add their M to A: it is left small there too.
+            // Bodies after one may add theirs to A: it is left small there too.
             let mix = if cell < body.levels as usize && self.once_in(2) { mix / 2 } else { mix };
             let rest = body.n - cell as u32 / body.levels;
             let worst = fall * rest + self.between(0, uneven);
-            summaries.extend([self.between(0, growth), self.between(0, growth), mix, worst]);
+            // Where the tests are apart A may be what counts.
+            let average = if self.once_in(6) { near } else { self.between(0, growth) };
+            summaries.extend([average, self.between(0, growth), mix, worst]);
         }
         summaries
     }

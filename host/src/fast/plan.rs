@@ -2,25 +2,44 @@
 
 use super::image::{deadline_word, examine, Pair, Shape};
 use super::order::Arranged;
-use crate::calls::{refused, Answer, Counts, ABSENT_BOUND, LONGEST_COAST};
+use crate::calls::{refused, Answer, Counts, ABSENT_BOUND, LONGEST_COAST, POLICY_2005, POLICY_2008};
+
+/// Whether it is the year of a policy.
+#[inline(always)]
+pub(super) fn known(policy: u32) -> bool {
+    matches!(policy, POLICY_2005 | POLICY_2008)
+}
+
+/// 20, or whether the year is that of the two tests apart.
+#[inline(always)]
+pub(super) fn apart(policy: u32) -> Answer<bool> {
+    if known(policy) {
+        Ok(policy == POLICY_2005)
+    } else {
+        Err(refused::POLICY)
+    }
+}
 
 /// Order, limits, worst times by position and coast bounds.
 pub fn plan(
     image: &[u8],
+    policy: u32,
     order: &mut [u8],
     limits: &mut [i32],
     worst: &mut [u32],
     bounds: &mut [i32],
 ) -> Answer<Counts> {
     let (shape, arranged) = examine(image)?;
-    fill(image, shape, &arranged, order, limits, worst, bounds)?;
+    fill(image, shape, apart(policy)?, &arranged, order, limits, worst, bounds)?;
     Ok(shape.counts())
 }
 
 /// The tables of an accepted image, or 17.
+#[allow(clippy::too_many_arguments)]
 pub(super) fn fill(
     image: &[u8],
     shape: Shape,
+    apart: bool,
     Arranged(arranged): &Arranged,
     order: &mut [u8],
     limits: &mut [i32],
@@ -32,12 +51,26 @@ pub(super) fn fill(
         return Err(refused::ROOM);
     }
     order[..n].copy_from_slice(&arranged[..n]);
-    rows(image, shape, &order[..n], &mut limits[..cells], &mut worst[..cells], &mut bounds[..cells * LONGEST_COAST]);
+    let (order, bounds) = (&order[..n], &mut bounds[..cells * LONGEST_COAST]);
+    let (limits, worst) = (&mut limits[..cells], &mut worst[..cells]);
+    match apart {
+        false => rows::<false>(image, shape, order, limits, worst, bounds),
+        true => rows::<true>(image, shape, order, limits, worst, bounds),
+    }
     Ok(())
 }
 
-/// limit(i,q) = min(min(deadline(i), limit(i+1,0)) - worst(i,q), limit(i+1,q) - average(i,q)); past the end there is no limit.
-fn rows(image: &[u8], shape: Shape, order: &[u8], limits: &mut [i32], worst: &mut [u32], bounds: &mut [i32]) {
+/// limit(i,q) = min(min(deadline(i), after(0)) - worst(i,q), min(deadline(i), after(q)) - average(i,q)); past the end there is no limit. The second
+/// part is the average test. Above level 0 it is what goes on to the row before where the tests are apart; else the limit does, and the deadline needs no
+/// second look, as it is in the first part with a worst time. At level 0 the limit goes on in both.
+fn rows<const APART: bool>(
+    image: &[u8],
+    shape: Shape,
+    order: &[u8],
+    limits: &mut [i32],
+    worst: &mut [u32],
+    bounds: &mut [i32],
+) {
     let levels = shape.levels.min(8);
     let mut after = [i32::MAX; 8];
     let mut bounds_after: &[i32] = &[];
@@ -48,8 +81,10 @@ fn rows(image: &[u8], shape: Shape, order: &[u8], limits: &mut [i32], worst: &mu
         let latest = deadline.min(after[0]);
         for level in 0..levels {
             let pair = Pair::of(record, level);
-            let limit = (latest - pair.worst() as i32).min(after[level] - pair.average() as i32);
-            after[level] = limit;
+            let next = if APART { deadline.min(after[level]) } else { after[level] };
+            let by_average = next - pair.average() as i32;
+            let limit = by_average.min(latest - pair.worst() as i32);
+            after[level] = if APART && level > 0 { by_average } else { limit };
             limits[level] = limit;
             worst[level] = pair.worst();
         }

@@ -1,7 +1,7 @@
 //! Recordings: the image planned once, and each frame run where it lies.
 
 use super::image::examine;
-use super::plan::fill;
+use super::plan::{apart, fill};
 use super::run::{decide, shape_fits};
 use crate::calls::{
     refused, Answer, Line, Opened, Tables, Totals, LONGEST_COAST, LONGEST_TIME, MOST_ACTIONS, MOST_FRAMES,
@@ -10,6 +10,7 @@ use crate::calls::{
 /// Plans an image for a recording of so many bytes.
 pub fn open_recording(
     image: &[u8],
+    policy: u32,
     bytes: usize,
     order: &mut [u8],
     limits: &mut [i32],
@@ -17,12 +18,13 @@ pub fn open_recording(
     bounds: &mut [i32],
 ) -> Answer<Opened> {
     let (shape, arranged) = examine(image)?;
+    let apart = apart(policy)?;
     let frame_bytes = 4 * shape.cells();
     let (frames, rest) = (bytes / frame_bytes, bytes % frame_bytes);
     if rest != 0 || frames > MOST_FRAMES {
         return Err(refused::TRACE);
     }
-    fill(image, shape, &arranged, order, limits, worst, bounds)?;
+    fill(image, shape, apart, &arranged, order, limits, worst, bounds)?;
     Ok(Opened { n: shape.n, levels: shape.levels, frame_bytes, frames })
 }
 

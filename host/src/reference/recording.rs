@@ -2,7 +2,7 @@
 
 use super::bits::get;
 use super::image::accept;
-use super::limits::plan;
+use super::limits::{plan, Policy};
 use super::run::dry_run;
 use crate::calls::{refused, Answer, Dried, Line, Opened, Tables, Totals, MOST_ACTIONS, MOST_FRAMES};
 
@@ -17,6 +17,7 @@ fn durations(bytes: &[u8]) -> Vec<u32> {
 /// Plans an image for a recording, of which the length alone is judged.
 pub fn open_recording(
     image: &[u8],
+    policy: u32,
     bytes: usize,
     order: &mut [u8],
     limits: &mut [i32],
@@ -24,13 +25,14 @@ pub fn open_recording(
     bounds: &mut [i32],
 ) -> Answer<Opened> {
     let profile = accept(image)?;
+    Policy::of(policy)?;
     let (n, levels) = (profile.n, profile.levels);
     let frame_bytes = n * levels * DURATION / 8;
     let frames = bytes / frame_bytes;
     if frames * frame_bytes != bytes || frames > MOST_FRAMES {
         return Err(refused::TRACE);
     }
-    plan(image, order, limits, worst, bounds)?;
+    plan(image, policy, order, limits, worst, bounds)?;
     Ok(Opened { n, levels, frame_bytes, frames })
 }
 

@@ -1,7 +1,7 @@
 //! A body repeated: the unrolled profile, for few positions, by the definitions of any profile; and the calls on lent tables, whoever wrote them.
 
 use super::image::accept_but_unfit;
-use super::limits::Planned;
+use super::limits::{Planned, Policy};
 use super::order::Order;
 use super::profile::{shape_in_range, Profile};
 use super::run::{asked, granted, Limits};
@@ -43,9 +43,9 @@ pub struct Unrolled {
 
 impl Unrolled {
     /// Of an accepted body.
-    pub fn of(profile: &Profile, repeats: usize) -> Unrolled {
+    pub fn of(profile: &Profile, repeats: usize, policy: Policy) -> Unrolled {
         let planned = Planned::of(&unroll(profile, repeats));
-        let limits = planned.limits();
+        let limits = planned.limits(policy);
         Unrolled { planned, limits }
     }
 
@@ -106,13 +106,14 @@ fn accept_body(image: &[u8], repeats: u32) -> Answer<Profile> {
 
 // ---- summaries
 
-/// What a stretch of positions is summed up by at a level: its averages, its worst times at level 0, the greatest over its positions j of the
-/// averages before j, the worst time of j and the level 0 worst times after j, and its worst times at the level.
+/// What a stretch of positions is summed up by at a level: its averages, its worst times at level 0, a third number that is the policy's own, and its
+/// worst times at the level. The third is, mixed, the greatest over the positions j of the averages before j, the worst time of j and the level 0
+/// worst times after j; apart, the worst time of the first position and the level 0 worst times after it.
 #[derive(Clone, Copy, Debug, PartialEq, Eq)]
 pub struct Sums {
     pub average: i64,
     pub lowest: i64,
-    pub mix: i64,
+    pub third: i64,
     pub worst: i64,
 }
 
@@ -125,54 +126,73 @@ pub enum Summary {
 
 impl Sums {
     /// Positions i to k of a plan, one or more.
-    pub fn stretch(planned: &Planned, i: usize, k: usize, q: usize) -> Sums {
+    pub fn stretch(planned: &Planned, policy: Policy, i: usize, k: usize, q: usize) -> Sums {
         let before = |j: usize| (i..j).map(|p| planned.averages[p][q]).sum::<i64>();
         Sums {
             average: planned.average(i, k, q),
             lowest: (i..=k).map(|p| planned.worst[p][0]).sum(),
-            mix: (i..=k).map(|j| before(j) + planned.safe(j, k, q)).max().expect("i is among them"),
+            third: match policy {
+                Policy::Mixed => (i..=k).map(|j| before(j) + planned.safe(j, k, q)).max().expect("i is among them"),
+                Policy::Apart => planned.safe(i, k, q),
+            },
             worst: (i..=k).map(|p| planned.worst[p][q]).sum(),
         }
     }
 
     /// One stretch after another.
-    pub fn joined(self, next: Sums) -> Sums {
+    pub fn joined(self, next: Sums, policy: Policy) -> Sums {
+        let through = self.third + next.lowest;
         Sums {
             average: self.average + next.average,
             lowest: self.lowest + next.lowest,
-            mix: (self.mix + next.lowest).max(self.average + next.mix),
+            third: match policy {
+                Policy::Mixed => through.max(self.average + next.third),
+                Policy::Apart => through,
+            },
             worst: self.worst + next.worst,
         }
     }
 
     /// So many of it, one after another.
-    pub fn bodies(self, many: i64) -> Summary {
+    pub fn bodies(self, many: i64, policy: Policy) -> Summary {
         if many == 0 {
             return Summary::Empty;
         }
+        let each = match policy {
+            Policy::Mixed => self.average.max(self.lowest),
+            Policy::Apart => self.lowest,
+        };
         Summary::Of(Sums {
             average: many * self.average,
             lowest: many * self.lowest,
-            mix: self.mix + (many - 1) * self.average.max(self.lowest),
+            third: self.third + (many - 1) * each,
             worst: many * self.worst,
         })
+    }
+
+    /// What the limit at its first position takes off the deadline, where it goes to the end: apart, the averages are a test of their own.
+    pub fn taken(self, policy: Policy) -> i64 {
+        match policy {
+            Policy::Mixed => self.third,
+            Policy::Apart => self.third.max(self.average),
+        }
     }
 }
 
 impl Summary {
-    pub fn join(self, next: Summary) -> Summary {
+    pub fn join(self, next: Summary, policy: Policy) -> Summary {
         match (self, next) {
             (Summary::Empty, other) | (other, Summary::Empty) => other,
-            (Summary::Of(one), Summary::Of(other)) => Summary::Of(one.joined(other)),
+            (Summary::Of(one), Summary::Of(other)) => Summary::Of(one.joined(other, policy)),
         }
     }
 }
 
-/// The summaries and the worst times as lent, whoever wrote them.
-struct Lent<'a> {
-    body: Body,
-    summaries: &'a [u32],
-    worst: &'a [u32],
+/// The summaries and the worst times as lent, whoever wrote them, of a body whose counts are inside their ranges.
+pub struct Lent<'a> {
+    pub body: Body,
+    pub summaries: &'a [u32],
+    pub worst: &'a [u32],
 }
 
 impl Lent<'_> {
@@ -180,17 +200,22 @@ impl Lent<'_> {
         self.body.n as usize
     }
 
+    fn policy(&self) -> Policy {
+        Policy::read(self.body.policy)
+    }
+
     /// The rest of the body from a place in it.
     fn rest(&self, place: usize, q: usize) -> Sums {
         let at = (place * self.levels() + q) * SUMMARY_NUMBERS;
-        let [average, lowest, mix, worst] = [0, 1, 2, 3].map(|number| i64::from(self.summaries[at + number]));
-        Sums { average, lowest, mix, worst }
+        let [average, lowest, third, worst] = [0, 1, 2, 3].map(|number| i64::from(self.summaries[at + number]));
+        Sums { average, lowest, third, worst }
     }
 
     /// All positions from one on: the rest of its body, then the whole bodies after that.
     fn from(&self, i: usize, q: usize) -> Sums {
         let after = i64::from(self.body.repeats) - 1 - (i / self.n()) as i64;
-        match Summary::Of(self.rest(i % self.n(), q)).join(self.rest(0, q).bodies(after)) {
+        let policy = self.policy();
+        match Summary::Of(self.rest(i % self.n(), q)).join(self.rest(0, q).bodies(after, policy), policy) {
             Summary::Of(sums) => sums,
             Summary::Empty => panic!("the position itself is in it"),
         }
@@ -216,7 +241,7 @@ impl Lent<'_> {
     fn ends(&self, i: usize, q: usize, r: usize) -> i64 {
         let (first, last) = (self.from(i, q), self.from(i + r - 1, q));
         let spent = (first.worst - last.worst).max(0);
-        i64::from(self.body.cycle) - first.mix.max(spent + last.mix)
+        i64::from(self.body.cycle) - first.taken(self.policy()).max(spent + last.taken(self.policy()))
     }
 }
 
@@ -231,7 +256,7 @@ impl Limits for Lent<'_> {
 
     /// The cycle less what is summed up of all positions from there on.
     fn limit(&self, i: usize, q: usize) -> i64 {
-        i64::from(self.body.cycle) - self.from(i, q).mix
+        i64::from(self.body.cycle) - self.from(i, q).taken(self.policy())
     }
 
     /// Read at each position, and at the top level, where the coast is as long as there may be, by its ends too: the greater counts.
@@ -253,11 +278,13 @@ impl Limits for Lent<'_> {
 pub fn plan_body(
     image: &[u8],
     repeats: u32,
+    policy: u32,
     order: &mut [u8],
     summaries: &mut [u32],
     worst: &mut [u32],
 ) -> Answer<Body> {
     let profile = accept_body(image, repeats)?;
+    let by = Policy::of(policy)?;
     let (n, levels) = (profile.n, profile.levels);
     let cells = n * levels;
     if order.len() < n || summaries.len() < cells * SUMMARY_NUMBERS || worst.len() < cells {
@@ -269,23 +296,26 @@ pub fn plan_body(
     }
     for (i, q) in (0..n).flat_map(|i| (0..levels).map(move |q| (i, q))) {
         let cell = i * levels + q;
-        let Sums { average, lowest, mix, worst: all } = Sums::stretch(&planned, i, n - 1, q);
-        for (number, sum) in [average, lowest, mix, all].into_iter().enumerate() {
+        let Sums { average, lowest, third, worst: all } = Sums::stretch(&planned, by, i, n - 1, q);
+        for (number, sum) in [average, lowest, third, all].into_iter().enumerate() {
             summaries[cell * SUMMARY_NUMBERS + number] = sum as u32;
         }
         worst[cell] = planned.worst[i][q] as u32;
     }
-    Ok(Body { n: n as u32, levels: levels as u32, cycle: profile.cycle as u32, repeats })
+    Ok(Body { n: n as u32, levels: levels as u32, cycle: profile.cycle as u32, repeats, policy })
 }
 
 // ---- limits and bounds
 
-/// 3 and 19.
+/// 3, 19 and 20.
 fn body_refusal(body: Body) -> Option<Refused> {
     if !shape_in_range(body.n as usize, body.levels as usize) || !(1..=LAST_CLOCK).contains(&body.cycle) {
         return Some(refused::COUNT);
     }
-    (!(1..=MOST_REPEATS).contains(&body.repeats)).then_some(refused::REPEATS)
+    if !(1..=MOST_REPEATS).contains(&body.repeats) {
+        return Some(refused::REPEATS);
+    }
+    Policy::of(body.policy).err()
 }
 
 /// Whether summaries and worst times have room for a body.
@@ -352,10 +382,10 @@ impl Longest {
 
 // ---- the run
 
-/// The names of the fields of a run record that are outside their range.
+/// The names of the fields of a run record that are outside their range; a policy has none.
 pub fn body_fields_out(run: BodyRun) -> Vec<&'static str> {
     let number = i64::from;
-    let Body { n, levels, cycle, repeats } = run.body;
+    let Body { n, levels, cycle, repeats, .. } = run.body;
     let positions = number(n) * number(repeats);
     let reached = number(run.position) + i64::from(run.running);
     let tests = [
@@ -501,12 +531,14 @@ impl Unrolled {
 pub fn body_dry_frame(
     image: &[u8],
     repeats: u32,
+    policy: u32,
     durations: &[u32],
     order: &mut [u8],
     given: &mut [u8],
     marks: &mut [u8],
 ) -> Answer<BodyDried> {
     let profile = accept_body(image, repeats)?;
+    Policy::of(policy)?;
     let (n, cells) = (profile.n, profile.n * profile.levels);
     let repeats_of = |count: usize| count * repeats as usize;
     let rooms_short = order.len() < n || given.len() < repeats_of(n) || marks.len() < repeats_of(n);
@@ -517,7 +549,7 @@ pub fn body_dry_frame(
         return Err(refused::DURATION);
     }
     let (mut summaries, mut worst) = (vec![0; cells * SUMMARY_NUMBERS], vec![0; cells]);
-    let body = plan_body(image, repeats, order, &mut summaries, &mut worst).expect("it is accepted");
+    let body = plan_body(image, repeats, policy, order, &mut summaries, &mut worst).expect("it is accepted");
     let lent = Lent { body, summaries: &summaries, worst: &worst };
     Ok(cycle(&lent, |i, q| lent.worst(i, q), durations, given, marks))
 }

@@ -3,15 +3,20 @@
 #![allow(dead_code)]
 
 use nyokazerubi_host::c::C;
-use nyokazerubi_host::calls::{Answer, Calls, Counts, Fast, Reference, Refused, Tables, NO_ACTION};
+use nyokazerubi_host::calls::{
+    Answer, Calls, Counts, Fast, Reference, Refused, Tables, NO_ACTION, POLICY_2005, POLICY_2008,
+};
 use nyokazerubi_host::draw::Sketch;
 use nyokazerubi_host::product::Product;
 use nyokazerubi_host::reference::Profile;
 use nyokazerubi_host::text::BodyPlan;
 use std::path::{Path, PathBuf};
 
-/// The folder of the outside vectors that a crate runs under the gate (`test_cases`, `test_faults`, `test_recordings`, `test_repeats`,
-/// `test_traces` or `test_readings`): NYOKAZERUBI_VECTORS, or the data of that crate.
+/// The years of the policies.
+pub const POLICIES: [u32; 2] = [POLICY_2008, POLICY_2005];
+
+/// The folder of the outside vectors that a crate runs under the gate (`test_cases`, `test_faults`, `test_policies`, `test_recordings`,
+/// `test_repeats`, `test_traces` or `test_readings`): NYOKAZERUBI_VECTORS, or the data of that crate.
 pub fn vectors(kind: &str) -> PathBuf {
     let data = || Path::new(env!("CARGO_MANIFEST_DIR")).join("../crates").join(kind).join("data");
     let folder = std::env::var_os("NYOKAZERUBI_VECTORS").map_or_else(data, PathBuf::from);
@@ -75,19 +80,19 @@ impl Plan {
     }
 }
 
-pub fn plan(calls: &dyn Calls, image: &[u8]) -> Plan {
+pub fn plan(calls: &dyn Calls, image: &[u8], policy: u32) -> Plan {
     let counts = calls.check(image).expect("accepted");
     let (n, cells) = (counts.n, (counts.n * counts.levels));
     let mut plan =
         Plan { counts, order: vec![0; n], limits: vec![0; cells], worst: vec![0; cells], bounds: vec![0; cells * 16] };
-    let answer = calls.plan(image, &mut plan.order, &mut plan.limits, &mut plan.worst, &mut plan.bounds);
+    let answer = calls.plan(image, policy, &mut plan.order, &mut plan.limits, &mut plan.worst, &mut plan.bounds);
     assert_eq!(answer, Ok(counts));
     plan
 }
 
 /// The plan of an accepted body; what is lent for it beyond its own size is left alone.
-pub fn body_plan(calls: &dyn Calls, image: &[u8], repeats: u32) -> BodyPlan {
-    BodyPlan::of(calls, image, repeats).expect("an accepted body")
+pub fn body_plan(calls: &dyn Calls, image: &[u8], repeats: u32, policy: u32) -> BodyPlan {
+    BodyPlan::of(calls, image, repeats, policy).expect("an accepted body")
 }
 
 /// A sketch as the definitions take it.
@@ -115,6 +120,21 @@ pub fn three(cycle: u32) -> Vec<u8> {
         deadlines: vec![0; 3],
         averages: vec![2, 6, 2, 6, 2, 6],
         worst: vec![4, 8, 4, 8, 4, 8],
+        ..Sketch::default()
+    }
+    .image()
+}
+
+/// The chain of four by which the limits of 2005 fall along the order.
+pub fn falling() -> Vec<u8> {
+    Sketch {
+        n: 4,
+        levels: 2,
+        cycle: 20,
+        masks: vec![0, 1, 2, 4],
+        deadlines: vec![0; 4],
+        averages: vec![8, 8, 1, 6, 1, 2, 1, 4],
+        worst: vec![8, 8, 2, 12, 2, 3, 2, 14],
         ..Sketch::default()
     }
     .image()

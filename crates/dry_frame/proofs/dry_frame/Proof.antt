@@ -1,9 +1,9 @@
--- Refused by the image, by the room of the order or by the dry run, and else the frame. Assumes nothing.
+-- Refused by planning, by the room of the order or by the dry run, and else the frame. Assumes nothing.
 use mathlib.Core.Path.{refl}
 use native.Mathlib.Omega.{arith}
 use borrow.Author.Needs.{needs}
 use Rattle.rules.specs.Limits.{LentTables}
-use Rattle.dry_frame.proofs.Answers.{Planning, few, sound, n-is, image-refused, order-refused, dry-refused, framed}
+use Rattle.dry_frame.proofs.Answers.{Planning, few, sound, n-is, plan-refused, order-refused, dry-refused, framed}
 use Rattle.dry_frame.proofs.dry_frame.Statement.{statement}
 use Rattle.dry_frame.proofs.dry_frame.Tie as tie
 
@@ -14,11 +14,11 @@ abbrev start : tie.After-plan → tie.Start
 start c = c .before .before .before .before .before .before .before .before .before .before
 
 abbrev lent : tie.After-plan → LentTables
-lent c = let last = c .plan .last .1 in record { order = last .0; limits = last .1 .0; worst = last .1 .1 .0; bounds = last .1 .1 .1 .0 }
+lent c = let last = c .plan .last .1 .1 in record { order = last .0; limits = last .1 .0; worst = last .1 .1 .0; bounds = last .1 .1 .1 .0 }
 
-planning : (c : tie.After-plan) → Planning (start c .args .image .now) (lent c) (c .plan .result)
+planning : (c : tie.After-plan) → Planning (start c .args .image .now) (start c .args .policy) (lent c) (c .plan .result)
 planning c =
-    let lengths = c .plan .kept .1 in
+    let lengths = c .plan .kept .1 .1 in
     record {
       plans = c .plan .ensures;
       sized = record { order-room = search needs; limits-room = search needs; worst-room = search needs; bounds-room = search needs };
@@ -44,7 +44,7 @@ cycled c = c .before .before .before .before .before .before
 -- ---- the answers
 
 returns : tie.Need-returns
-returns c = let at = c .before in image-refused (planning (refused-at at)) _ _ (at .if1 .taken) (c .refused .ensures)
+returns c = let at = c .before in plan-refused (planning (refused-at at)) _ _ (at .if1 .taken) (c .refused .ensures)
 
 returns-2 : tie.Need-returns-2
 returns-2 c =

@@ -16,7 +16,7 @@ returns : tie.Need-returns
 returns c o g =
     let worked = c .before .before .before .before in
     let stored = worked .before .before .before .before .before .before in
-    all-filled g _ _ (stored .copy-front .ensures) (worked .work .ensures o g)
+    all-filled g _ _ _ (stored .copy-front .ensures) (worked .work .ensures o g)
 
 pub fill-spec : {M : Type 1} → statement M
 fill-spec =

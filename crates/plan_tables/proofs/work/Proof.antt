@@ -20,17 +20,17 @@ use Rattle.plan_tables.proofs.work.Statement.{statement}
 use Rattle.plan_tables.proofs.work.Tie as tie
 
 abbrev Inv-loop : tie.InvT-loop
-Inv-loop image n levels cycle actions limits₀ worst₀ bounds₀ entries next₀ i₀ limits worst bounds next i =
+Inv-loop image n levels cycle policy actions limits₀ worst₀ bounds₀ entries next₀ i₀ limits worst bounds next i =
     (i ≤ n)
     × (length limits ≡ length limits₀)
     × (length worst ≡ length worst₀)
     × (length bounds ≡ length bounds₀)
     × ((o : Order (profile image .n)) → PlanInput image n levels cycle actions o
-    → Back (tables (profile image) o) n levels (record { order = []; limits = limits₀; worst = worst₀; bounds = bounds₀ }) i next
+    → Back policy (tables (profile image) o) n levels (record { order = []; limits = limits₀; worst = worst₀; bounds = bounds₀ }) i next
     (record { order = []; limits = limits; worst = worst; bounds = bounds }))
 
 abbrev μ-loop : tie.MeasureT-loop
-μ-loop image n levels cycle actions limits₀ worst₀ bounds₀ entries next₀ i₀ limits worst bounds next i = i
+μ-loop image n levels cycle policy actions limits₀ worst₀ bounds₀ entries next₀ i₀ limits worst bounds next i = i
 
 bytes : (c : tie.After-after-last Inv-loop μ-loop) → Bytes (c .before .before .before .args .image .now)
 bytes c k = c .before .before .shared-slice-known .given k .fits
@@ -53,7 +53,7 @@ mul-entries c =
     omega (arith, mul-le-mul (has .few-actions) (has .few-levels))
 
 loop-holds : tie.Need-loop-holds Inv-loop μ-loop
-loop-holds c = (search needs, search needs, search needs, search needs, λ o g. back-none (lawful g (bytes c)) _ (c .after-last .ensures))
+loop-holds c = (search needs, search needs, search needs, search needs, λ o g. back-none (lawful g (bytes c)) _ _ (c .after-last .ensures))
 
 element-copy-out-a : tie.Need-element-copy-out-a Inv-loop μ-loop
 element-copy-out-a c = omega (arith, records (c .before .before .before .before .before .pre .0 .1) .few-actions)
@@ -82,8 +82,8 @@ work-row-requires c κs =
     let was = t .loop .inv .4 (given .0) (given .1) in
     record {
       present = action in-loop;
-      small = row-small S (i - 1) i (omega arith) (t .loop .inv .0) (was .worked .row) at;
-      spares = λ q k c. sixteen-spares S (s .args .bounds .now) (room .bounds-room) (i - 1) i (omega arith) (t .loop .inv .0) (was .bounded) q c (at .worsts q c) k;
+      small = row-small S _ (i - 1) i (omega arith) (t .loop .inv .0) (was .worked .row) at;
+      spares = λ q k c. sixteen-spares S (s .args .policy) (s .args .bounds .now) (room .bounds-room) (i - 1) i (omega arith) (t .loop .inv .0) (was .bounded) q c (at .worsts q c) k;
       inside = inside in-loop;
       room = record {
         limits-room = omega (arith, room .limits-room, t .loop .inv .1);
@@ -95,22 +95,24 @@ work-row-requires c κs =
 loop-again : tie.Need-loop-again Inv-loop μ-loop
 loop-again c =
     let done = c .before .before .before .before .work-row in
-    let t = c .before .before .before .before .before .before .before .before .before .before .before in
+    let in-loop = c .before .before .before .before .before .before .before .before .before .before in
+    let t = in-loop .before in
+    let some = in-loop .loop-test .taken in
     let due = c .before .before .before .before .before .before .before .before .due-at .ensures in
     let room = t .before .before .before .before .pre .1 in
     let i = t .loop .i in (
       search needs,
-      done .kept .1 .1 .1 .1 .1 .1 .1 .0 ∙ t .loop .inv .1,
-      done .kept .1 .1 .1 .1 .1 .1 .1 .1 .0 ∙ t .loop .inv .2,
-      done .kept .1 .1 .1 .1 .1 .1 .1 .1 .1 .0 ∙ t .loop .inv .3,
-      λ o g. back-more (lawful g (bytes (t .before))) _ (i - 1) i (omega arith) (t .loop .inv .0) room (t .loop .inv .4 o g)
-          (position g (i - 1) (omega arith) due) (done .ensures),
+      done .kept .1 .1 .1 .1 .1 .1 .1 .1 .0 ∙ t .loop .inv .1,
+      done .kept .1 .1 .1 .1 .1 .1 .1 .1 .1 .0 ∙ t .loop .inv .2,
+      done .kept .1 .1 .1 .1 .1 .1 .1 .1 .1 .1 .0 ∙ t .loop .inv .3,
+      λ o g. back-more (lawful g (bytes (t .before))) _ _ (i - 1) i (omega (arith, some)) (t .loop .inv .0) room (t .loop .inv .4 o g)
+          (position g (i - 1) (omega (arith, some)) due) (done .ensures),
     )
 
 returns : tie.Need-returns Inv-loop μ-loop
 returns c o g =
     let t = c .before in
-    back-done o _ (t .loop .i) (omega arith) (lawful g (bytes (t .before))) (t .loop .inv .4 o g)
+    back-done _ o _ (t .loop .i) (omega arith) (lawful g (bytes (t .before))) (t .loop .inv .4 o g)
 
 pub work-spec : {M : Type 1} → statement M
 work-spec =

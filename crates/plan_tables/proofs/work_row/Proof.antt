@@ -1,11 +1,11 @@
 -- The levels below q are worked and stored. Assumes nothing.
-use mathlib.Core.Path.{_≡_, sym, ap, subst, _∙_}
+use mathlib.Core.Path.{_≡_, sym, ap, ap₂, subst, _∙_}
 use mathlib.Core.List.{List}
 use Prim.Native.Nat.{ℕ, suc, _+_, _-_, _*_, _≤_}
 use native.Mathlib.Omega.{arith}
 use borrow.Author.Needs.{needs}
 use lib.IntN.{ℤ, pos}
-use lib.ListN.{length, replicate}
+use lib.ListN.{length, getD, replicate}
 use mir.Syntax.{w32}
 use mir.Val.{toZ, ofZ}
 use Rattle.rules.specs.Words.{cat, tab}
@@ -13,7 +13,7 @@ use Rattle.rules.specs.Image.{average-of, worst-of}
 use Rattle.fields.specs.Fields.{splice}
 use Rattle.fields.proofs.Cats.{cat-none, cat-more, cat-done, length-cat}
 use Rattle.fields.proofs.Tabs.{tab-more, length-tab}
-use Rattle.plan_entry.specs.Rows.{limits-of, row-of-eight}
+use Rattle.plan_entry.specs.Rows.{carried-of, rooms-of, limits-of, row-of-eight, SmallStart, SmallLimit}
 use Rattle.plan_entry.specs.Bounds.{bounds-by, bound-in, Spares}
 use Rattle.plan_entry.proofs.Signed.{as-is}
 use Rattle.plan_entry.proofs.Coast.{bounds-stored}
@@ -21,35 +21,47 @@ use Rattle.plan_entry.proofs.Sixteens.{bound-kept}
 use Rattle.plan_tables.proofs.work_row.Statement.{statement}
 use Rattle.plan_tables.proofs.work_row.Tie as tie
 
+-- what level q carries on
+abbrev carries : (policy : ℕ) (s : List ℕ) (a due : ℕ) (next : List ℤ) → ℕ → ℤ
+carries policy s a due next q =
+    carried-of policy q (limits-of next (average-of s a) (worst-of s a) due q) (rooms-of next (average-of s a) due q)
+
 -- the sixteen of level q, from the bounds as they stood
 abbrev sixteens : (s : List ℕ) (L a due : ℕ) (next : List ℤ) (from entries : ℕ) (bounds : List ℤ) → ℕ → List ℤ
 sixteens s L a due next from entries bounds q =
     bounds-by (limits-of next (average-of s a) (worst-of s a) due q) (worst-of s a q) (bound-in bounds entries (from + q + L))
 
 abbrev Inv-loop : tie.InvT-loop
-Inv-loop image levels a due from entries limits₀ worst₀ bounds₀ next here₀ q₀ limits worst bounds here q =
+Inv-loop image levels policy a due from entries limits₀ worst₀ bounds₀ next first here₀ q₀ limits worst bounds here q =
     (q ≤ levels)
     × (length here ≡ 8)
     × (length limits ≡ length limits₀)
     × (length worst ≡ length worst₀)
     × (length bounds ≡ length bounds₀)
-    × (here ≡ splice (replicate 8 (pos 0)) 0 (tab (limits-of next (average-of image a) (worst-of image a) due) q))
+    × (here ≡ splice (replicate 8 (pos 0)) 0 (tab (carries policy image a due next) q))
     × (limits ≡ splice limits₀ from (tab (limits-of next (average-of image a) (worst-of image a) due) q))
     × (worst ≡ splice worst₀ from (tab (worst-of image a) q))
     × (bounds ≡ splice bounds₀ (from * 16) (cat (sixteens image levels a due next from entries bounds₀) q))
 
 abbrev μ-loop : tie.MeasureT-loop
-μ-loop image levels a due from entries limits₀ worst₀ bounds₀ next here₀ q₀ limits worst bounds here q = levels - q
+μ-loop image levels policy a due from entries limits₀ worst₀ bounds₀ next first here₀ q₀ limits worst bounds here q = levels - q
+
+-- the start of a turn, and its level
+abbrev start : tie.In-loop Inv-loop μ-loop → tie.Start Inv-loop μ-loop
+start c = c .before .before .before .before .before
+
+abbrev level : tie.In-loop Inv-loop μ-loop → ℕ
+level c = c .before .loop .q
 
 -- the bounds of the position after it stand as they did
-kept : (c : tie.In-loop Inv-loop μ-loop) → let a = c .before .before .before .before .args in
-    let x = a .from + c .before .loop .q + a .levels in
+kept : (c : tie.In-loop Inv-loop μ-loop) → let a = start c .args in
+    let x = a .from + level c + a .levels in
     (k : ℕ) → bound-in (c .before .loop .bounds) (a .entries) x k ≡ bound-in (a .bounds .now) (a .entries) x k
 kept c =
-    let s = c .before .before .before .before in
+    let s = start c in
     let a = s .args in
     let t = c .before .loop in
-    let done = length-cat (sixteens (a .image .now) (a .levels) (a .a) (a .due) (a .t5) (a .from) (a .entries) (a .bounds .now)) 16
+    let done = length-cat (sixteens (a .image .now) (a .levels) (a .a) (a .due) (a .t6) (a .from) (a .entries) (a .bounds .now)) 16
     (λ p. ap suc (length-tab _ 15)) (t .q) in
     bound-kept (a .bounds .now) _ (a .from * 16) (a .entries) (a .from + t .q + a .levels)
     (omega (arith, done, s .pre .inside, s .pre .room .bounds-room)) (omega (arith, done)) (t .inv .8)
@@ -58,46 +70,73 @@ loop-holds : tie.Need-loop-holds Inv-loop μ-loop
 loop-holds c =
     (search needs, search needs, search needs, search needs, search needs, cat-none _ _ _, cat-none _ _ _, cat-none _ _ _, cat-none _ _ _)
 
+-- ---- the turn's room, limit and number carried on
+
+abbrev averages : (c : tie.In-loop Inv-loop μ-loop) → ℕ → ℕ
+averages c = average-of (start c .args .image .now) (start c .args .a)
+
+abbrev worsts : (c : tie.In-loop Inv-loop μ-loop) → ℕ → ℕ
+worsts c = worst-of (start c .args .image .now) (start c .args .a)
+
+small : (c : tie.In-loop Inv-loop μ-loop) → SmallLimit (start c .args .t6) (averages c) (worsts c) (start c .args .due) (level c)
+small c = start c .pre .small (level c) (omega arith)
+
+latest-start-requires : tie.Need-latest-start-requires Inv-loop μ-loop
+latest-start-requires c κs =
+    let in-loop = c .before .before .before in
+    rw (as-is _ (c .after .given), c .before .before .average-at .ensures) (small in-loop .by-average)
+
+room-is : (c : tie.After-latest-start Inv-loop μ-loop) → let in-loop = c .before .before .before .before in
+    toZ w32 (ofZ w32 (c .latest-start .result)) ≡ rooms-of (start in-loop .args .t6) (averages in-loop) (start in-loop .args .due) (level in-loop)
+room-is c = rw (as-is (c .latest-start .result) (c .latest-start .ok))
+    (rw (as-is _ (c .before .after .given), c .before .before .before .average-at .ensures) at (c .latest-start .ensures))
+
+-- the number of level 0 that the row after it carries
+first-is : (c : tie.In-loop Inv-loop μ-loop) → let first = getD (start c .args .t6) 0 (pos 0) in toZ w32 (ofZ w32 first) ≡ first
+first-is c = as-is _ (c .before .before .first .given)
+
 limit-of-requires : tie.Need-limit-of-requires Inv-loop μ-loop
 limit-of-requires c κs =
-    let s = c .before .before .before .before .before .before .before .before in
-    let small = s .pre .small (c .before .before .before .before .before .loop .q) (omega arith) in
-    rw (
-      as-is _ (c .before .limit-of-arg .given),
-      as-is _ (c .limit-of-arg2 .given),
-      c .before .before .worst-at .ensures,
-      c .before .before .before .average-at .ensures,
-    ) small
+    let in-loop = c .before .before .before .before in
+    let a = start in-loop .args in
+    let longest = c .before .before .worst-at in
+    let by-worst = subst (SmallStart (a .due) (getD (a .t6) 0 (pos 0))) (sym (longest .ensures)) (small in-loop .by-worst) in
+    subst (λ (z : ℤ). SmallStart (a .due) z (longest .result)) (sym (first-is in-loop)) by-worst
+
+limit-is : (c : tie.After-limit-of Inv-loop μ-loop) → let in-loop = c .before .before .before .before .before in
+    toZ w32 (ofZ w32 (c .limit-of .result))
+    ≡ limits-of (start in-loop .args .t6) (averages in-loop) (worsts in-loop) (start in-loop .args .due) (level in-loop)
+limit-is c = rw (as-is (c .limit-of .result) (c .limit-of .ok))
+    (rw (first-is (c .before .before .before .before .before), c .before .before .before .worst-at .ensures, room-is (c .before)) at (c .limit-of .ensures))
+
+carried-is : (c : tie.After-carried Inv-loop μ-loop) → let in-loop = c .before .before .before .before .before .before in
+    let a = start in-loop .args in
+    toZ w32 (ofZ w32 (c .carried .result)) ≡ carries (a .policy) (a .image .now) (a .a) (a .due) (a .t6) (level in-loop)
+carried-is c =
+    let in-loop = c .before .before .before .before .before .before in
+    as-is (c .carried .result) (c .carried .ok)
+    ∙ c .carried .ensures
+    ∙ ap₂ (carried-of (start in-loop .args .policy) (level in-loop)) (limit-is (c .before)) (room-is (c .before .before))
 
 bounds-of-requires : tie.Need-bounds-of-requires Inv-loop μ-loop
 bounds-of-requires c κs =
-    let in-loop = c .before .before .before .before .before .before in
-    let s = in-loop .before .before .before .before in
+    let in-loop = c .before .before .before .before .before .before .before in
+    let s = start in-loop in
     let t = in-loop .before .loop in
-    let longest = c .before .before .before .before .worst-at .ensures in (
+    let longest = c .before .before .before .before .before .worst-at .ensures in (
       (omega (arith, s .pre .inside), s .pre .present .few-levels, omega (arith, s .pre .room .bounds-room, t .inv .4)),
       (λ k h. rw (kept in-loop k) (subst (λ (w : ℕ). Spares w (bound-in (s .args .bounds .now) (s .args .entries) (s .args .from + t .q + s .args .levels) k))
           (sym longest) (s .pre .spares (t .q) k (omega arith) h))),
     )
 
--- the limit of the turn
-limit-is : (c : tie.After-limit-of Inv-loop μ-loop) → let a = c .before .before .before .before .before .before .before .before .before .args in
-    toZ w32 (ofZ w32 (c .limit-of .result))
-    ≡ limits-of (a .t5) (average-of (a .image .now) (a .a)) (worst-of (a .image .now) (a .a)) (a .due) (c .before .before .before .before .before .before .loop .q)
-limit-is c = rw (as-is (c .limit-of .result) (c .limit-of .ok)) (rw (
-  as-is _ (c .before .before .limit-of-arg .given),
-  as-is _ (c .before .limit-of-arg2 .given),
-  c .before .before .before .worst-at .ensures,
-  c .before .before .before .before .average-at .ensures,
-) at (c .limit-of .ensures))
-
 loop-again : tie.Need-loop-again Inv-loop μ-loop
 loop-again c =
-    let in-loop = c .before .before .before .before .before .before .before .before in
-    let s = in-loop .before .before .before .before in
+    let carried = c .before .before .before in
+    let worked = carried .before in
+    let in-loop = worked .before .before .before .before .before in
+    let s = start in-loop in
     let a = s .args in
     let t = in-loop .before .loop in
-    let worked = c .before .before .before in
     let longest = worked .before .before .before .worst-at .ensures in
     let limit = limit-is worked in
     let done = c .before .bounds-of in
@@ -109,10 +148,10 @@ loop-again c =
       search needs,
       search needs,
       done .kept .1 .1 .1 .1 .1 .0 ∙ t .inv .4,
-      tab-more _ _ 0 (t .q) (t .q) (omega arith) (omega arith) (t .inv .1) limit (t .inv .5),
+      tab-more _ _ 0 (t .q) (t .q) (omega arith) (omega arith) (t .inv .1) (carried-is carried) (t .inv .5),
       tab-more _ _ (a .from) (a .from + t .q) (t .q) (omega (arith, room .limits-room)) (omega arith) (t .inv .2) limit (t .inv .6),
       tab-more _ _ (a .from) (a .from + t .q) (t .q) (omega (arith, room .worst-room)) (omega arith) (t .inv .3) longest (t .inv .7),
-      cat-more (sixteens (a .image .now) (a .levels) (a .a) (a .due) (a .t5) (a .from) (a .entries) (a .bounds .now)) 16
+      cat-more (sixteens (a .image .now) (a .levels) (a .a) (a .due) (a .t6) (a .from) (a .entries) (a .bounds .now)) 16
           (λ p. ap suc (length-tab _ 15)) (a .bounds .now) (a .from * 16) ((a .from + t .q) * 16) (t .q) (omega arith) (omega arith) (t .inv .8)
           (bounds-stored (t .bounds) ((a .from + t .q) * 16) limit longest (λ k h. kept in-loop k) (done .ensures)),
     )
@@ -120,7 +159,7 @@ loop-again c =
 returns : tie.Need-returns Inv-loop μ-loop
 unfolding row-of-eight
 returns c =
-    let a = c .before .before .before .before .args in
+    let a = c .before .before .before .before .before .args in
     let t = c .before .loop in
     let all : t .q ≡ a .levels = omega arith in
     record {
@@ -136,13 +175,15 @@ work-row-spec =
     (tie.spec
     Inv-loop
     μ-loop
+    (λ c. search needs)
     loop-holds
     (λ c κs. search needs)
     (λ c κs. search needs)
     (λ c. search needs)
     (λ c. search needs)
-    (λ c. search needs)
+    latest-start-requires
     limit-of-requires
+    (λ c κs. search needs)
     (λ c. search needs)
     (λ c. search needs)
     (λ c. search needs)

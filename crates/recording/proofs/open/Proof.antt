@@ -1,4 +1,4 @@
--- Refused by the image or the length, refused by planning, and else opened. Assumes nothing.
+-- Refused by the image, the policy or the length, refused by planning, and else opened. Assumes nothing.
 use mathlib.Core.Path.{subst}
 use mathlib.Core.Bool.{true}
 use native.Mathlib.Omega.{arith}
@@ -25,26 +25,26 @@ planned c = c .before .before .before .before .before .before .before .before .b
 returns : tie.Need-returns
 returns c =
     let at = c .before .before in
-    length-refused _ _ _ (subst (LengthFits _ _) (not-true _ (at .if1 .taken)) (at .before .whole-frames .ensures)) (c .before .length-refusal .ensures)
+    length-refused _ _ _ _ (subst (LengthFits _ _) (not-true _ (at .if1 .taken)) (at .before .whole-frames .ensures)) (c .before .length-refusal .ensures)
     (c .unopened .ensures)
 
 returns-2 : tie.Need-returns-2
 returns-2 c =
     let at = c .before in
     let p = at .before .before .before .before .before .before .before .before .before in
-    plan-refused _ _ _ (fitting p) (p .plan .ensures) (at .if2 .taken) (c .unopened2 .ensures)
+    plan-refused _ _ _ _ (fitting p) (p .plan .ensures) (at .if2 .taken) (c .unopened2 .ensures)
 
 mul-frame-bytes : tie.Need-mul-frame-bytes
-mul-frame-bytes c = let p = planned c in omega (arith, few-cells _ _ _ (fitting p) (p .plan .ensures) (c .if2 .left))
+mul-frame-bytes c = let p = planned c in omega (arith, few-cells _ _ _ _ (fitting p) (p .plan .ensures) (c .if2 .left))
 
 mul-frame-bytes-2 : tie.Need-mul-frame-bytes-2
-mul-frame-bytes-2 c = let p = planned c in omega (arith, few-cells _ _ _ (fitting p) (p .plan .ensures) (c .if2 .left))
+mul-frame-bytes-2 c = let p = planned c in omega (arith, few-cells _ _ _ _ (fitting p) (p .plan .ensures) (c .if2 .left))
 
-div-t23 : tie.Need-div-t23
-div-t23 c = let p = planned c in some-bytes _ _ _ (fitting p) (p .plan .ensures) (c .if2 .left)
+div-t24 : tie.Need-div-t24
+div-t24 c = let p = planned c in some-bytes _ _ _ _ (fitting p) (p .plan .ensures) (c .if2 .left)
 
 returns-3 : tie.Need-returns-3
-returns-3 c = let p = planned c in opened _ _ _ (fitting p) (p .plan .ensures) (c .if2 .left)
+returns-3 c = let p = planned c in opened _ _ _ _ (fitting p) (p .plan .ensures) (c .if2 .left)
 
 pub open-spec : {M : Type 1} → statement M
 open-spec =
@@ -63,7 +63,7 @@ open-spec =
     returns-2
     mul-frame-bytes
     mul-frame-bytes-2
-    div-t23
+    div-t24
     (λ c. search needs)
     (λ c. search needs)
     (λ c. search needs)

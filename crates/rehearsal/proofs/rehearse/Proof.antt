@@ -5,10 +5,10 @@ use mathlib.Core.List.{List, [], _∷_}
 use mathlib.Core.Logic.{⊎-elim}
 use native.Mathlib.Omega.{arith}
 use borrow.Author.Needs.{needs}
-use Rattle.rules.specs.Numbers.{refused-trace, refused-room}
+use Rattle.rules.specs.Numbers.{refused-trace, refused-room, refused-policy}
 use Rattle.rules.specs.Image.{profile}
 use Rattle.rules.specs.Limits.{LentTables}
-use Rattle.rules.specs.Refusals.{Ground, _when_, Tight}
+use Rattle.rules.specs.Refusals.{Ground, _when_, Tight, UnknownPolicy}
 use Rattle.rules.specs.Recording.{frame-bytes, NotFrames}
 use Rattle.rules.proofs.Refusals.{Sound, accepted-parts}
 use Rattle.planner.specs.Planning.{plan-rooms}
@@ -18,10 +18,11 @@ use Rattle.print.proofs.Plans.{few}
 use Rattle.rehearsal.proofs.rehearse.Statement.{statement}
 use Rattle.rehearsal.proofs.rehearse.Tie as tie
 
-module _ {s : List ℕ} {bytes : ℕ} {before after : LentTables} {r : Opened} (opens : Opens s bytes before after r) (none : r .refusal .number ≡ 0) where
+module _ {s : List ℕ} {policy bytes : ℕ} {before after : LentTables} {r : Opened} (opens : Opens s policy bytes before after r) (none : r .refusal .number ≡ 0) where
   abbrev own : List Ground
   own =
-      refused-trace when NotFrames (profile s .n) (profile s .levels) bytes
+      refused-policy when UnknownPolicy policy
+      ∷ refused-trace when NotFrames (profile s .n) (profile s .levels) bytes
       ∷ refused-room when Tight (plan-rooms (profile s .n) (profile s .levels) before)
       ∷ []
 

@@ -28,7 +28,7 @@ past c = omega (arith, c .if1 .left)
 room-nearer-requires : tie.Need-room-nearer-requires
 room-nearer-requires c κs = start c .pre .own (past c)
 
-nears-at : {s : List ℕ} {q r after : ℕ} {room : Room} → q ≡ r → Nears s r after room → Nears s q after room
+nears-at : {policy : ℕ} {s : List ℕ} {q r after : ℕ} {room : Room} → q ≡ r → Nears policy s r after room → Nears policy s q after room
 nears-at e h = rw e h
 
 room-nearer-requires-2 : tie.Need-room-nearer-requires-2
@@ -44,8 +44,8 @@ sub-t13 c = let e = else1 c in omega (arith, start e .pre .own (past e) .some)
 
 -- the level above, where there is one
 above-nearer : (c : tie.Joined2) → let a = start (else1 c) .args in let y = stretch-at (a .summaries .now) (suc (a .level)) in
-    suc (a .level) < a .body .levels → (cycle begins : ℕ) → a .here .above ≡ room-left cycle begins (later-of y (a .here .after))
-    → c .if2 .above ≡ room-left cycle begins (later-of y (a .here .after - 1))
+    suc (a .level) < a .body .levels → (cycle begins : ℕ) → a .here .above ≡ room-left cycle begins (later-of (a .body .policy) y (a .here .after))
+    → c .if2 .above ≡ room-left cycle begins (later-of (a .body .policy) y (a .here .after - 1))
 above-nearer c top cycle begins is =
     let a = start (else1 c) .args in
     ⊎-elim

@@ -6,6 +6,21 @@ use Rattle.repeat_decision.proofs.Ends.{long-granted, each-granted}
 use Rattle.repeat_decision.proofs.left_granted.Statement.{statement}
 use Rattle.repeat_decision.proofs.left_granted.Tie as tie
 
+last-reach-requires : tie.Need-last-reach-requires
+last-reach-requires c κs =
+    let m = c .before .before .before .before in
+    let h = m .before .before .before .before .pre in
+    record {
+      counts = h .summarised .counts;
+      summed = h .summarised .summed;
+      inside = h .summarised .inside;
+      fewer = h .summarised .fewer;
+      level = h .level;
+      some = omega (arith, m .most .ensures, h .summarised .inside);
+      most = omega (arith, m .most .ensures);
+      room = omega (arith, m .most .ensures);
+    }
+
 returns : tie.Need-returns
 returns c x s =
     let last = c .before .before in
@@ -30,7 +45,7 @@ left-granted-spec =
     (λ c κs. search needs)
     (λ c. search needs)
     (λ c. search needs)
-    (λ c κs. search needs)
+    last-reach-requires
     (λ c. search needs)
     (λ c. search needs)
     (λ c. search needs)

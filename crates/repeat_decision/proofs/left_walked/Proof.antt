@@ -77,7 +77,7 @@ shared-slice-read-onward c = let m = c .before .before .before in omega (arith, 
 
 -- the room at the decision
 module _ (c : tie.After-struct-known3 Inv-loop μ-loop) where
-  own-is : let a = start c .args in a .fit .own ≡ room-left (a .body .cycle) (a .t) (later-of (stretch-at (a .summaries .now) (a .fit .levels - 1)) (a .after))
+  own-is : let a = start c .args in a .fit .own ≡ room-left (a .body .cycle) (a .t) (later-of (a .body .policy) (stretch-at (a .summaries .now) (a .fit .levels - 1)) (a .after))
   own-is = let h = start c .pre .0 in h .rooms .own (h .some)
 
 room-above-requires : tie.Need-room-above-requires Inv-loop μ-loop

@@ -22,7 +22,7 @@ returns-2 : tie.Need-returns-2
 returns-2 c top =
     let a = c .before .before .before .before .args in
     let one : a .level + 1 ≡ suc (a .level) = omega arith in
-    c .room-before .ensures ∙ ap (λ (q : ℕ). room-left (a .body .cycle) (a .t) (later-of (stretch-at (a .summaries .now) q) (a .after))) one
+    c .room-before .ensures ∙ ap (λ (q : ℕ). room-left (a .body .cycle) (a .t) (later-of (a .body .policy) (stretch-at (a .summaries .now) q) (a .after))) one
 
 pub room-above-spec : {M : Type 1} → statement M
 room-above-spec = tie.close (tie.spec (λ c. search needs) (λ c. search needs) returns (λ c. search needs) room-before-requires returns-2)

@@ -17,12 +17,12 @@ abbrev start : tie.After-plan → tie.Start
 start c = c .before .before .before .before .before .before .before .before .before
 
 abbrev lent : tie.After-plan → LentBody
-lent c = let last = c .plan .last .1 .1 in record { order = last .0; summaries = last .1 .0; worst = last .1 .1 .0 }
+lent c = let last = c .plan .last .1 .1 .1 in record { order = last .0; summaries = last .1 .0; worst = last .1 .1 .0 }
 
 abbrev lists : tie.Start → FrameLists
 lists s = record { order = s .args .order .now; levels = s .args .given .now; decided = s .args .marks .now }
 
-planning : (c : tie.After-plan) → Planning (start c .args .image .now) (start c .args .repeats) (lent c) (c .plan .result)
+planning : (c : tie.After-plan) → Planning (start c .args .image .now) (start c .args .repeats) (start c .args .policy) (lent c) (c .plan .result)
 planning c = record { plans = c .plan .ensures; order-room = search needs; summaries-room = search needs; worst-room = search needs }
 
 -- it is refused; it is not
@@ -71,8 +71,8 @@ copy-front-requires c κs =
     let b = has-room p (start (planned e) .args .durations .now) (lists (start (planned e))) (e .if1 .left) (own .own-refusal .ensures) (else2 .if2 .left) in
     (omega (arith, k .few, p .order-room), omega (arith, b .orders, ap (λ (x : Body). x .n) (body-is p (e .if1 .left))))
 
-mul-t43 : tie.Need-mul-t43
-mul-t43 c =
+mul-t44 : tie.Need-mul-t44
+mul-t44 c =
     let walked = c .before .before .before .before .before .before .before .before .before .before .before in
     let e = accepted (else2-of walked .before) in
     omega (arith, products (counts (planning (planned e)) (e .if1 .left)) .total)
@@ -109,7 +109,7 @@ dry-frame-spec =
     (λ c. search needs)
     (λ c. search needs)
     copy-front-requires
-    mul-t43
+    mul-t44
     (λ c. search needs)
     (λ c. search needs)
     (λ c. search needs)

@@ -4,23 +4,23 @@ use mathlib.Core.Path.{_≡_, sym, _∙_}
 use native.Mathlib.Omega.{arith}
 use borrow.Author.Needs.{needs}
 use Rattle.rules.specs.Refusals.{first}
-use Rattle.rules.specs.Repeat.{body-tests, body-bound-refusal}
-use Rattle.repeat_limits.proofs.Refusing.{counts-in, Products, products, body-first, bound-passed}
+use Rattle.rules.specs.Repeat.{known-tests, body-bound-refusal}
+use Rattle.repeat_limits.proofs.Refusing.{counts-in, known-passes, Products, products, body-first, bound-passed}
 use Rattle.repeat_limits.proofs.bound_refusal.Statement.{statement}
 use Rattle.repeat_limits.proofs.bound_refusal.Tie as tie
 
 -- after the first test
-counted : (c : tie.Else1) → 0 ≡ first (body-tests (c .before .before .before .before .args .body))
-counted c = sym (c .if1 .left) ∙ c .before .body-refusal .ensures
+counted : (c : tie.Else1) → 0 ≡ first (known-tests (c .before .before .before .before .args .body))
+counted c = sym (c .if1 .left) ∙ c .before .known-refusal .ensures
 
 few : (c : tie.Else1) → Products (c .before .before .before .before .args .body)
-few c = products (counts-in _ (counted c))
+few c = products (counts-in _ (known-passes (c .before .before .before .before .args .body) (counted c)))
 
 returns : tie.Need-returns
 unfolding body-bound-refusal
 returns c =
     let b = c .before .before .before .before .args .body in
-    let e = c .before .body-refusal .ensures in
+    let e = c .before .known-refusal .ensures in
     e ∙ body-first b _ (λ z. c .if1 .taken (e ∙ z))
 
 mul-cells : tie.Need-mul-cells

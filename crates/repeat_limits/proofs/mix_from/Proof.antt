@@ -14,7 +14,7 @@ returns : tie.Need-returns
 returns c =
     let a = c .before .before .before .args in
     let x = stretch-at (a .summaries .now) (a .x) in (
-      c .mix-before .ensures .0 ∙ ap (mix-before x) (c .before .bodies-after .ensures .is) ∙ joins x (stretch-at (a .summaries .now) (a .q)) (a .after),
+      c .mix-before .ensures .0 ∙ ap (mix-before x) (c .before .bodies-after .ensures .is) ∙ joins (a .policy) x (stretch-at (a .summaries .now) (a .q)) (a .after),
       c .mix-before .ensures .1,
     )
 

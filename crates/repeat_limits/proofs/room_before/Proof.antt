@@ -1,16 +1,15 @@
--- What is left for M, and for the averages where there is a body. Assumes nothing.
+-- What is left for M, and for the averages where they count. Assumes nothing.
 use Prim.Native.Nat.{ℕ, _+_, _≤_, _<_}
-use mathlib.Core.Path.{_≡_, _∙_}
+use mathlib.Core.Path.{_≡_, ap, _∙_}
 use native.Mathlib.Omega.{arith}
 use lib.IntN.{ℤ, pos, _-ℤ_}
 use lib.Signed.{mag}
 use mir.Syntax.{w64}
 use mir.Val.{toZ, ofZ}
 use borrow.Author.Needs.{needs}
-use Rattle.rules.specs.Repeat.{stretch-at}
 use Rattle.rules.proofs.Differences.{take-both}
 use Rattle.repeat_laws.proofs.Ranges.{difference-within}
-use Rattle.repeat_limits.specs.Limits.{signed-above, ample, greatest-later}
+use Rattle.repeat_limits.specs.Limits.{signed-above, ample, greatest-later, room-left}
 use Rattle.repeat_limits.proofs.Rooms.{kept, room-none, room-some}
 use Rattle.repeat_limits.proofs.room_before.Statement.{statement}
 use Rattle.repeat_limits.proofs.room_before.Tie as tie
@@ -42,8 +41,19 @@ module _ (c : tie.After-less) where
 taken-requires : tie.Need-taken-requires
 taken-requires c κs = let few = c .before .bodies-after .ensures .few-lowest in (omega (arith, few), near c _ few)
 
+taken-requires-2 : tie.Need-taken-requires-2
+taken-requires-2 c κs = let few = c .before .before .before .bodies-after .ensures .few-mix in (omega (arith, few), near (c .before .before) _ few)
+
 returns : tie.Need-returns
 returns c =
+    let left = c .before .before .before in
+    let a = start left .args in
+    let e = left .before .bodies-after .ensures in
+    rw (after-is left _ (e .few-lowest) (c .before .before .taken .ensures), after-is left _ (e .few-mix) (c .taken2 .ensures))
+    (room-some (a .cycle) (a .begins) (left .before .bodies-after .result) (c .before .if1 .taken) ∙ ap (room-left (a .cycle) (a .begins)) (e .is))
+
+returns-2 : tie.Need-returns-2
+returns-2 c =
     let left = c .before .before .before in
     let a = start left .args in
     let e = left .before .bodies-after .ensures in
@@ -51,18 +61,7 @@ returns c =
       after-is left _ (e .few-lowest) (c .before .before .taken .ensures),
       kept (a .cycle + ample) (a .begins) (c .less2 .ensures) (omega arith) (omega (arith, start left .pre .early)),
     )
-    (room-none (a .cycle) (a .begins) (stretch-at (a .summaries .now) (a .q)) (a .after) (e .is) (c .before .if1 .taken))
-
-taken-requires-2 : tie.Need-taken-requires-2
-taken-requires-2 c κs = let few = c .before .before .before .bodies-after .ensures .few-mix in (omega (arith, few), near (c .before .before) _ few)
-
-returns-2 : tie.Need-returns-2
-returns-2 c =
-    let left = c .before .before .before in
-    let a = start left .args in
-    let e = left .before .bodies-after .ensures in
-    rw (after-is left _ (e .few-lowest) (c .before .before .taken .ensures), after-is left _ (e .few-mix) (c .taken2 .ensures))
-    (room-some (a .cycle) (a .begins) (stretch-at (a .summaries .now) (a .q)) (a .after) (e .is) (c .before .if1 .left))
+    (room-none (a .cycle) (a .begins) (left .before .bodies-after .result) (c .before .if1 .left) ∙ ap (room-left (a .cycle) (a .begins)) (e .is))
 
 pub room-before-spec : {M : Type 1} → statement M
 room-before-spec =
@@ -71,8 +70,8 @@ room-before-spec =
     (λ c κs. search needs)
     less-requires
     taken-requires
+    taken-requires-2
+    returns
     (λ c. search needs)
     (λ c κs. search needs)
-    returns
-    taken-requires-2
     returns-2)

@@ -26,14 +26,14 @@ fill-requires c κs =
     let none = else1 .if1 .left in
     (some-input (lent checked) admits none, (order-room (lent checked) admits none, entries-room (lent checked) admits none))
 
-cast-t28 : tie.Need-cast-t28
-cast-t28 c =
+cast-t29 : tie.Need-cast-t29
+cast-t29 c =
     let else1 = c .before .before .before .before .before .before .before .before .before .before .before .before in
     let checked = else1 .before .before .before in
     omega (arith, few (lent checked) (checked .with-room .ensures) (else1 .if1 .left) .few-actions)
 
-cast-t29 : tie.Need-cast-t29
-cast-t29 c =
+cast-t30 : tie.Need-cast-t30
+cast-t30 c =
     let else1 = c .before .before .before .before .before .before .before .before .before .before .before .before in
     let checked = else1 .before .before .before in
     omega (arith, few (lent checked) (checked .with-room .ensures) (else1 .if1 .left) .few-levels)
@@ -45,7 +45,7 @@ returns-2 c =
     let checked = else1 .before .before .before in
     let after = filled .fill .last in
     all-written (lent checked) (checked .with-room .ensures) (else1 .if1 .left)
-    {after = record { order = after .1 .1 .1 .1 .0; summaries = after .1 .1 .1 .1 .1 .0; worst = after .1 .1 .1 .1 .1 .1 .0 }} (filled .fill .ensures)
+    {after = record { order = after .1 .1 .1 .1 .1 .0; summaries = after .1 .1 .1 .1 .1 .1 .0; worst = after .1 .1 .1 .1 .1 .1 .1 .0 }} (filled .fill .ensures)
 
 pub plan-spec : {M : Type 1} → statement M
 plan-spec =
@@ -58,8 +58,8 @@ plan-spec =
     (λ c. search needs)
     returns
     fill-requires
-    cast-t28
     cast-t29
+    cast-t30
     (λ c. search needs)
     (λ c. search needs)
     (λ c. search needs)

@@ -15,7 +15,7 @@ returns : tie.Need-returns
 returns c o g =
     let summed = c .before .before .before .before in
     let copied = summed .before .before .before .before .before in
-    all-filled g _ _ (copied .copy-front .ensures) (summed .sum-rows .ensures o g)
+    all-filled g _ _ _ (copied .copy-front .ensures) (summed .sum-rows .ensures o g)
 
 pub fill-spec : {M : Type 1} → statement M
 fill-spec =

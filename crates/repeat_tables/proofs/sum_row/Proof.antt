@@ -1,11 +1,13 @@
 -- The levels below q are worked and stored. Assumes nothing.
-use mathlib.Core.Path.{_≡_, refl, ap, _∙_}
+use mathlib.Core.Path.{_≡_, refl, ap, ap₂, _∙_}
+use mathlib.Core.Bool.{cond}
 use mathlib.Core.List.{List, [], _∷_}
-use Prim.Native.Nat.{ℕ, _+_, _-_, _*_, _^_, _≤_, _<_}
+use Prim.Native.Nat.{ℕ, _+_, _-_, _*_, _^_, _≤_, _<_, max}
 use native.Mathlib.Omega.{arith}
 use borrow.Author.Needs.{needs}
+use lib.Dec.{eqb}
 use lib.ListN.{length, getD}
-use Rattle.rules.specs.Numbers.{summary-numbers}
+use Rattle.rules.specs.Numbers.{policy-2005, summary-numbers}
 use Rattle.rules.specs.Words.{cat, tab}
 use Rattle.rules.specs.Image.{worst-of}
 use Rattle.rules.specs.Repeat.{Sums, numbers-of}
@@ -20,21 +22,21 @@ use Rattle.repeat_tables.proofs.sum_row.Statement.{statement}
 use Rattle.repeat_tables.proofs.sum_row.Tie as tie
 
 abbrev Inv-loop : tie.InvT-loop
-Inv-loop image levels a averages₀ after mixes₀ worsts₀ from summaries₀ worst₀ lowest q₀ averages mixes worsts summaries worst q =
+Inv-loop image levels policy a averages₀ after mixes₀ worsts₀ from summaries₀ worst₀ lowest q₀ averages mixes worsts summaries worst q =
     (q ≤ levels)
     × (length averages ≡ length averages₀)
     × (length mixes ≡ length mixes₀)
     × (length worsts ≡ length worsts₀)
     × (length summaries ≡ length summaries₀)
     × (length worst ≡ length worst₀)
-    × (averages ≡ splice averages₀ 0 (tab (λ p. with-rest image a (carried averages₀ after mixes₀ worsts₀) p .average) q))
-    × (mixes ≡ splice mixes₀ 0 (tab (λ p. with-rest image a (carried averages₀ after mixes₀ worsts₀) p .mix) q))
-    × (worsts ≡ splice worsts₀ 0 (tab (λ p. with-rest image a (carried averages₀ after mixes₀ worsts₀) p .worst) q))
-    × (summaries ≡ splice summaries₀ (from * summary-numbers) (cat (λ p. numbers-of (with-rest image a (carried averages₀ after mixes₀ worsts₀) p)) q))
+    × (averages ≡ splice averages₀ 0 (tab (λ p. with-rest image policy a (carried averages₀ after mixes₀ worsts₀) p .average) q))
+    × (mixes ≡ splice mixes₀ 0 (tab (λ p. with-rest image policy a (carried averages₀ after mixes₀ worsts₀) p .mix) q))
+    × (worsts ≡ splice worsts₀ 0 (tab (λ p. with-rest image policy a (carried averages₀ after mixes₀ worsts₀) p .worst) q))
+    × (summaries ≡ splice summaries₀ (from * summary-numbers) (cat (λ p. numbers-of (with-rest image policy a (carried averages₀ after mixes₀ worsts₀) p)) q))
     × (worst ≡ splice worst₀ from (tab (worst-of image a) q))
 
 abbrev μ-loop : tie.MeasureT-loop
-μ-loop image levels a averages₀ after mixes₀ worsts₀ from summaries₀ worst₀ lowest q₀ averages mixes worsts summaries worst q = levels - q
+μ-loop image levels policy a averages₀ after mixes₀ worsts₀ from summaries₀ worst₀ lowest q₀ averages mixes worsts summaries worst q = levels - q
 
 -- what is not yet written
 unread : (l₀ : List ℕ) {l : List ℕ} (f : ℕ → ℕ) (q : ℕ) → q ≤ length l₀ → l ≡ splice l₀ 0 (tab f q) → getD l q 0 ≡ getD l₀ q 0
@@ -44,6 +46,10 @@ unread l₀ f q h e = rw e (getD-splice-after l₀ 0 (tab f q) (omega (arith, le
 stored : (l : List ℕ) {l′ : List ℕ} (at : ℕ) {a w m v : ℕ} (x : Sums) → a ≡ x .average → w ≡ x .lowest → m ≡ x .mix → v ≡ x .worst
     → l′ ≡ splice l at (a ∷ w ∷ m ∷ v ∷ []) → l′ ≡ splice l at (numbers-of x)
 stored l at x e f g h is = is ∙ ap (λ (y : Sums). splice l at (numbers-of y)) (same e f g h)
+
+-- what the averages and M come to
+mixed-up : {a b m k : ℕ} → a ≡ b → m ≡ k → a + m ≡ b + k
+mixed-up e f = ap₂ (λ (x y : ℕ). x + y) e f
 
 -- what is carried when all levels are worked
 all-carried : (f : ℕ → Sums) (l m v : List ℕ) {l′ m′ v′ : List ℕ} {w : ℕ} (n : ℕ) → l′ ≡ splice l 0 (tab (λ p. f p .average) n)
@@ -78,7 +84,7 @@ module _ (c : tie.In-loop Inv-loop μ-loop) where
   has-room = omega (arith, start .pre .room .worst-room)
 
   few : length (start .args .worst .now) * 4 < 2 ^ 63
-  few = start .good .1 .1 .1 .1 .1 .1 .1 .1 .1 .0 .1
+  few = start .good .1 .1 .1 .1 .1 .1 .1 .1 .1 .1 .0 .1
 
 add-lowest : tie.Need-add-lowest Inv-loop μ-loop
 add-lowest c =
@@ -95,14 +101,14 @@ add-sum c =
     let in-loop = c .before .before .before in
     omega (arith, c .before .before .average-at .ensures, rest-average in-loop, own in-loop .average, rest in-loop .average)
 
-add-greater : tie.Need-add-greater Inv-loop μ-loop
-add-greater c =
+add-mix-of : tie.Need-add-mix-of Inv-loop μ-loop
+add-mix-of c =
     let times = c .before in
     let in-loop = times .before .before in
     omega (arith, times .worst-at2 .ensures, times .before .average-at .ensures, own in-loop, rest in-loop)
 
-add-greater-2 : tie.Need-add-greater-2 Inv-loop μ-loop
-add-greater-2 c =
+add-mix-of-2 : tie.Need-add-mix-of-2 Inv-loop μ-loop
+add-mix-of-2 c =
     let times = c .before .before in
     let in-loop = times .before .before in
     omega (arith, times .worst-at2 .ensures, times .before .average-at .ensures, rest-mix in-loop, rest-average in-loop, own in-loop, rest in-loop)
@@ -137,14 +143,15 @@ loop-again c =
     let t = in-loop .before in
     let start = t .before .before .before .before .before .before .before .before in
     let a = start .args in
-    let row = with-rest (a .image .now) (a .a) (carried (a .averages .now) (a .after) (a .mixes .now) (a .worsts .now)) in
+    let row = with-rest (a .image .now) (a .policy) (a .a) (carried (a .averages .now) (a .after) (a .mixes .now) (a .worsts .now)) in
     let average = times .before .average-at in
     let longest = times .worst-at2 .ensures in
     let done = c .before .before .put-sums in
     let room = start .pre .room in
     let sum : average .result + getD (t .loop .averages) (t .loop .q) 0 ≡ row (t .loop .q) .average = omega (arith, average .ensures, rest-average in-loop) in
     let lowest = ap (λ (w : ℕ). w + a .after) (t .before .worst-at .ensures) in
-    let mix : worked .greater .result ≡ row (t .loop .q) .mix = omega (arith, worked .greater .ensures, longest, average .ensures, rest-mix in-loop) in
+    let mix : worked .mix-of .result ≡ row (t .loop .q) .mix = worked .mix-of .ensures
+    ∙ ap₂ (λ (x y : ℕ). cond (eqb (a .policy) policy-2005) x (max x y)) (ap (λ (w : ℕ). w + a .after) longest) (mixed-up (average .ensures) (rest-mix in-loop)) in
     let all : times .worst-at2 .result + getD (t .loop .worsts) (t .loop .q) 0 ≡ row (t .loop .q) .worst = omega (arith, longest, rest-worst in-loop) in (
       search needs,
       search needs,
@@ -167,7 +174,7 @@ returns c =
     let a = c .before .before .before .before .before .before .before .before .before .args in
     let all : t .q ≡ a .levels = omega arith in
     record {
-      carried-is = all-carried (with-rest (a .image .now) (a .a) (carried (a .averages .now) (a .after) (a .mixes .now) (a .worsts .now))) _ _ _ (a .levels)
+      carried-is = all-carried (with-rest (a .image .now) (a .policy) (a .a) (carried (a .averages .now) (a .after) (a .mixes .now) (a .worsts .now))) _ _ _ (a .levels)
           (cat-done _ _ 0 (t .q) (a .levels) all (t .inv .6)) (λ q. ap (λ (w : ℕ). w + a .after) (c .before .before .worst-at .ensures))
           (cat-done _ _ 0 (t .q) (a .levels) all (t .inv .7)) (cat-done _ _ 0 (t .q) (a .levels) all (t .inv .8));
       summaries-are = cat-done _ _ (a .from * summary-numbers) (t .q) (a .levels) all (t .inv .9);
@@ -188,10 +195,10 @@ sum-row-spec =
     (λ c. search needs)
     (λ c. search needs)
     add-sum
-    add-greater
+    add-mix-of
     (λ c. search needs)
     (λ c. search needs)
-    add-greater-2
+    add-mix-of-2
     (λ c κs. search needs)
     (λ c. search needs)
     (λ c. search needs)

@@ -18,7 +18,7 @@ use Rattle.repeat_tables.proofs.sum_rows.Statement.{statement}
 use Rattle.repeat_tables.proofs.sum_rows.Tie as tie
 
 abbrev Inv-loop : tie.InvT-loop
-Inv-loop image n levels actions summaries₀ worst₀ averages₀ mixes₀ worsts₀ lowest₀ i₀ summaries worst averages mixes worsts lowest i =
+Inv-loop image n levels policy actions summaries₀ worst₀ averages₀ mixes₀ worsts₀ lowest₀ i₀ summaries worst averages mixes worsts lowest i =
     (i ≤ n)
     × (length summaries ≡ length summaries₀)
     × (length worst ≡ length worst₀)
@@ -26,11 +26,11 @@ Inv-loop image n levels actions summaries₀ worst₀ averages₀ mixes₀ worst
     × (length mixes ≡ 8)
     × (length worsts ≡ 8)
     × ((o : Order (profile image .n)) → BodyInput image n levels actions o
-    → Back (tables (profile image) o) n levels (record { order = []; summaries = summaries₀; worst = worst₀ }) i (carried averages lowest mixes worsts)
+    → Back policy (tables (profile image) o) n levels (record { order = []; summaries = summaries₀; worst = worst₀ }) i (carried averages lowest mixes worsts)
     (record { order = []; summaries = summaries; worst = worst }))
 
 abbrev μ-loop : tie.MeasureT-loop
-μ-loop image n levels actions summaries₀ worst₀ averages₀ mixes₀ worsts₀ lowest₀ i₀ summaries worst averages mixes worsts lowest i = i
+μ-loop image n levels policy actions summaries₀ worst₀ averages₀ mixes₀ worsts₀ lowest₀ i₀ summaries worst averages mixes worsts lowest i = i
 
 bytes : (c : tie.At-loop Inv-loop μ-loop) → Bytes (c .before .before .before .before .args .image .now)
 bytes c k = c .before .before .before .shared-slice-known .given k .fits
@@ -48,7 +48,7 @@ module _ (c : tie.In-loop Inv-loop μ-loop) where
   action = present (c .before .before .before .before .before .pre .0 .1) (c .before .loop .i - 1) (omega arith)
 
 loop-holds : tie.Need-loop-holds Inv-loop μ-loop
-loop-holds c = (search needs, search needs, search needs, search needs, search needs, search needs, λ o g. back-none g _)
+loop-holds c = (search needs, search needs, search needs, search needs, search needs, search needs, λ o g. back-none g _ _)
 
 element-copy-out-sum-row : tie.Need-element-copy-out-sum-row Inv-loop μ-loop
 element-copy-out-sum-row c = omega (arith, records (c .before .before .before .before .before .pre .0 .1) .few-actions)
@@ -75,7 +75,7 @@ sum-row-requires c κs =
       present = action in-loop;
       some-level = has .some-level;
       own = own-half (given .1) (i - 1) (omega arith) (bytes t);
-      rest = λ q m. rest-half (given .1) (bytes t) i q (t .loop .inv .0) m (t .loop .inv .6 (given .0) (given .1) .carries q m);
+      rest = λ q m. rest-half (given .1) (start .args .policy) (bytes t) i q (t .loop .inv .0) m (t .loop .inv .6 (given .0) (given .1) .carries q m);
       averages-room = omega (arith, has .few-levels, t .loop .inv .3);
       mixes-room = omega (arith, has .few-levels, t .loop .inv .4);
       worsts-room = omega (arith, has .few-levels, t .loop .inv .5);
@@ -93,16 +93,16 @@ loop-again c =
     let start = t .before .before .before .before in
     let i = t .loop .i in (
       search needs,
-      done .kept .1 .1 .1 .1 .1 .1 .1 .1 .0 ∙ t .loop .inv .1,
-      done .kept .1 .1 .1 .1 .1 .1 .1 .1 .1 .0 ∙ t .loop .inv .2,
-      done .kept .1 .1 .1 .0 ∙ t .loop .inv .3,
-      done .kept .1 .1 .1 .1 .1 .0 ∙ t .loop .inv .4,
-      done .kept .1 .1 .1 .1 .1 .1 .0 ∙ t .loop .inv .5,
-      λ o g. back-more g _ (i - 1) i (one-less in-loop) (t .loop .inv .0) (start .pre .1) (t .loop .inv .6 o g) (done .ensures),
+      done .kept .1 .1 .1 .1 .1 .1 .1 .1 .1 .0 ∙ t .loop .inv .1,
+      done .kept .1 .1 .1 .1 .1 .1 .1 .1 .1 .1 .0 ∙ t .loop .inv .2,
+      done .kept .1 .1 .1 .1 .0 ∙ t .loop .inv .3,
+      done .kept .1 .1 .1 .1 .1 .1 .0 ∙ t .loop .inv .4,
+      done .kept .1 .1 .1 .1 .1 .1 .1 .0 ∙ t .loop .inv .5,
+      λ o g. back-more g _ _ (i - 1) i (one-less in-loop) (t .loop .inv .0) (start .pre .1) (t .loop .inv .6 o g) (done .ensures),
     )
 
 returns : tie.Need-returns Inv-loop μ-loop
-returns c o g = back-done g _ (c .before .loop .i) (omega arith) (c .before .loop .inv .6 o g)
+returns c o g = back-done g _ _ (c .before .loop .i) (omega arith) (c .before .loop .inv .6 o g)
 
 pub sum-rows-spec : {M : Type 1} → statement M
 sum-rows-spec =

@@ -22,7 +22,7 @@ returns-2 c =
     let planned = accepted .before .before .before .before .before .before .before .before .before in
     let none = accepted .if1 .left in
     let kept = planned .plan .kept in
-    record { plans = planned .plan .ensures; lent = λ z. lent-of (planned .plan .ensures) none (omega (arith, kept .1 .1 .0)) (omega (arith, kept .1 .1 .1 .0)); text = put-as (kept-new _ _ _ none (said (planned .plan .ensures) none)) (put .put-four .ensures) }
+    record { plans = planned .plan .ensures; lent = λ z. lent-of (planned .plan .ensures) none (omega (arith, kept .1 .1 .1 .0)) (omega (arith, kept .1 .1 .1 .1 .0)); text = put-as (kept-new _ _ _ none (said (planned .plan .ensures) none)) (put .put-four .ensures) }
 
 pub begin-spec : {M : Type 1} → statement M
 begin-spec =

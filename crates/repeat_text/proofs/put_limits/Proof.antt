@@ -36,7 +36,7 @@ loop-again c =
     let start = turn .before .before .before in
     let a = start .args in
     let stands = start .pre .1 in
-    let is = limit-told (at-level stands (omega arith)) (told .limit .ensures) in
+    let is = limit-told (at-level stands (omega arith)) (start .pre .2) (told .limit .ensures) in
     let read = toZ-ofZ {w = w64} {z = told .limit .result .limit} (record { sfits = put .before .struct-told .given .1 .0 .1 }) in
     let both = put-then (turn .loop .inv .2 .counts .0) (gap .put-byte .ensures) (put .put-signed-long .ensures) in
     (omega arith, omega arith, loop-turn (start .pre .0 .0) (entry (a .body) (a .summaries .now) (a .position)) (turn .loop .q) (turn .loop .inv .2) (put-as (ap (λ (z : ℤ). space ∷ signed z) (read ∙ is)) both))

@@ -24,7 +24,7 @@ put-limits-requires : tie.Need-put-limits-requires
 put-limits-requires c κs =
     let start = c .before .before .before .before .before .before .before .before .before .before .before .before .before .before in
     let lent = start .pre .1 in
-    (search needs, record { counts = lent .counts; summed = lent .summed; present = start .pre .2; level = omega (arith, lent .counts .some-level) })
+    (search needs, record { counts = lent .counts; summed = lent .summed; present = start .pre .2; level = omega (arith, lent .counts .some-level) }, lent .known)
 
 returns : tie.Need-returns
 unfolding lent-line

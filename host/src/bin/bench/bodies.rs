@@ -2,7 +2,8 @@
 
 use super::{clock, measure, room, Bench, Room, Sides, FRAME};
 use nyokazerubi_host::calls::{
-    Body, BodyRun, BodyTables, Calls, Counts, Fast, Run, LAST_CLOCK, LONGEST_COAST, MOST_REPEATS, SUMMARY_NUMBERS,
+    Body, BodyRun, BodyTables, Calls, Counts, Fast, Run, LAST_CLOCK, LONGEST_COAST, MOST_REPEATS, POLICY_2005,
+    POLICY_2008, SUMMARY_NUMBERS,
 };
 use nyokazerubi_host::draw::Draw;
 use std::hint::black_box;
@@ -56,17 +57,18 @@ struct Repeated {
 }
 
 impl Repeated {
-    fn new(image: &[u8], repeats: u32) -> Repeated {
-        let plain = Bench::new(&repeated(image, repeats));
+    fn new(image: &[u8], repeats: u32, policy: u32) -> Repeated {
+        let plain = Bench::new(&repeated(image, repeats), policy);
         let Counts { n, levels, .. } = plain.counts;
         let (mut order, mut summaries) = (vec![0; n], vec![0; n * levels * SUMMARY_NUMBERS]);
         let mut worst = vec![0; n * levels];
-        let body = Fast.plan_body(&plain.image, repeats, &mut order, &mut summaries, &mut worst).expect("accepted");
+        let planned = Fast.plan_body(&plain.image, repeats, policy, &mut order, &mut summaries, &mut worst);
+        let body = planned.expect("accepted");
         let mut draw = Draw::new(1620);
         let durations: Vec<u32> = (0..repeats).flat_map(|_| plain.drawn(&mut draw)).collect();
         let positions = n * repeats as usize;
         let (mut given, mut marks) = (vec![0; positions], vec![0; positions]);
-        let answer = Fast.body_dry_frame(&plain.image, repeats, &durations, &mut order, &mut given, &mut marks);
+        let answer = Fast.body_dry_frame(&plain.image, repeats, policy, &durations, &mut order, &mut given, &mut marks);
         let answer = answer.expect("a cycle");
         assert!(!answer.overrun && !answer.late, "durations are within worst");
         let mut end = 0;
@@ -140,11 +142,12 @@ fn plain(sides: &Sides, bench: &Bench) -> [[f64; 3]; 5] {
     [
         measure(sides, |calls| {
             let Room { small: [order, _], limits, numbers: [worst, ..], bounds, .. } = room();
-            black_box(calls.plan(black_box(&bench.image), order, limits, worst, bounds).is_ok());
+            black_box(calls.plan(black_box(&bench.image), bench.policy, order, limits, worst, bounds).is_ok());
         }),
         measure(sides, |calls| {
             let Room { small: [given, decided], image: order, .. } = room();
-            black_box(calls.dry_frame(black_box(&bench.image), &bench.durations, order, given, decided).is_ok());
+            let (image, policy) = (black_box(&bench.image), bench.policy);
+            black_box(calls.dry_frame(image, policy, &bench.durations, order, given, decided).is_ok());
         }),
         over(sides, &turns.deciding, ask),
         over(sides, &turns.coasting, ask),
@@ -159,7 +162,7 @@ fn plain(sides: &Sides, bench: &Bench) -> [[f64; 3]; 5] {
 /// The same of a body repeated; the dry run of one repeat alone is as long as the plain one.
 fn of_body(sides: &Sides, bench: &Repeated) -> [[f64; 3]; 5] {
     let turns = bench.turns();
-    let repeats = bench.body.repeats;
+    let Body { repeats, policy, .. } = bench.body;
     let tables = bench.tables();
     let ask = |calls: &dyn Calls, record: BodyRun| {
         let mut run = record;
@@ -170,12 +173,12 @@ fn of_body(sides: &Sides, bench: &Repeated) -> [[f64; 3]; 5] {
     [
         measure(sides, |calls| {
             let Room { small: [order, _], numbers: [worst, ..], summaries, .. } = room();
-            black_box(calls.plan_body(black_box(&bench.plain.image), repeats, order, summaries, worst).is_ok());
+            black_box(calls.plan_body(black_box(&bench.plain.image), repeats, policy, order, summaries, worst).is_ok());
         }),
         measure(sides, |calls| {
             let Room { image: order, .. } = room();
             let image = black_box(&bench.plain.image);
-            let answer = calls.body_dry_frame(image, repeats, &bench.durations, order, &mut given, &mut marks);
+            let answer = calls.body_dry_frame(image, repeats, policy, &bench.durations, order, &mut given, &mut marks);
             black_box(answer.is_ok());
         }),
         over(sides, &turns.deciding, ask),
@@ -217,52 +220,62 @@ fn row(call: &str, figures: [f64; 3], plain: Option<[f64; 3]>) {
     println!("| {call} | {product:.1} | {rust:.1} | {c:.1} | {:.2} | {to_plain} |", product / rust.min(c));
 }
 
-/// The figures of one image.
+/// The figures of one image by 2008; by 2005 those of planning, of an asking that decides, of limits and of bounds, which a policy is told.
 pub fn table(sides: &Sides, name: &str, image: &[u8]) {
     for repeats in [1, 180, MOST_REPEATS] {
-        let bench = Repeated::new(image, repeats);
+        let [bench, apart] = [POLICY_2008, POLICY_2005].map(|policy| Repeated::new(image, repeats, policy));
         let Body { n, levels, cycle, .. } = bench.body;
         println!(
-            "\n### {name} repeated: n = {n}, L = {levels}, N = {repeats}, cycle {cycle}, {} decisions in the cycle\n",
-            bench.decisions
+            "\n### {name} repeated: n = {n}, L = {levels}, N = {repeats}, cycle {cycle}, {} decisions in the cycle, by 2005 {}\n",
+            bench.decisions, apart.decisions
         );
         println!("| call | product | Rust | C | ratio | to plain, each side |\n|---|---|---|---|---|---|");
-        let plain = plain(sides, &bench.plain);
-        for (call, figures) in CALLS.iter().zip(plain) {
-            row(&format!("plain {call}"), figures, None);
-        }
-        for ((call, figures), plain) in CALLS.iter().zip(of_body(sides, &bench)).zip(plain) {
-            // The dry runs of more than one repeat are longer.
-            let beside = (*call != "dry frame" || repeats == 1).then_some(plain);
-            row(&format!("body {call}"), figures, beside);
-        }
-        let [limit, bound] = readings(sides, &bench);
-        row("body limit", limit, None);
-        row("body bound", bound, None);
+        rows(sides, &bench, "", &CALLS);
+        rows(sides, &apart, ", 2005", &[CALLS[0], CALLS[2]]);
     }
 }
 
-/// The manager's cost for a whole frame of the encoder's body, the most repeats that there may be.
+/// The rows of some calls of a body, the plain ones before them; with words after each.
+fn rows(sides: &Sides, bench: &Repeated, words: &str, calls: &[&str]) {
+    let shown = |call: &str| calls.contains(&call);
+    let plain = plain(sides, &bench.plain);
+    for (call, figures) in CALLS.iter().zip(plain).filter(|(call, _)| shown(call)) {
+        row(&format!("plain {call}{words}"), figures, None);
+    }
+    for ((call, figures), plain) in CALLS.iter().zip(of_body(sides, bench)).zip(plain) {
+        if shown(call) {
+            // The dry runs of more than one repeat are longer.
+            let beside = (*call != "dry frame" || bench.body.repeats == 1).then_some(plain);
+            row(&format!("body {call}{words}"), figures, beside);
+        }
+    }
+    let [limit, bound] = readings(sides, bench);
+    row(&format!("body limit{words}"), limit, None);
+    row(&format!("body bound{words}"), bound, None);
+}
+
+/// The manager's cost for a whole frame of the encoder's body, the most repeats that there may be, by each policy.
 pub fn frame(sides: &Sides, encoder: &[u8]) {
     let clock = clock();
-    let bench = Repeated::new(encoder, MOST_REPEATS);
-    for (name, calls) in sides {
-        let run = bench.cycle(*calls);
-        assert_eq!((run.position as usize, run.decisions), (bench.clocks.len(), bench.decisions), "{name}");
-    }
-    let medians = measure(sides, |calls| {
-        black_box(bench.cycle(calls));
-    });
-    let (actions, whole) = (bench.clocks.len(), FRAME * f64::from(MOST_REPEATS));
+    let (actions, whole) = (9 * MOST_REPEATS, FRAME * f64::from(MOST_REPEATS));
     println!(
-        "\n### The manager in a frame of {MOST_REPEATS} encoder bodies, {whole} cycles, {actions} actions, {} decisions, at {clock:.2} GHz\n",
-        bench.decisions
+        "\n### The manager in a frame of {MOST_REPEATS} encoder bodies, {whole} cycles, {actions} actions, at {clock:.2} GHz\n"
     );
-    println!("| side | ns | cycles | cycles an action | part of the frame |\n|---|---|---|---|---|");
-    for ((name, _), ns) in sides.iter().zip(medians) {
-        let cycles = ns * clock;
-        let each = cycles / actions as f64;
-        println!("| {name} | {ns:.0} | {cycles:.0} | {each:.1} | {:.3} % |", 100.0 * cycles / whole);
+    println!("| policy | decisions | side | ns | cycles | cycles an action | part of the frame |\n|---|---|---|---|---|---|---|");
+    for policy in [POLICY_2008, POLICY_2005] {
+        let bench = Repeated::new(encoder, MOST_REPEATS, policy);
+        for (name, calls) in sides {
+            let run = bench.cycle(*calls);
+            assert_eq!((run.position, run.decisions), (actions, bench.decisions), "{name}");
+        }
+        let medians = measure(sides, |calls| {
+            black_box(bench.cycle(calls));
+        });
+        for ((name, _), ns) in sides.iter().zip(medians) {
+            let (cycles, decisions) = (ns * clock, bench.decisions);
+            let (each, part) = (cycles / f64::from(actions), 100.0 * cycles / whole);
+            println!("| {policy} | {decisions} | {name} | {ns:.0} | {cycles:.0} | {each:.1} | {part:.3} % |");
+        }
     }
 }
 

@@ -24,7 +24,7 @@ put-steps-requires c κs =
     let accepted = c .before .before .before .before in
     let framed = accepted .before .before .before .before .before .before in
     let few = positions (framed .dry-frame .ensures) (accepted .if1 .left) in
-    let lengths = framed .dry-frame .kept .1 .1 in
+    let lengths = framed .dry-frame .kept .1 .1 .1 in
     (few, omega (arith, few, lengths .0), omega (arith, few, lengths .1 .0), omega (arith, few, lengths .1 .1 .0))
 
 returns-2 : tie.Need-returns-2

@@ -29,7 +29,7 @@ put-positions-requires c κs =
     let accepted = c .before .before .before .before .before .before .before in
     let planned = accepted .before .before .before .before .before .before .before in
     let k = counts (planned .plan .ensures) (accepted .if1 .left) in
-    let lengths = planned .plan .kept in
+    let lengths = planned .plan .kept .1 in
     (search needs, k .actions, k .levels, omega (arith, lengths .1 .0, k .actions), omega (arith, lengths .1 .1 .0, k .cells))
 
 returns-2 : tie.Need-returns-2
