@@ -7,8 +7,8 @@
  * Link libnyokazerubi.a. It is for x86-64 Linux; it keeps nothing between calls, allocates nothing, and needs memcpy and memset alone. What a call
  * answers and writes is proved for every input.
  *
- * LENT MEMORY. A table is lent as a pointer and then the number of its entries (of bytes where the entries are bytes), a record as a
- * pointer alone. A call reads what is const and writes the rest. Until it returns, the host sees to it that
+ * LENT MEMORY. A table is lent as a pointer and then the number of its entries (of bytes where the entries are bytes), a record as a pointer alone. A
+ * call reads what is const and writes the rest. Until it returns, the host sees to it that
  *   - each pointer is aligned and not null, with length 0 too, and has as many entries as it says;
  *   - what the call writes overlaps nothing else that it is lent, and no other thread touches it meanwhile; what it reads, any thread may read;
  *   - the three bools of a run record are 0 or 1 when it is lent to ask and to report. A start writes every field of the record and reads none, so
@@ -58,9 +58,9 @@
  *
  * POLICY. It is chosen at planning, by its year; any other number is refused with 20. In 2008 a level is tested once, on average and safe sums mixed.
  * In 2005 it must pass two tests apart, each against every deadline to come: the average sums alone, and the safe sums alone, which are the action's
- * own worst time and the level 0 worst times after it. Cameras are certified on it. By either no deadline is missed; in 2005 a limit may be below that
- * of the position before. The policies differ in limits and coast bounds: the tables carry theirs, so that the run of a plain cycle, its dry run over
- * lent tables and the rehearsal take none; a body repeated names its own. The speed reading is by the sums of 2008.
+ * own worst time and the level 0 worst times after it; it is there for cameras that are certified on it. By either no deadline is missed; in 2005 a
+ * limit may be below that of the position before. The policies differ in limits and coast bounds: the tables carry theirs, so that the run of a plain
+ * cycle, its dry run over lent tables and the rehearsal take none; a body repeated names its own. The speed reading is by the sums of 2008.
  *
  * GLOSSARY. Position i is the i-th action in the order that the plan found; t is the last reported clock, 0 at the start of a cycle.
  *   limit     The last t at which a level may be given at a position, so that every deadline to come can still be met, whatever the action takes
@@ -416,8 +416,7 @@ struct nyokazerubi_line nyokazerubi_rehearse(
 /* A body of n actions done so many times over in one cycle, where all deadlines are the cycle's. It is the unrolled profile of n times the repeats
  * actions, numbered repeat by repeat: action a of repeat j, from 0 on, has the number jn + a, its masks name actions of its own repeat, and its
  * times are those of a. Position i is the i-th of all, up to 103680, and what stands above of limits, coasts, late and overrun holds over these.
- * Planning answers it; the host keeps it, and lends it by its address to limit, bound and start, which only read it. A start copies it into the run
- * record: lent to it is the host's own, and not the one within that record, which would overlap. */
+ * Planning answers it; the host keeps it, and hands it over to limit, bound and start. */
 struct nyokazerubi_body {
     uint32_t n;
     uint32_t levels;
