@@ -241,11 +241,12 @@ module _ {s : List ℕ} {policy : ℕ} {lent : LentTables} {p : Planned} (P : Pl
               late = rw dry-none at (dries′ .late) ∙ ap (λ (r : Run). r .late) ends;
             }
 
-        pub framed : after .order ≡ splice (before .order) 0 (tab (λ k. getD (lent .order) k 0) (p .n)) → Frames s policy durations before after answer
-        framed e =
+        pub framed : {r : Framed} → after .order ≡ splice (before .order) 0 (tab (λ k. getD (lent .order) k 0) (p .n)) → r ≡ answer
+            → Frames s policy durations before after r
+        framed e is =
             let listed = reads-order policy (profile s) (P .plans .o) zeros written in
             let given : First (whole s policy durations before) (p .refusal .number) = rw none (then-own none (rw dry-none at own-is) .number) in
-            record {
+            rw is (record {
               number = given;
               action = handed-on checks (rest s policy durations before) _ _ (no-blame s policy durations before) named given;
               n = kept-new _ _ _ none (n-is none);
@@ -260,4 +261,4 @@ module _ {s : List ℕ} {policy : ℕ} {lent : LentTables} {p : Planned} (P : Pl
               late = kept-new _ _ _ none (cycled .late);
               counted = λ _. count-is cycled;
               demand = λ _. promise cycled level (sound none .not-table) (P .plans .the-order none) (not-unfit (profile s) (sound none .not-unfit));
-            }
+            })

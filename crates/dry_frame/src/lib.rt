@@ -1,5 +1,6 @@
 // A frame run dry: an image is planned by a policy and its cycle run over given durations, in one call. Demand 3 is its promise.
 use rules::Fault;
+use run::dry::Dried;
 ghost use mathlib.Core.Path.{_≡_};
 ghost use mathlib.Core.Bool.{false};
 ghost use Rattle.rules.specs.Numbers.{most-actions};
@@ -38,6 +39,20 @@ fn unblamed(number: u32) -> Framed
         number,
         action: rules::NO_ACTION,
     })
+}
+
+// What a frame of n positions that was run dry answers.
+fn answered(refusal: Fault, n: usize, dried: Dried) -> Framed
+    ensures { λ r. ⌜ r ≡ record { refusal = refusal; n = n; decisions = dried .decisions; end = dried .end; overrun = dried .overrun; late = dried .late } ⌝ }
+{
+    Framed {
+        refusal,
+        n,
+        decisions: dried.decisions,
+        end: dried.end,
+        overrun: dried.overrun,
+        late: dried.late,
+    }
 }
 
 // Plans the image by the policy, runs its cycle over n by L durations by position, and writes the order, the levels given and the decided marks. A refusal
@@ -89,12 +104,5 @@ pub fn dry_frame(
         return unblamed(dried.refusal.number);
     }
     fields::copy_front(&actions, n, order);
-    Framed {
-        refusal,
-        n,
-        decisions: dried.decisions,
-        end: dried.end,
-        overrun: dried.overrun,
-        late: dried.late,
-    }
+    answered(refusal, n, dried)
 }

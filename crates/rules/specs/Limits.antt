@@ -60,8 +60,8 @@ limit-of-sums S c i q = least-of (λ k. pos (S .deadline k) -ℤ pos (c i k q)) 
 unfoldable pub limit-2005 : Tables → ℕ → ℕ → ℤ
 limit-2005 S i q = minZ (limit-of-sums S (average S) i q) (limit-of-sums S (safe S) i q)
 
--- The limit of the policy chosen at planning, by its year. Any other year than 2008 and 2005 is refused, so that it does not matter which limit it
--- would have.
+-- The limit of the policy chosen at planning, by its year. A call that plans refuses any other year than these two (20), so that what stands here
+-- for one, the limit of 2008, is never given.
 abbrev pub limit-by : ℕ → Tables → ℕ → ℕ → ℤ
 limit-by policy S = cond (eqb policy policy-2005) (limit-2005 S) (limit S)
 

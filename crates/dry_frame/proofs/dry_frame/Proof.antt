@@ -69,11 +69,12 @@ copy-front-requires c κs =
 
 returns-4 : tie.Need-returns-4
 returns-4 c =
-    let else3 = c .before .before .before .before .before in
+    let copied = c .before .before .before in
+    let else3 = copied .before .before .before in
     let dried = cycled else3 in
     let else1 = roomy dried .before in
     framed (planning (planned else1)) _ _ _ (else1 .if1 .left) (roomy dried .if2 .left) (dried .dry-run .ensures) (else3 .if3 .left)
-    (c .before .before .copy-front .ensures)
+    (copied .copy-front .ensures) (c .answered .ensures)
 
 pub dry-frame-spec : {M : Type 1} → statement M
 dry-frame-spec =
@@ -98,6 +99,7 @@ dry-frame-spec =
     returns-3
     (λ c. search needs)
     copy-front-requires
+    (λ c κs. search needs)
     (λ c. search needs)
     (λ c. search needs)
     (λ c. search needs)
