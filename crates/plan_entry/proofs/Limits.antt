@@ -16,19 +16,19 @@ use lib.Signed.{mag}
 use Rattle.rules.specs.Numbers.{last-clock, clock-end, policy-2005}
 use Rattle.rules.specs.Words.{minZ, tab, rows}
 use Rattle.rules.specs.Limits.{Tables, safe, average, limit, limit-of-sums, limit-2005, limit-by}
-use Rattle.rules.proofs.Limits.Signed.{AtMost, at-most-min, at-most-less, at-most-sooner, settled}
+use Rattle.rules.proofs.Limits.Signed.{AtMost, at-most-less, at-most-sooner}
 use Rattle.rules.proofs.Limits.Mixed.{Sound}
 use Rattle.rules.proofs.Limits.Rows.{limit-last-row, limit-row-after}
 use Rattle.rules.proofs.Limits.Range.{Small, average-range}
 use Rattle.rules.proofs.Limits.Parts.{average-last, average-row, safe-last, safe-row, level-0-2005}
-use Rattle.rules.proofs.Limits.Years.{of-either, range-by}
+use Rattle.rules.proofs.Limits.Years.{range-by}
 use Rattle.fields.specs.Fields.{splice}
 use Rattle.fields.proofs.Strides.{stride-more}
 use Rattle.fields.proofs.Splice.{getD-splice}
 use Rattle.fields.proofs.Cats.{cat-from, from-none, from-more, from-done}
 use Rattle.fields.proofs.Tabs.{tab-ext, length-tab, getD-tab}
-use Rattle.plan_entry.specs.Rows.{latest-start, limit-of, carried-of, rooms-of, limits-of, row-of-eight, row-of, after-last, SmallRow}
-use Rattle.plan_entry.proofs.Signed.{lesser-left}
+use Rattle.plan_entry.specs.Rows.{latest-start, held-to, Held, limit-of, carried-of, rooms-of, limits-of, row-of-eight, row-of, after-last, SmallRow}
+use Rattle.plan_entry.proofs.Signed.{mag-lesser, lesser-left, lesser-either, lesser-again}
 
 -- n positions and so many levels, with the rule and the ranges of an accepted profile
 pub record Lawful (S : Tables) (n levels : ℕ) : Type 0 where
@@ -65,80 +65,58 @@ eight-at f levels q h =
 
 -- ---- a step
 
--- no start at the worst time is later than one at the average
-by-worst : (x : ℤ) (worst average : ℕ) → average ≤ worst → minZ (x -ℤ pos average) (x -ℤ pos worst) ≡ x -ℤ pos worst
-by-worst x worst average h = settled _ _ (λ t b. (
-  (λ a. at-most-min t b (x -ℤ pos average) (x -ℤ pos worst) .0 a .1),
-  (λ a. at-most-min t b (x -ℤ pos average) (x -ℤ pos worst) .1
-      (at-most-less t b x average .1 (at-most-sooner (t + average) (t + worst) b x (omega arith) (at-most-less t b x worst .0 a)), a)),
-))
-
--- In 2008 the limit after it needs no deadline beside it: what ends by the deadline at the worst time does so at the average.
-by-after : (deadline worst average : ℕ) (first after : ℤ) → average ≤ worst
-    → minZ (latest-start deadline first worst) (after -ℤ pos average) ≡ limit-of deadline first worst (latest-start deadline after average)
-by-after deadline worst average first after h = settled _ _ (λ t b. (there t b, back t b))
-  where
-    safe : ℤ
-    safe = latest-start deadline first worst
-
-    room : ℤ
-    room = latest-start deadline after average
-
-    there : (t b : ℕ) → AtMost t b (minZ safe (after -ℤ pos average)) → AtMost t b (minZ room safe)
-    there t b a =
-        let p = at-most-min t b safe (after -ℤ pos average) .0 a in
-        let own = at-most-min (t + worst) b (pos deadline) first .0 (at-most-less t b (minZ (pos deadline) first) worst .0 (p .0)) .0 in
-        at-most-min t b room safe .1 (
-          at-most-less t b (minZ (pos deadline) after) average .1
-              (at-most-min (t + average) b (pos deadline) after .1 (omega arith, at-most-less t b after average .0 (p .1))),
-          p .0,
-        )
-
-    back : (t b : ℕ) → AtMost t b (minZ room safe) → AtMost t b (minZ safe (after -ℤ pos average))
-    back t b a =
-        let p = at-most-min t b room safe .0 a in
-        let both = at-most-min (t + average) b (pos deadline) after .0 (at-most-less t b (minZ (pos deadline) after) average .0 (p .0)) in
-        at-most-min t b safe (after -ℤ pos average) .1 (p .1, at-most-less t b after average .1 (both .1))
+-- no start at the worst time is later than one at the average, nor than one before a later end
+by-worst : (x y : ℤ) (worst average : ℕ) → average ≤ worst → ((t b : ℕ) → AtMost t b x → AtMost t b y)
+    → minZ (y -ℤ pos average) (x -ℤ pos worst) ≡ x -ℤ pos worst
+by-worst x y worst average h later = lesser-either (y -ℤ pos average) (x -ℤ pos worst)
+    ∙ lesser-left (x -ℤ pos worst) (y -ℤ pos average) (λ t b a. at-most-less t b y average .1
+    (later (t + average) b (at-most-sooner (t + average) (t + worst) b x (omega arith) (at-most-less t b x worst .0 a))))
 
 above : (q : ℕ) → eqb (suc q) 0 ≡ false
 above q = ne-eqb (suc q) 0 (omega arith)
 
 -- the step at position i from what the row after it carries, and at the last position from a number that its deadline is not above
 module _ (S : Tables) (sound : Sound S) (policy i : ℕ) where
-  abbrev step : ℕ → ℤ → ℤ → ℤ
-  step q first after = limit-of (S .deadline i) first (S .worst i q) (latest-start (S .deadline i) after (S .average i q))
+  -- what is carried, held to the deadline where b says that the year is 2005
+  abbrev hold : Bool → ℤ → ℤ
+  hold b after = cond b (minZ (pos (S .deadline i)) after) after
+
+  abbrev step : Bool → ℕ → ℤ → ℤ → ℤ
+  step b q first after = limit-of (S .deadline i) (hold b first) (S .worst i q) (hold b after -ℤ pos (S .average i q))
 
   module _ (l : suc i < S .n) where
     safe-is : (q : ℕ) → latest-start (S .deadline i) (limit-2005 S (suc i) 0) (S .worst i q) ≡ limit-of-sums S (safe S) i q
     safe-is q = rw (level-0-2005 S (suc i) 0 sound l) (sym (safe-row S i q l))
 
     limit-2005-is : (q : ℕ) → q < S .levels
-        → step q (limit-2005 S (suc i) 0) (cond (eqb q 0) (limit-2005 S (suc i) q) (limit-of-sums S (average S) (suc i) q)) ≡ limit-2005 S i q
+        → step true q (limit-2005 S (suc i) 0) (cond (eqb q 0) (limit-2005 S (suc i) q) (limit-of-sums S (average S) (suc i) q)) ≡ limit-2005 S i q
     unfolding limit-2005
     limit-2005-is zero m =
-        by-worst (minZ (pos (S .deadline i)) (limit-2005 S (suc i) 0)) (S .worst i 0) (S .average i 0) (sound .ordered i 0 (omega arith) m)
+        let end = minZ (pos (S .deadline i)) (limit-2005 S (suc i) 0) in
+        rw (lesser-again (pos (S .deadline i)) (limit-2005 S (suc i) 0))
+        (by-worst end end (S .worst i 0) (S .average i 0) (sound .ordered i 0 (omega arith) m) (λ t b a. a)
         ∙ safe-is 0
-        ∙ sym (level-0-2005 S i 0 sound (omega arith))
-    limit-2005-is (suc q) m = rw (above q) (ap₂ minZ (sym (average-row S i (suc q) l)) (safe-is (suc q)))
+        ∙ sym (level-0-2005 S i 0 sound (omega arith)))
+    limit-2005-is (suc q) m = rw (lesser-again (pos (S .deadline i)) (limit-2005 S (suc i) 0), above q) (ap₂ minZ (sym (average-row S i (suc q) l)) (safe-is (suc q)))
 
-    limit-before : (q : ℕ) → q < S .levels → step q (carried-at policy S (suc i) 0) (carried-at policy S (suc i) q) ≡ limit-by policy S i q
+    limit-before : (q : ℕ) → q < S .levels
+        → step (eqb policy policy-2005) q (carried-at policy S (suc i) 0) (carried-at policy S (suc i) q) ≡ limit-by policy S i q
     limit-before q m = by (eqb policy policy-2005)
       where
         by : (b : Bool) → let f : ℕ → ℕ → ℤ = cond b (limit-2005 S) (limit S) in
-            step q (cond b (f (suc i) 0) (f (suc i) 0)) (cond b (cond (eqb q 0) (f (suc i) q) (limit-of-sums S (average S) (suc i) q)) (f (suc i) q)) ≡ f i q
+            step b q (cond b (f (suc i) 0) (f (suc i) 0)) (cond b (cond (eqb q 0) (f (suc i) q) (limit-of-sums S (average S) (suc i) q)) (f (suc i) q)) ≡ f i q
         by true = limit-2005-is q m
-        by false =
-            sym (by-after (S .deadline i) (S .worst i q) (S .average i q) (limit S (suc i) 0) (limit S (suc i) q) (sound .ordered i q (omega arith) m))
-            ∙ sym (limit-row-after S sound i q m l)
+        by false = lesser-either (limit S (suc i) q -ℤ pos (S .average i q)) _ ∙ sym (limit-row-after S sound i q m l)
 
     -- and the room, where it is carried on
     room-before : (q : ℕ) (x : ℤ)
-        → carried-of policy q x (latest-start (S .deadline i) (carried-at policy S (suc i) q) (S .average i q)) ≡ carried-of policy q x (limit-of-sums S (average S) i q)
+        → carried-of policy q x (hold (eqb policy policy-2005) (carried-at policy S (suc i) q) -ℤ pos (S .average i q))
+        ≡ carried-of policy q x (limit-of-sums S (average S) i q)
     room-before q x = by (eqb policy policy-2005) q
       where
         by : (b : Bool) (q : ℕ) → let f : ℕ → ℕ → ℤ = cond b (limit-2005 S) (limit S) in
             let after = cond b (cond (eqb q 0) (f (suc i) q) (limit-of-sums S (average S) (suc i) q)) (f (suc i) q) in
-            cond b (cond (eqb q 0) x (latest-start (S .deadline i) after (S .average i q))) x ≡ cond b (cond (eqb q 0) x (limit-of-sums S (average S) i q)) x
+            cond b (cond (eqb q 0) x (hold b after -ℤ pos (S .average i q))) x ≡ cond b (cond (eqb q 0) x (limit-of-sums S (average S) i q)) x
         by true zero = refl
         by true (suc q) = rw (above q) (sym (average-row S i (suc q) l))
         by false q = refl
@@ -147,14 +125,27 @@ module _ (S : Tables) (sound : Sound S) (policy i : ℕ) where
     ends : minZ (pos (S .deadline i)) (pos top) ≡ pos (S .deadline i)
     ends = lesser-left (pos (S .deadline i)) (pos top) (λ t c a. omega arith)
 
-    limit-last : (q : ℕ) → q < S .levels → step q (pos top) (pos top) ≡ limit-by policy S i q
+    limit-last : (q : ℕ) → q < S .levels → step (eqb policy policy-2005) q (pos top) (pos top) ≡ limit-by policy S i q
     unfolding limit-2005
-    limit-last q m = rw ends (of-either (λ f. minZ (pos (S .deadline i) -ℤ pos (S .average i q)) (pos (S .deadline i) -ℤ pos (S .worst i q)) ≡ f i q) S policy
-        (ap₂ minZ (sym (average-last S i q l)) (sym (safe-last S i q l)))
-        (by-worst (pos (S .deadline i)) (S .worst i q) (S .average i q) (sound .ordered i q (omega arith) m) ∙ sym (limit-last-row S sound i q m l)))
+    limit-last q m = by (eqb policy policy-2005)
+      where
+        by : (b : Bool) → step b q (pos top) (pos top) ≡ cond b (limit-2005 S) (limit S) i q
+        by true = rw (lesser-again (pos (S .deadline i)) (pos top), ends) (ap₂ minZ (sym (average-last S i q l)) (sym (safe-last S i q l)))
+        by false = rw ends (by-worst (pos (S .deadline i)) (pos top) (S .worst i q) (S .average i q) (sound .ordered i q (omega arith) m)
+            (λ t b a. omega arith) ∙ sym (limit-last-row S sound i q m l))
 
-    room-last : (q : ℕ) → latest-start (S .deadline i) (pos top) (S .average i q) ≡ limit-of-sums S (average S) i q
-    room-last q = rw ends (sym (average-last S i q l))
+    room-last : (q : ℕ) (x : ℤ)
+        → carried-of policy q x (hold (eqb policy policy-2005) (pos top) -ℤ pos (S .average i q)) ≡ carried-of policy q x (limit-of-sums S (average S) i q)
+    room-last q x = by (eqb policy policy-2005)
+      where
+        by : (b : Bool) → cond b (cond (eqb q 0) x (hold b (pos top) -ℤ pos (S .average i q))) x ≡ cond b (cond (eqb q 0) x (limit-of-sums S (average S) i q)) x
+        by true = ap (cond (eqb q 0) x) (rw ends (sym (average-last S i q l)))
+        by false = refl
+
+-- a position's deadline is a clock reading
+pub due-small : {S : Tables} {n levels deadline : ℕ} {average worst : ℕ → ℕ} → Lawful S n levels → (i : ℕ) → i < n
+    → Position S levels i average worst deadline → deadline ≤ last-clock
+due-small lawful i l at = omega (arith, at .due, lawful .small .due i (omega (arith, lawful .positions)))
 
 module _ {S : Tables} {n levels : ℕ} (lawful : Lawful S n levels) (policy : ℕ) where
   in-levels : (q : ℕ) → q < levels → q < S .levels
@@ -180,25 +171,34 @@ module _ {S : Tables} {n levels : ℕ} (lawful : Lawful S n levels) (policy : �
   }
 
   -- the row at i from the row at j, which is after it
-  module _ {next : List ℤ} {average worst : ℕ → ℕ} {deadline : ℕ} (i j : ℕ) (e : j ≡ i + 1) (h : j ≤ n)
-      (was : RowAt policy S n levels j next) (at : Position S levels i average worst deadline) where
+  module _ {next held : List ℤ} {average worst : ℕ → ℕ} {deadline : ℕ} (i j : ℕ) (e : j ≡ i + 1) (h : j ≤ n)
+      (was : RowAt policy S n levels j next) (at : Position S levels i average worst deadline) (holds : Held policy deadline next held) where
     here : i < S .n
     here = omega (arith, lawful .positions)
 
     s : j ≡ suc i
     s = e ∙ add-one i
 
-    near : (q : ℕ) → q < levels → mag (getD next q (pos 0)) < clock-end
-    near q m = go (decLt j n)
+    due : deadline ≤ last-clock
+    due = due-small lawful i (omega arith) at
+
+    holds-at : (q : ℕ) → q < levels → getD held q (pos 0) ≡ held-to policy deadline (getD next q (pos 0))
+    holds-at q m = holds .at q (omega (arith, lawful .most))
+
+    near : (q : ℕ) → q < levels → mag (getD held q (pos 0)) < clock-end
+    near q m = rw (holds-at q m) (by (eqb policy policy-2005) (getD next q (pos 0)) (go (decLt j n)))
       where
         go : Dec (j < n) → mag (getD next q (pos 0)) < clock-end
         go (yes l) = rw (was .carries q m l) (carried-near j q l m)
         go (no l) = rw (was .after q m (omega arith)) (omega arith)
 
-    pub row-small : SmallRow next average worst deadline levels
+        by : (b : Bool) (x : ℤ) → mag x < clock-end → mag (cond b (minZ (pos deadline) x) x) < clock-end
+        by true x k = omega (arith, mag-lesser (pos deadline) x last-clock due (omega arith))
+        by false x k = k
+
+    pub row-small : SmallRow held average worst deadline levels
     row-small q m =
         let short = lawful .small .time i q here (in-levels q m) in
-        let due : deadline ≤ last-clock = omega (arith, at .due, lawful .small .due i here) in
         record {
           by-worst = record { due = due; near = near 0 (omega arith); short = omega (arith, at .worsts q m) };
           by-average = record {
@@ -208,28 +208,27 @@ module _ {S : Tables} {n levels : ℕ} (lawful : Lawful S n levels) (policy : �
           };
         }
 
-    pub limit-is : (q : ℕ) → q < levels → limits-of next average worst deadline q ≡ limit-by policy S i q
-    limit-is q m = rw (at .due, at .averages q m, at .worsts q m) (go (decLt j n))
+    pub limit-is : (q : ℕ) → q < levels → limits-of held average worst deadline q ≡ limit-by policy S i q
+    limit-is q m = rw (holds-at 0 (omega arith), holds-at q m, at .due, at .averages q m, at .worsts q m) (go (decLt j n))
       where
-        go : Dec (j < n) → step S (lawful .sound) policy i q (getD next 0 (pos 0)) (getD next q (pos 0)) ≡ limit-by policy S i q
+        go : Dec (j < n) → step S (lawful .sound) policy i (eqb policy policy-2005) q (getD next 0 (pos 0)) (getD next q (pos 0)) ≡ limit-by policy S i q
         go (yes l) = rw (was .carries 0 (omega arith) l, was .carries q m l, s)
             (limit-before S (lawful .sound) policy i (omega (arith, lawful .positions)) q (in-levels q m))
         go (no l) = rw (was .after 0 (omega arith) (omega arith), was .after q m (omega arith))
             (limit-last S (lawful .sound) policy i (omega (arith, lawful .positions)) last-clock (lawful .small .due i here) q (in-levels q m))
 
     carried-is : (q : ℕ) → q < levels
-        → carried-of policy q (limits-of next average worst deadline q) (rooms-of next average deadline q) ≡ carried-at policy S i q
-    carried-is q m = rw (limit-is q m, at .due, at .averages q m) (go (decLt j n))
+        → carried-of policy q (limits-of held average worst deadline q) (rooms-of held average q) ≡ carried-at policy S i q
+    carried-is q m = rw (limit-is q m, holds-at q m, at .due, at .averages q m) (go (decLt j n))
       where
-        go : Dec (j < n) → carried-of policy q (limit-by policy S i q) (latest-start (S .deadline i) (getD next q (pos 0)) (S .average i q))
+        go : Dec (j < n) → carried-of policy q (limit-by policy S i q) (held-to policy (S .deadline i) (getD next q (pos 0)) -ℤ pos (S .average i q))
             ≡ carried-at policy S i q
         go (yes l) = rw (was .carries q m l, s)
             (room-before S (lawful .sound) policy i (omega (arith, lawful .positions)) q (limit-by policy S i q))
         go (no l) = rw (was .after q m (omega arith))
-            (ap (carried-of policy q (limit-by policy S i q))
-            (room-last S (lawful .sound) policy i (omega (arith, lawful .positions)) last-clock (lawful .small .due i here) q))
+            (room-last S (lawful .sound) policy i (omega (arith, lawful .positions)) last-clock (lawful .small .due i here) q (limit-by policy S i q))
 
-    pub row-is : {row : List ℤ} → row ≡ row-of policy next average worst deadline levels → RowAt policy S n levels i row
+    pub row-is : {row : List ℤ} → row ≡ row-of policy held average worst deadline levels → RowAt policy S n levels i row
     row-is is = record {
       carries = λ q m l. rw is (eight-at _ levels q m ∙ carried-is q m);
       after = λ q m l. let no-such : ⊥ = omega arith in absurd no-such;
@@ -243,14 +242,14 @@ module _ {S : Tables} {n levels : ℕ} (lawful : Lawful S n levels) (policy : �
   pub worked-none : (out : List ℤ) {next : List ℤ} → next ≡ after-last → Worked policy S n levels out n next out
   worked-none out e = record { row = row-none e; table = from-none limits out (n * levels) n }
 
-  pub worked-more : (out₀ : List ℤ) {next out row out′ : List ℤ} {average worst : ℕ → ℕ} {deadline : ℕ} (i j : ℕ) → j ≡ i + 1 → j ≤ n
-      → n * levels ≤ length out₀ → Worked policy S n levels out₀ j next out → Position S levels i average worst deadline
-      → row ≡ row-of policy next average worst deadline levels → out′ ≡ splice out (i * levels) (tab (limits-of next average worst deadline) levels)
+  pub worked-more : (out₀ : List ℤ) {next held out row out′ : List ℤ} {average worst : ℕ → ℕ} {deadline : ℕ} (i j : ℕ) → j ≡ i + 1 → j ≤ n
+      → n * levels ≤ length out₀ → Worked policy S n levels out₀ j next out → Position S levels i average worst deadline → Held policy deadline next held
+      → row ≡ row-of policy held average worst deadline levels → out′ ≡ splice out (i * levels) (tab (limits-of held average worst deadline) levels)
       → Worked policy S n levels out₀ i row out′
-  worked-more out₀ {next = next} {out = out} {average = average} {worst = worst} {deadline = deadline} i j e h room was at is stored =
-      let same = tab-ext (limits-of next average worst deadline) (limit-by policy S i) levels (limit-is i j e h (was .row) at) in
+  worked-more out₀ {held = held} {out = out} {average = average} {worst = worst} {deadline = deadline} i j e h room was at holds is stored =
+      let same = tab-ext (limits-of held average worst deadline) (limit-by policy S i) levels (limit-is i j e h (was .row) at holds) in
       record {
-        row = row-is i j e h (was .row) at is;
+        row = row-is i j e h (was .row) at holds is;
         table = from-more limits levels (λ k. length-tab (limit-by policy S k) levels) out₀ i j n (j * levels) (i * levels) e h
             (ap (λ (k : ℕ). k * levels) e ∙ stride-more i levels)
             (omega (arith, mul-le-mul-right levels h))

@@ -1,6 +1,6 @@
 -- The lesser of two numbers and a difference: how large they can be, and where the first is the lesser. Assumes nothing.
 use Prim.Native.Nat.{ℕ, zero, suc, _+_, _-_, _≤_, _<_}
-use mathlib.Core.Path.{_≡_}
+use mathlib.Core.Path.{_≡_, _∙_}
 use mathlib.Core.Bool.{Bool, true, false, cond}
 use native.Mathlib.Omega.{arith}
 use lib.Dec.{ltb}
@@ -38,3 +38,12 @@ as-is z h = toZ-ofZ (record { sfits = h })
 
 pub lesser-left : (a b : ℤ) → ((t c : ℕ) → AtMost t c a → AtMost t c b) → minZ a b ≡ a
 lesser-left a b h = settled (minZ a b) a (λ t c. ((λ m. at-most-min t c a b .0 m .0), (λ m. at-most-min t c a b .1 (m, h t c m))))
+
+pub lesser-either : (a b : ℤ) → minZ a b ≡ minZ b a
+lesser-either a b = settled _ _ (λ t c. (
+  (λ m. let p = at-most-min t c a b .0 m in at-most-min t c b a .1 (p .1, p .0)),
+  (λ m. let p = at-most-min t c b a .0 m in at-most-min t c a b .1 (p .1, p .0)),
+))
+
+pub lesser-again : (a b : ℤ) → minZ a (minZ a b) ≡ minZ a b
+lesser-again a b = lesser-either a (minZ a b) ∙ lesser-left (minZ a b) a (λ t c m. at-most-min t c a b .0 m .0)

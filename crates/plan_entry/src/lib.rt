@@ -4,10 +4,10 @@ ghost use Prim.Native.Nat.{ℕ, _+_, _-_, _*_, _≤_, _<_};
 ghost use lib.IntN.{pos, _-ℤ_};
 ghost use lib.ListN.{length, getD};
 ghost use lib.Signed.{mag};
-ghost use Rattle.rules.specs.Numbers.{most-levels, longest-coast};
+ghost use Rattle.rules.specs.Numbers.{most-levels, last-clock, longest-coast};
 ghost use Rattle.rules.specs.Words.{minZ};
 ghost use Rattle.fields.specs.Fields.{splice};
-ghost use Rattle.plan_entry.specs.Rows.{latest-start, limit-of, carried-of, after-last, SmallStart};
+ghost use Rattle.plan_entry.specs.Rows.{latest-start, Held, limit-of, carried-of, after-last, SmallStart};
 ghost use Rattle.plan_entry.specs.Bounds.{bound-by, bounds-by, bound-in, signed-end, Spares};
 
 fn lesser(a: i32, b: i32) -> i32
@@ -16,7 +16,8 @@ fn lesser(a: i32, b: i32) -> i32
     if a <= b { a } else { b }
 }
 
-fn minus(limit: i32, time: u32) -> i32
+// The latest start of what takes `time` and ends by `limit`.
+pub fn minus(limit: i32, time: u32) -> i32
     requires { ⌜ mag limit + time < signed-end ⌝ }
     ensures { λ r. ⌜ r ≡ limit -ℤ pos time ⌝ }
 {
@@ -26,11 +27,34 @@ fn minus(limit: i32, time: u32) -> i32
 // ---- limits
 
 // The latest start of an action that takes `time` and ends by its deadline and by `after`.
-pub fn latest_start(deadline: u32, after: i32, time: u32) -> i32
+fn latest_start(deadline: u32, after: i32, time: u32) -> i32
     requires { ⌜ SmallStart deadline after time ⌝ }
     ensures { λ r. ⌜ r ≡ latest-start deadline after time ⌝ }
 {
     minus(lesser(deadline as i32, after), time)
+}
+
+// What the row after it carries, held to a deadline: in 2005 the averages are tested against that too. In 2008 the safe test is enough, so that
+// its rows are spared the comparison.
+pub fn held_to(
+    policy: u32,
+    deadline: u32,
+    next: [i32; rules::MOST_LEVELS],
+) -> [i32; rules::MOST_LEVELS]
+    requires { ⌜ deadline ≤ last-clock ⌝ }
+    ensures { λ r. ⌜ Held policy deadline next r ⌝ }
+{
+    if policy != rules::POLICY_2005 {
+        return next;
+    }
+    let mut held = [0i32; rules::MOST_LEVELS];
+    let mut q = 0;
+    while q < rules::MOST_LEVELS {
+        let after = next[q];
+        held[q] = lesser(deadline as i32, after);
+        q += 1;
+    }
+    held
 }
 
 // A limit by the limit of level 0 after it, `first`, and by `room`, the latest start at the average.

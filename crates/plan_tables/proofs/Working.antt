@@ -20,7 +20,7 @@ use Rattle.fields.proofs.Cats.{cat-from, from-none, from-more, from-done}
 use Rattle.fields.proofs.Tabs.{tab-ext, length-tab}
 use Rattle.image_fields.specs.Reading.{HasRecord, HasRecords}
 use Rattle.image_fields.proofs.Reading.{has-records, has-record}
-use Rattle.plan_entry.specs.Rows.{after-last}
+use Rattle.plan_entry.specs.Rows.{Held, after-last}
 use Rattle.plan_entry.specs.Bounds.{bounds-from}
 use Rattle.plan_entry.proofs.Limits.{Lawful, Position, Worked, limit-is, worked-none, worked-more, worked-done}
 use Rattle.plan_entry.proofs.Sixteens.{Bounded, bounded-more}
@@ -74,20 +74,20 @@ module _ {S : Tables} {n L : ℕ} (lawful : Lawful S n L) (policy : ℕ) (lent :
     bounded = from-none (bounds-from S (limit-by policy S) L) (lent .bounds) (n * (L * 16)) n;
   }
 
-  pub back-more : {s : List ℕ} {a deadline : ℕ} {next row : List ℤ} {before after : LentTables} (i j : ℕ) → j ≡ i + 1 → j ≤ n
+  pub back-more : {s : List ℕ} {a deadline : ℕ} {next held row : List ℤ} {before after : LentTables} (i j : ℕ) → j ≡ i + 1 → j ≤ n
       → EntriesFit (n * L) lent → Back policy S n L lent j next before → Position S L i (average-of s a) (worst-of s a) deadline
-      → Works s L policy a deadline next (i * L) (n * L) before after row → Back policy S n L lent i row after
-  back-more {s} {a} {before = before} i j e h room was at is =
+      → Held policy deadline next held → Works s L policy a deadline held (i * L) (n * L) before after row → Back policy S n L lent i row after
+  back-more {s} {a} {before = before} i j e h room was at holds is =
       let same = tab-ext (worst-of s a) (S .worst i) L (at .worsts) in
       record {
-        worked = worked-more lawful policy (lent .limits) i j e h (room .limits-room) (was .worked) at (is .row-is) (is .limits-are);
+        worked = worked-more lawful policy (lent .limits) i j e h (room .limits-room) (was .worked) at holds (is .row-is) (is .limits-are);
         stored = from-more (λ k. tab (S .worst k) L) L (λ k. length-tab (S .worst k) L) (lent .worst) i j n (j * L) (i * L) e h
             (ap (λ (k : ℕ). k * L) e ∙ stride-more i L)
             (omega (arith, mul-le-mul-right L h, room .worst-room))
             (was .stored)
             (is .worst-is ∙ ap (splice (before .worst) (i * L)) same);
         bounded = bounded-more lawful policy (lent .bounds) (room .bounds-room) i j e h (was .bounded) _ (worst-of s a)
-            (limit-is lawful policy i j e h (was .worked .row) at) (at .worsts) (is .bounds-are);
+            (limit-is lawful policy i j e h (was .worked .row) at holds) (at .worsts) (is .bounds-are);
       }
 
 pub back-done : {s : List ℕ} {n L : ℕ} (policy : ℕ) (o : Order (profile s .n)) (lent : LentTables) {next : List ℤ} {after : LentTables} (i : ℕ) → i ≡ 0

@@ -33,22 +33,22 @@ pub record EntriesFit (entries : ℕ) (lent : LentTables) : Type 0 where
   pub worst-room : entries ≤ length (lent .worst)
   pub bounds-room : entries * longest-coast ≤ length (lent .bounds)
 
--- what the row of action a is worked from: its record, the row after it, and the coast bounds of the position after it
-pub record CanWork (s : List ℕ) (L a due : ℕ) (next : List ℤ) (from entries : ℕ) (lent : LentTables) : Type 0 where
+-- what the row of action a is worked from: its record, the row after it as it is held to the deadline, and the coast bounds of the position after it
+pub record CanWork (s : List ℕ) (L a due : ℕ) (held : List ℤ) (from entries : ℕ) (lent : LentTables) : Type 0 where
   pub present : HasRecord s L a
-  pub small : SmallRow next (average-of s a) (worst-of s a) due L
+  pub small : SmallRow held (average-of s a) (worst-of s a) due L
   pub spares : (q k : ℕ) → q < L → k < longest-coast - 1 → Spares (worst-of s a q) (bound-in (lent .bounds) entries (from + q + L) k)
   pub inside : from + L ≤ entries
   pub room : EntriesFit entries lent
 
 -- the limits worked and stored, with the worst times and the coast bounds, and the row that is carried on
-pub record Works (s : List ℕ) (L policy a due : ℕ) (next : List ℤ) (from entries : ℕ) (before after : LentTables) (row : List ℤ) : Type 0 where
-  pub row-is : row ≡ row-of policy next (average-of s a) (worst-of s a) due L
-  pub limits-are : after .limits ≡ splice (before .limits) from (tab (limits-of next (average-of s a) (worst-of s a) due) L)
+pub record Works (s : List ℕ) (L policy a due : ℕ) (held : List ℤ) (from entries : ℕ) (before after : LentTables) (row : List ℤ) : Type 0 where
+  pub row-is : row ≡ row-of policy held (average-of s a) (worst-of s a) due L
+  pub limits-are : after .limits ≡ splice (before .limits) from (tab (limits-of held (average-of s a) (worst-of s a) due) L)
   pub worst-is : after .worst ≡ splice (before .worst) from (tab (worst-of s a) L)
   pub bounds-are : after .bounds
       ≡ splice (before .bounds) (from * longest-coast)
-      (cat (λ q. bounds-by (limits-of next (average-of s a) (worst-of s a) due q) (worst-of s a q) (bound-in (before .bounds) entries (from + q + L))) L)
+      (cat (λ q. bounds-by (limits-of held (average-of s a) (worst-of s a) due q) (worst-of s a q) (bound-in (before .bounds) entries (from + q + L))) L)
 
 -- all rows stored, by a policy and of the order o: n positions at L levels
 pub record RowsFilled (s : List ℕ) (policy n L : ℕ) (before after : LentTables) (o : Order (profile s .n)) : Type 0 where

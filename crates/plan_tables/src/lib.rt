@@ -7,35 +7,35 @@ ghost use Rattle.rules.specs.Image.{profile};
 ghost use Rattle.rules.specs.Order.{Order};
 ghost use Rattle.plan_tables.specs.Filling.{PlanInput, SomePlanInput, EntriesFit, CanWork, Works, RowsFilled, AllFilled};
 
-// The limits at the position from entry `from` on, for action a, from the row after it, with the worst times and the coast bounds, to the lent
-// tables; and what this row carries on.
+// The limits at the position from entry `from` on, for action a, from the row after it, `held` to the deadline, with the worst times and the coast
+// bounds, to the lent tables; and what this row carries on.
 fn work_row(
     image: &[u8],
     levels: usize,
     policy: u32,
     a: usize,
     due: u32,
-    next: [i32; rules::MOST_LEVELS],
+    held: [i32; rules::MOST_LEVELS],
     from: usize,
     entries: usize,
     limits: &mut [i32],
     worst: &mut [u32],
     bounds: &mut [i32],
 ) -> [i32; rules::MOST_LEVELS]
-    requires { ⌜ CanWork (now image) levels a due next from entries
+    requires { ⌜ CanWork (now image) levels a due held from entries
         (record { order = []; limits = now limits; worst = now worst; bounds = now bounds }) ⌝ }
-    ensures { λ r. ⌜ Works (now (image .entry)) levels policy a due next from entries
+    ensures { λ r. ⌜ Works (now (image .entry)) levels policy a due held from entries
         (record { order = []; limits = now (limits .entry); worst = now (worst .entry); bounds = now (bounds .entry) })
         (record { order = []; limits = now (limits .exit); worst = now (worst .exit); bounds = now (bounds .exit) }) r ⌝ }
 {
-    let first = next[0];
+    let first = held[0];
     let mut here = [0i32; rules::MOST_LEVELS];
     let mut q = 0;
     while q < levels {
         let average = read::average_at(image, levels, a, q);
         let longest = read::worst_at(image, levels, a, q);
-        let after = next[q];
-        let room = plan_entry::latest_start(due, after, average);
+        let after = held[q];
+        let room = plan_entry::minus(after, average);
         let limit = plan_entry::limit_of(due, first, longest, room);
         here[q] = plan_entry::carried(policy, q, limit, room);
         limits[from + q] = limit;
@@ -73,13 +73,14 @@ fn work(
         let a = actions[i] as usize;
         let from = i * levels;
         let due = read::due_at(image, levels, a, cycle);
+        let held = plan_entry::held_to(policy, due, next);
         let here = work_row(
             image,
             levels,
             policy,
             a,
             due,
-            next,
+            held,
             from,
             entries,
             limits,

@@ -12,7 +12,7 @@ use Rattle.rules.specs.Limits.{tables}
 use Rattle.fields.proofs.Bytes.{Bytes}
 use Rattle.fields.proofs.Strides.{stride-fits}
 use Rattle.image_fields.specs.Reading.{HasRecord}
-use Rattle.plan_entry.proofs.Limits.{row-small}
+use Rattle.plan_entry.proofs.Limits.{due-small, row-small}
 use Rattle.plan_entry.proofs.Sixteens.{sixteen-spares}
 use Rattle.plan_tables.specs.Filling.{PlanInput}
 use Rattle.plan_tables.proofs.Working.{Back, records, lawful, present, position, back-none, back-more, back-done}
@@ -69,20 +69,27 @@ mul-from c =
 due-at-requires : tie.Need-due-at-requires Inv-loop μ-loop
 due-at-requires c κs = (action (c .before), c .before .before .before .before .before .before .pre .0 .1 .cycle-is)
 
+held-to-requires : tie.Need-held-to-requires Inv-loop μ-loop
+held-to-requires c κs =
+    let t = c .before .before .before in
+    let given = t .before .before .before .before .pre .0 in
+    let i = t .loop .i in
+    due-small (lawful (given .1) (bytes (t .before))) (i - 1) (omega arith) (position (given .1) (i - 1) (omega arith) (c .due-at .ensures))
+
 work-row-requires : tie.Need-work-row-requires Inv-loop μ-loop
 work-row-requires c κs =
-    let in-loop = c .before .before .before .before .before in
+    let in-loop = c .before .before .before .before .before .before in
     let t = in-loop .before in
     let s = t .before .before .before .before in
     let room = s .pre .1 in
     let given = s .pre .0 in
     let i = t .loop .i in
     let S = lawful (given .1) (bytes (t .before)) in
-    let at = position (given .1) (i - 1) (omega arith) (c .before .before .before .due-at .ensures) in
+    let at = position (given .1) (i - 1) (omega arith) (c .before .before .before .before .due-at .ensures) in
     let was = t .loop .inv .4 (given .0) (given .1) in
     record {
       present = action in-loop;
-      small = row-small S _ (i - 1) i (omega arith) (t .loop .inv .0) (was .worked .row) at;
+      small = row-small S _ (i - 1) i (omega arith) (t .loop .inv .0) (was .worked .row) at (c .before .before .before .held-to .ensures);
       spares = λ q k c. sixteen-spares S (s .args .policy) (s .args .bounds .now) (room .bounds-room) (i - 1) i (omega arith) (t .loop .inv .0) (was .bounded) q c (at .worsts q c) k;
       inside = inside in-loop;
       room = record {
@@ -95,10 +102,11 @@ work-row-requires c κs =
 loop-again : tie.Need-loop-again Inv-loop μ-loop
 loop-again c =
     let done = c .before .before .before .before .work-row in
-    let in-loop = c .before .before .before .before .before .before .before .before .before .before in
+    let in-loop = c .before .before .before .before .before .before .before .before .before .before .before in
     let t = in-loop .before in
     let some = in-loop .loop-test .taken in
-    let due = c .before .before .before .before .before .before .before .before .due-at .ensures in
+    let due = c .before .before .before .before .before .before .before .before .before .due-at .ensures in
+    let holds = c .before .before .before .before .before .before .before .before .held-to .ensures in
     let room = t .before .before .before .before .pre .1 in
     let i = t .loop .i in (
       search needs,
@@ -106,7 +114,7 @@ loop-again c =
       done .kept .1 .1 .1 .1 .1 .1 .1 .1 .1 .0 ∙ t .loop .inv .2,
       done .kept .1 .1 .1 .1 .1 .1 .1 .1 .1 .1 .0 ∙ t .loop .inv .3,
       λ o g. back-more (lawful g (bytes (t .before))) _ _ (i - 1) i (omega (arith, some)) (t .loop .inv .0) room (t .loop .inv .4 o g)
-          (position g (i - 1) (omega (arith, some)) due) (done .ensures),
+          (position g (i - 1) (omega (arith, some)) due) holds (done .ensures),
     )
 
 returns : tie.Need-returns Inv-loop μ-loop
@@ -128,6 +136,7 @@ work-spec =
     cast-a
     mul-from
     due-at-requires
+    held-to-requires
     work-row-requires
     (λ c. search needs)
     loop-again

@@ -22,29 +22,29 @@ use Rattle.plan_tables.proofs.work_row.Statement.{statement}
 use Rattle.plan_tables.proofs.work_row.Tie as tie
 
 -- what level q carries on
-abbrev carries : (policy : ℕ) (s : List ℕ) (a due : ℕ) (next : List ℤ) → ℕ → ℤ
-carries policy s a due next q =
-    carried-of policy q (limits-of next (average-of s a) (worst-of s a) due q) (rooms-of next (average-of s a) due q)
+abbrev carries : (policy : ℕ) (s : List ℕ) (a due : ℕ) (held : List ℤ) → ℕ → ℤ
+carries policy s a due held q =
+    carried-of policy q (limits-of held (average-of s a) (worst-of s a) due q) (rooms-of held (average-of s a) q)
 
 -- the sixteen of level q, from the bounds as they stood
-abbrev sixteens : (s : List ℕ) (L a due : ℕ) (next : List ℤ) (from entries : ℕ) (bounds : List ℤ) → ℕ → List ℤ
-sixteens s L a due next from entries bounds q =
-    bounds-by (limits-of next (average-of s a) (worst-of s a) due q) (worst-of s a q) (bound-in bounds entries (from + q + L))
+abbrev sixteens : (s : List ℕ) (L a due : ℕ) (held : List ℤ) (from entries : ℕ) (bounds : List ℤ) → ℕ → List ℤ
+sixteens s L a due held from entries bounds q =
+    bounds-by (limits-of held (average-of s a) (worst-of s a) due q) (worst-of s a q) (bound-in bounds entries (from + q + L))
 
 abbrev Inv-loop : tie.InvT-loop
-Inv-loop image levels policy a due from entries limits₀ worst₀ bounds₀ next first here₀ q₀ limits worst bounds here q =
+Inv-loop image levels policy a due from entries limits₀ worst₀ bounds₀ held first here₀ q₀ limits worst bounds here q =
     (q ≤ levels)
     × (length here ≡ 8)
     × (length limits ≡ length limits₀)
     × (length worst ≡ length worst₀)
     × (length bounds ≡ length bounds₀)
-    × (here ≡ splice (replicate 8 (pos 0)) 0 (tab (carries policy image a due next) q))
-    × (limits ≡ splice limits₀ from (tab (limits-of next (average-of image a) (worst-of image a) due) q))
+    × (here ≡ splice (replicate 8 (pos 0)) 0 (tab (carries policy image a due held) q))
+    × (limits ≡ splice limits₀ from (tab (limits-of held (average-of image a) (worst-of image a) due) q))
     × (worst ≡ splice worst₀ from (tab (worst-of image a) q))
-    × (bounds ≡ splice bounds₀ (from * 16) (cat (sixteens image levels a due next from entries bounds₀) q))
+    × (bounds ≡ splice bounds₀ (from * 16) (cat (sixteens image levels a due held from entries bounds₀) q))
 
 abbrev μ-loop : tie.MeasureT-loop
-μ-loop image levels policy a due from entries limits₀ worst₀ bounds₀ next first here₀ q₀ limits worst bounds here q = levels - q
+μ-loop image levels policy a due from entries limits₀ worst₀ bounds₀ held first here₀ q₀ limits worst bounds here q = levels - q
 
 -- the start of a turn, and its level
 abbrev start : tie.In-loop Inv-loop μ-loop → tie.Start Inv-loop μ-loop
@@ -81,15 +81,15 @@ worsts c = worst-of (start c .args .image .now) (start c .args .a)
 small : (c : tie.In-loop Inv-loop μ-loop) → SmallLimit (start c .args .t6) (averages c) (worsts c) (start c .args .due) (level c)
 small c = start c .pre .small (level c) (omega arith)
 
-latest-start-requires : tie.Need-latest-start-requires Inv-loop μ-loop
-latest-start-requires c κs =
-    let in-loop = c .before .before .before in
-    rw (as-is _ (c .after .given), c .before .before .average-at .ensures) (small in-loop .by-average)
+minus-requires : tie.Need-minus-requires Inv-loop μ-loop
+minus-requires c κs =
+    let by-average = small (c .before .before .before) .by-average in
+    rw (as-is _ (c .after .given), c .before .before .average-at .ensures) (omega (arith, by-average .near, by-average .short))
 
-room-is : (c : tie.After-latest-start Inv-loop μ-loop) → let in-loop = c .before .before .before .before in
-    toZ w32 (ofZ w32 (c .latest-start .result)) ≡ rooms-of (start in-loop .args .t6) (averages in-loop) (start in-loop .args .due) (level in-loop)
-room-is c = rw (as-is (c .latest-start .result) (c .latest-start .ok))
-    (rw (as-is _ (c .before .after .given), c .before .before .before .average-at .ensures) at (c .latest-start .ensures))
+room-is : (c : tie.After-minus Inv-loop μ-loop) → let in-loop = c .before .before .before .before in
+    toZ w32 (ofZ w32 (c .minus .result)) ≡ rooms-of (start in-loop .args .t6) (averages in-loop) (level in-loop)
+room-is c = rw (as-is (c .minus .result) (c .minus .ok))
+    (rw (as-is _ (c .before .after .given), c .before .before .before .average-at .ensures) at (c .minus .ensures))
 
 -- the number of level 0 that the row after it carries
 first-is : (c : tie.In-loop Inv-loop μ-loop) → let first = getD (start c .args .t6) 0 (pos 0) in toZ w32 (ofZ w32 first) ≡ first
@@ -181,7 +181,7 @@ work-row-spec =
     (λ c κs. search needs)
     (λ c. search needs)
     (λ c. search needs)
-    latest-start-requires
+    minus-requires
     limit-of-requires
     (λ c κs. search needs)
     (λ c. search needs)

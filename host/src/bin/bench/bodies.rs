@@ -8,7 +8,7 @@ use nyokazerubi_host::calls::{
 use nyokazerubi_host::draw::Draw;
 use std::hint::black_box;
 
-/// The most records of each kind of turn that are timed.
+/// The records of each kind of turn that are timed.
 const TURNS: usize = 64;
 
 /// An image whose cycle is what so many repeats need.
@@ -31,10 +31,9 @@ struct Turns<R> {
     reports: Vec<(R, u32)>,
 }
 
-/// Some of many, evenly.
+/// Some of all, evenly; of few each several times.
 fn some<T: Copy>(all: &[T]) -> Vec<T> {
-    let count = all.len().min(TURNS);
-    (0..count).map(|at| all[at * all.len() / count]).collect()
+    (0..TURNS).filter_map(|at| all.get(at * all.len() / TURNS)).copied().collect()
 }
 
 impl<R: Copy> Turns<R> {
@@ -131,13 +130,22 @@ fn over<T: Copy>(sides: &Sides, records: &[T], mut call: impl FnMut(&dyn Calls, 
     measure(sides, |calls| records.iter().for_each(|&record| call(calls, record))).map(|ns| ns / records.len() as f64)
 }
 
+/// The same on lent records. All of them are laid out before the first call, since a camera's record lies where it is: one that is copied just before a
+/// call may be read across what the copy stored in parts, and then the call waits for the copy.
+fn over_lent<T: Copy>(sides: &Sides, records: &[T], mut call: impl FnMut(&dyn Calls, &mut T)) -> [f64; 3] {
+    let mut lent = records.to_vec();
+    let each = |calls: &dyn Calls| {
+        lent.copy_from_slice(black_box(records));
+        lent.iter_mut().for_each(|record| call(calls, record));
+    };
+    measure(sides, each).map(|ns| ns / records.len() as f64)
+}
+
 /// The figures of the plain calls: planning, the dry run from an image, an asking that decides, one that coasts, a report.
 fn plain(sides: &Sides, bench: &Bench) -> [[f64; 3]; 5] {
     let turns = plain_turns(bench);
-    let ask = |calls: &dyn Calls, record: Run| {
-        let mut run = record;
-        black_box(calls.ask_lent(&mut run, &bench.order, &bench.limits, &bench.bounds).is_ok());
-        black_box(run);
+    let ask = |calls: &dyn Calls, run: &mut Run| {
+        black_box(calls.ask_lent(run, &bench.order, &bench.limits, &bench.bounds).is_ok());
     };
     [
         measure(sides, |calls| {
@@ -149,12 +157,10 @@ fn plain(sides: &Sides, bench: &Bench) -> [[f64; 3]; 5] {
             let (image, policy) = (black_box(&bench.image), bench.policy);
             black_box(calls.dry_frame(image, policy, &bench.durations, order, given, decided).is_ok());
         }),
-        over(sides, &turns.deciding, ask),
-        over(sides, &turns.coasting, ask),
-        over(sides, &turns.reports, |calls, (record, clock)| {
-            let mut run = record;
-            black_box(calls.report_lent(&mut run, clock, &bench.by_position));
-            black_box(run);
+        over_lent(sides, &turns.deciding, ask),
+        over_lent(sides, &turns.coasting, ask),
+        over_lent(sides, &turns.reports, |calls, (run, clock)| {
+            black_box(calls.report_lent(run, *clock, &bench.by_position));
         }),
     ]
 }
@@ -164,10 +170,8 @@ fn of_body(sides: &Sides, bench: &Repeated) -> [[f64; 3]; 5] {
     let turns = bench.turns();
     let Body { repeats, policy, .. } = bench.body;
     let tables = bench.tables();
-    let ask = |calls: &dyn Calls, record: BodyRun| {
-        let mut run = record;
-        black_box(calls.body_ask(&mut run, &tables).is_ok());
-        black_box(run);
+    let ask = |calls: &dyn Calls, run: &mut BodyRun| {
+        black_box(calls.body_ask(run, &tables).is_ok());
     };
     let (mut given, mut marks) = (vec![0; bench.clocks.len()], vec![0; bench.clocks.len()]);
     [
@@ -181,12 +185,10 @@ fn of_body(sides: &Sides, bench: &Repeated) -> [[f64; 3]; 5] {
             let answer = calls.body_dry_frame(image, repeats, policy, &bench.durations, order, &mut given, &mut marks);
             black_box(answer.is_ok());
         }),
-        over(sides, &turns.deciding, ask),
-        over(sides, &turns.coasting, ask),
-        over(sides, &turns.reports, |calls, (record, clock)| {
-            let mut run = record;
-            black_box(calls.body_report(&mut run, clock, &bench.worst));
-            black_box(run);
+        over_lent(sides, &turns.deciding, ask),
+        over_lent(sides, &turns.coasting, ask),
+        over_lent(sides, &turns.reports, |calls, (run, clock)| {
+            black_box(calls.body_report(run, *clock, &bench.worst));
         }),
     ]
 }
