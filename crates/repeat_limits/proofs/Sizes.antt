@@ -1,6 +1,6 @@
 -- Summaries of 32 bits: what they are added up to, and how far. Assumes nothing.
 use Prim.Native.Nat.{ℕ, zero, suc, _+_, _-_, _*_, _≤_, _<_, max}
-use mathlib.Core.Path.{_≡_, refl}
+use mathlib.Core.Path.{_≡_, refl, ap, _∙_}
 use mathlib.Core.Bool.{Bool, true, false, cond}
 use mathlib.Core.List.{List}
 use mathlib.Core.Logic.{_≢_}
@@ -11,7 +11,7 @@ use lib.ListN.{getD}
 use borrow.Author.Tests.{eq-eqb, ne-eqb}
 use Rattle.rules.specs.Numbers.{most-repeats, policy-2005, summary-numbers}
 use Rattle.rules.specs.Repeat.{Sums, followed, bodies, needed-2005, needed, stretch-at}
-use Rattle.repeat_limits.specs.Limits.{most-entry, greatest-later, later-2008, later-2005, later-of, mix-before}
+use Rattle.repeat_limits.specs.Limits.{most-entry, greatest-later, Summed, later-2008, later-2005, later-of, mix-before, BodiesAfter, Before}
 use Rattle.repeat_limits.specs.declared.Later.{Later}
 
 -- so many bodies, or one less, times a number of 32 bits
@@ -83,6 +83,14 @@ joins policy x y after = by (eqb policy policy-2005)
     by : (b : Bool) → mix-before x (cond b (later-2005 y after) (later-2008 y after)) ≡ cond b (needed-2005 x y after) (followed x (bodies y after) .mix)
     by true = refl
     by false = mixed after
+
+module _ {policy q after : ℕ} {l : List ℕ} {later : Later} (x : ℕ) where
+  -- by numbers that are those of the bodies
+  pub joined : {mix : ℕ} → BodiesAfter policy l q after later → mix ≡ mix-before (stretch-at l x) later → mix ≡ mix-of policy l x q after
+  joined are is = is ∙ ap (mix-before (stretch-at l x)) (are .is) ∙ joins policy (stretch-at l x) (stretch-at l q) after
+
+  pub before-there : Summed l x q after → BodiesAfter policy l q after later → Before l x later
+  before-there there are = record { own = there .own; few-lowest = are .few-lowest; few-mix = are .few-mix }
 
 -- the stretch's own numbers read one at a time, `m` its M and `a` its averages, where these count and where they do not
 pub read-before : (s : List ℕ) (x : ℕ) {a m : ℕ} (l : Later) → m ≡ getD s (x * summary-numbers + 2) 0 → a ≡ getD s (x * summary-numbers + 0) 0

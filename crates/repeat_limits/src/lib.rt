@@ -4,6 +4,7 @@ use rules::Body;
 use rules::Refusal;
 ghost use mathlib.Core.Path.{_≡_};
 ghost use mathlib.Core.List.{[]};
+ghost use mathlib.Core.Logic.{_≢_};
 ghost use Prim.Native.Nat.{ℕ, suc, _+_, _-_, _*_, _≤_, _<_, max, min};
 ghost use lib.IntN.{pos, _+ℤ_, _-ℤ_};
 ghost use lib.ListN.{length, getD};
@@ -218,7 +219,8 @@ pub fn spot_of(body: Body, position: usize) -> Spot
 // Where the next position stands: in the next place, and after the last place in the first of the next body.
 fn next_spot(body: Body, place: usize, after: u32) -> Spot
     requires { ⌜ MoreAfter body place after ⌝ }
-    ensures { λ r. ⌜ ((x : ℕ) → Standing body x place after → suc x < positions body → Standing body (suc x) (r .place) (r .after)) ⌝ }
+    ensures stands { λ r. ⌜ ((x : ℕ) → Standing body x place after → suc x < positions body → Standing body (suc x) (r .place) (r .after)) ⌝ }
+    ensures within { λ r. ⌜ (r .place ≢ 0 → r .after ≡ after) ⌝ }
 {
     let next = place + 1;
     if next == body.n as usize {
@@ -229,6 +231,19 @@ fn next_spot(body: Body, place: usize, after: u32) -> Spot
     } else {
         Spot { place: next, after }
     }
+}
+
+// The bodies after a position, each summed up in entry q, where `before` were those after the position before it: they are the same while the body
+// lasts.
+fn bodies_still(policy: u32, summaries: &[u32], q: usize, spot: Spot, before: Later) -> Later
+    requires { ⌜ (q * summary-numbers + summary-numbers ≤ length (now summaries)) × (spot .after < most-repeats) ⌝ }
+    requires { ⌜ (spot .place ≢ 0 → BodiesAfter policy (now summaries) q (spot .after) before) ⌝ }
+    ensures { λ r. ⌜ BodiesAfter policy (now (summaries .entry)) q (spot .after) r ⌝ }
+{
+    if spot.place == 0 {
+        return bodies_after(policy, summaries, q, spot.after as u64);
+    }
+    before
 }
 
 // The greatest, over the positions of a coast, of the worst times before one and M from it on: what the cycle must have room for.
@@ -247,20 +262,16 @@ fn reach(
         ≡ lent-each body (record { order = []; summaries = now (summaries .entry); worst = now (worst .entry) }) .bound i level length) ⌝ }
 {
     let levels = body.levels as usize;
-    let mut most = mix_from(body.policy, summaries, place * levels + level, level, after);
+    let mut later = bodies_after(body.policy, summaries, level, after as u64);
+    let mut most = mix_before(summaries, place * levels + level, later);
     let mut spent: u64 = 0;
     let mut spot = Spot { place, after };
     let mut k = 1;
     while k < length {
         spent += worst[spot.place * levels + level] as u64;
         spot = next_spot(body, spot.place, spot.after);
-        let here = mix_from(
-            body.policy,
-            summaries,
-            spot.place * levels + level,
-            level,
-            spot.after,
-        );
+        later = bodies_still(body.policy, summaries, level, spot, later);
+        let here = mix_before(summaries, spot.place * levels + level, later);
         most = greater(most, spent + here);
         k += 1;
     }

@@ -169,8 +169,8 @@ pub fn plan(
     let n = found.n;
     let levels = found.levels;
     let cycle = found.cycle;
-    let actions = found.order;
-    repeat_tables::fill(image, n, levels, policy, &actions, order, summaries, worst);
+    let actions = &found.order;
+    repeat_tables::fill(image, n, levels, policy, actions, order, summaries, worst);
     let body = Body {
         n: n as u32,
         levels: levels as u32,
