@@ -1,15 +1,18 @@
 -- The lesser of two numbers and a difference: how large they can be, and where the first is the lesser. Assumes nothing.
 use Prim.Native.Nat.{ℕ, zero, suc, _+_, _-_, _≤_, _<_}
-use mathlib.Core.Path.{_≡_, _∙_}
-use mathlib.Core.Bool.{Bool, true, false, cond}
+use mathlib.Core.Path.{_≡_, refl, sym, ap, _∙_}
+use mathlib.Core.Bool.{Bool, true, false, cond, true≢false}
+use native.Mathlib.Decide.{decLt}
 use native.Mathlib.Omega.{arith}
+use borrow.Author.Tests.{lt-ltb}
 use lib.Dec.{ltb}
 use lib.IntN.{ℤ, pos, negsuc, subℕ, _-ℤ_}
-use lib.Signed.{leZ, mag}
+use lib.Signed.{ltZ, leZ, mag}
 use mir.Syntax.{w32}
 use mir.Val.{toZ, ofZ}
 use mir.Facts.{toZ-ofZ}
 use Rattle.rules.specs.Words.{minZ}
+use Rattle.rules.specs.Limits.{absent}
 use Rattle.rules.proofs.Limits.Signed.{AtMost, at-most-min, settled}
 
 -- ---- how large
@@ -47,3 +50,20 @@ lesser-either a b = settled _ _ (λ t c. (
 
 pub lesser-again : (a b : ℤ) → minZ a (minZ a b) ≡ minZ a b
 lesser-again a b = lesser-either a (minZ a b) ∙ lesser-left (minZ a b) a (λ t c m. at-most-min t c a b .0 m .0)
+
+-- ---- what is absent is the least
+
+pub least-absent : (z : ℤ) → mag z < 2147483648 → ltZ absent z ≡ false → z ≡ absent
+least-absent (pos n) h e = absurd (true≢false e)
+least-absent (negsuc n) h e = by (decLt n 2147483647)
+  where
+    by : Dec (n < 2147483647) → negsuc n ≡ absent
+    by (yes l) = absurd (true≢false (sym (lt-ltb n 2147483647 l) ∙ e))
+    by (no l) = ap negsuc (omega arith)
+
+absent-below : (z : ℤ) → mag z < 2147483648 → (t c : ℕ) → AtMost t c absent → AtMost t c z
+absent-below (pos n) h t c m = omega arith
+absent-below (negsuc n) h t c m = omega arith
+
+pub lesser-absent : (z : ℤ) → mag z < 2147483648 → minZ z absent ≡ absent
+lesser-absent z h = lesser-either z absent ∙ lesser-left absent z (absent-below z h)

@@ -1,11 +1,13 @@
 // A limit from the limits after it, and coast bounds from those after them.
 ghost use mathlib.Core.Path.{_≡_};
+ghost use mathlib.Core.Bool.{cond};
 ghost use Prim.Native.Nat.{ℕ, _+_, _-_, _*_, _≤_, _<_};
 ghost use lib.IntN.{pos, _-ℤ_};
 ghost use lib.ListN.{length, getD};
-ghost use lib.Signed.{mag};
+ghost use lib.Signed.{mag, ltZ};
 ghost use Rattle.rules.specs.Numbers.{most-levels, last-clock, longest-coast};
 ghost use Rattle.rules.specs.Words.{minZ};
+ghost use Rattle.rules.specs.Limits.{absent};
 ghost use Rattle.fields.specs.Fields.{splice};
 ghost use Rattle.plan_entry.specs.Rows.{latest-start, Held, limit-of, carried-of, after-last, SmallStart};
 ghost use Rattle.plan_entry.specs.Bounds.{bound-by, bounds-by, bound-in, signed-end, Spares};
@@ -86,16 +88,20 @@ pub fn after_last() -> [i32; rules::MOST_LEVELS]
 
 // ---- coast bounds
 
+// What is taken off the bound of the position after it: nothing where that is absent, so that it stays so. Chosen before the subtraction it is a mask,
+// and the result need not be chosen.
+fn spent_before(worst: u32, after: i32) -> u32
+    ensures { λ r. ⌜ r ≡ cond (ltZ absent after) worst 0 ⌝ }
+{
+    if rules::ABSENT < after { worst } else { 0 }
+}
+
 // A bound from that of the position after it at one action less, and absent where that is: no bound is below ABSENT.
 fn bound_of(limit: i32, worst: u32, after: i32) -> i32
     requires { ⌜ Spares worst after ⌝ }
     ensures { λ r. ⌜ r ≡ bound-by limit worst after ⌝ }
 {
-    if rules::ABSENT < after {
-        lesser(limit, minus(after, worst))
-    } else {
-        rules::ABSENT
-    }
+    lesser(limit, minus(after, spent_before(worst, after)))
 }
 
 // The sixteen of an entry from those of the position after it, which are one action less.
