@@ -150,7 +150,7 @@ extern "C" {
 #endif
 
 /* The version of this boundary, and that of the archive that is linked: a host compares them once. */
-#define NYOKAZERUBI_BOUNDARY 5u
+#define NYOKAZERUBI_BOUNDARY 6u
 uint32_t nyokazerubi_boundary(void);
 
 #define NYOKAZERUBI_MOST_ACTIONS 64
@@ -416,7 +416,7 @@ struct nyokazerubi_line nyokazerubi_rehearse(
 /* A body of n actions done so many times over in one cycle, where all deadlines are the cycle's. It is the unrolled profile of n times the repeats
  * actions, numbered repeat by repeat: action a of repeat j, from 0 on, has the number jn + a, its masks name actions of its own repeat, and its
  * times are those of a. Position i is the i-th of all, up to 103680, and what stands above of limits, coasts, late and overrun holds over these.
- * Planning answers it; the host keeps it, and hands it over to limit, bound and start. */
+ * Planning answers it; the host keeps it, and lends it to limit, bound and start. */
 struct nyokazerubi_body {
     uint32_t n;
     uint32_t levels;
@@ -447,7 +447,7 @@ struct nyokazerubi_limited {
 
 /* The limit at a position and level. 3, 19, 20, 17, 18. */
 struct nyokazerubi_limited nyokazerubi_body_limit(
-    struct nyokazerubi_body body,
+    const struct nyokazerubi_body *body,
     const uint32_t *summaries, size_t summaries_length,
     size_t position, size_t level);
 
@@ -455,7 +455,7 @@ struct nyokazerubi_limited nyokazerubi_body_limit(
  * worked out at each position of the coast; at the top level, where the coast is as long as there may be, also by the summaries at its first and its
  * last position alone, and the greater counts: on tables that planning wrote they are equal. 3, 19, 20, 17, 18. */
 struct nyokazerubi_limited nyokazerubi_body_bound(
-    struct nyokazerubi_body body,
+    const struct nyokazerubi_body *body,
     const uint32_t *summaries, size_t summaries_length,
     const uint32_t *worst_by_position, size_t worst_by_position_length,
     size_t position, size_t level, size_t length);
@@ -474,8 +474,9 @@ struct nyokazerubi_body_run {
     uint32_t decisions;
 };
 
-/* Starts a cycle in the record, whatever bytes it held. 3, 19, 20, which leave a record of zero actions. */
-struct nyokazerubi_refusal nyokazerubi_body_start(struct nyokazerubi_body_run *run, struct nyokazerubi_body body);
+/* Starts a cycle in the record, whatever bytes it held; the body is not the record's own, which is written. 3, 19, 20, which leave a record of zero
+ * actions. */
+struct nyokazerubi_refusal nyokazerubi_body_start(struct nyokazerubi_body_run *run, const struct nyokazerubi_body *body);
 
 /* The next action, by its number in the unrolled profile, and its level; from then on it runs. 11 (a field outside its range), 17, 11 (an action
  * runs), 10. */

@@ -326,20 +326,20 @@ static void blocks(struct camera *camera) {
     /* In the last block the limits are the camera's own, that much later. */
     for (size_t cell = 0; cell < table; cell++) {
         size_t position = POSITIONS - 9 + cell / 8, level = cell % 8;
-        struct nyokazerubi_limited limit = nyokazerubi_body_limit(body, summaries, sums, position, level);
+        struct nyokazerubi_limited limit = nyokazerubi_body_limit(&body, summaries, sums, position, level);
         hold(limit.refusal.number == 0 && limit.limit == (int64_t)camera->limits[cell] + 320000 * (BLOCKS - 1), "a limit");
-        struct nyokazerubi_limited bound = nyokazerubi_body_bound(body, summaries, sums, worst, table, position, level, 1);
+        struct nyokazerubi_limited bound = nyokazerubi_body_bound(&body, summaries, sums, worst, table, position, level, 1);
         hold(bound.refusal.number == 0 && bound.limit == limit.limit, "a coast of one");
-        bound = nyokazerubi_body_bound(body, summaries, sums, worst, table, position, level, 10);
+        bound = nyokazerubi_body_bound(&body, summaries, sums, worst, table, position, level, 10);
         hold(bound.refusal.number == 0 && bound.limit == NYOKAZERUBI_ABSENT_LONG, "a coast past the end");
     }
-    hold(nyokazerubi_body_limit(body, summaries, sums, POSITIONS, 0).refusal.number == NYOKAZERUBI_REFUSED_READING, "no such position");
-    hold(nyokazerubi_body_bound(body, summaries, sums, worst, table, 0, 0, 17).refusal.number == NYOKAZERUBI_REFUSED_READING, "a coast of 17");
+    hold(nyokazerubi_body_limit(&body, summaries, sums, POSITIONS, 0).refusal.number == NYOKAZERUBI_REFUSED_READING, "no such position");
+    hold(nyokazerubi_body_bound(&body, summaries, sums, worst, table, 0, 0, 17).refusal.number == NYOKAZERUBI_REFUSED_READING, "a coast of 17");
 
     struct nyokazerubi_body_run *run = lend(sizeof *run);
     uint32_t *durations = lend(POSITIONS * 8 * sizeof *durations), clock = 0;
     uint8_t *levels = lend(POSITIONS), *given = lend(POSITIONS), *marks = lend(POSITIONS);
-    hold(nyokazerubi_body_start(run, body).number == 0 && run->position == 0 && !run->running, "a start");
+    hold(nyokazerubi_body_start(run, &body).number == 0 && run->position == 0 && !run->running, "a start");
     for (size_t i = 0; i < POSITIONS; i++) {
         struct nyokazerubi_given now = nyokazerubi_body_ask(run, order, 9, summaries, sums, worst, table);
         hold(now.refusal.number == 0 && now.action == i / 9 * 9 + order[i % 9] && now.level < 8 && !now.late, "an action of a block");
@@ -364,7 +364,7 @@ static void blocks(struct camera *camera) {
     /* By the policy of 2005: planned, its last limit that of the tests apart, and a whole picture in time. */
     planned = nyokazerubi_plan_body(image, camera->bytes, BLOCKS, NYOKAZERUBI_POLICY_2005, order, 9, summaries, sums, worst, table);
     hold(planned.refusal.number == 0 && planned.body.policy == NYOKAZERUBI_POLICY_2005 && planned.body.repeats == BLOCKS, "a body of 2005");
-    struct nyokazerubi_limited last = nyokazerubi_body_limit(planned.body, summaries, sums, POSITIONS - 1, 7);
+    struct nyokazerubi_limited last = nyokazerubi_body_limit(&planned.body, summaries, sums, POSITIONS - 1, 7);
     hold(last.refusal.number == 0 && last.limit == (int64_t)body.cycle - worst[table - 1], "its last limit");
     framed = nyokazerubi_body_dry_frame(image, camera->bytes, BLOCKS, NYOKAZERUBI_POLICY_2005, durations, POSITIONS * 8, order, 9, given, POSITIONS,
                                         marks, POSITIONS);
@@ -373,9 +373,9 @@ static void blocks(struct camera *camera) {
 
     /* Refused starts, and a call on their record. */
     planned.body.policy = 2007;
-    hold(nyokazerubi_body_start(run, planned.body).number == NYOKAZERUBI_REFUSED_POLICY && run->body.n == 0, "no policy of 2007");
+    hold(nyokazerubi_body_start(run, &planned.body).number == NYOKAZERUBI_REFUSED_POLICY && run->body.n == 0, "no policy of 2007");
     body.repeats = 1621;
-    hold(nyokazerubi_body_start(run, body).number == NYOKAZERUBI_REFUSED_REPEATS && run->body.n == 0, "1621 blocks");
+    hold(nyokazerubi_body_start(run, &body).number == NYOKAZERUBI_REFUSED_REPEATS && run->body.n == 0, "1621 blocks");
     hold(nyokazerubi_body_report(run, 0, worst, table).number == NYOKAZERUBI_REFUSED_TURN, "a record of zero actions");
     free(image), free(order), free(summaries), free(worst), free(run), free(durations), free(levels), free(given), free(marks);
 }

@@ -137,7 +137,7 @@ static void agree(struct nyokazerubi_body body) {
     fast_body body_in_c = in_c(body);
     uint32_t clock = 0;
     levels = 0;
-    hold(nyokazerubi_body_start(&run, body).number == NYOKAZERUBI_ACCEPTED && fast_body_start(&other, &body_in_c) == 0, "a start");
+    hold(nyokazerubi_body_start(&run, &body).number == NYOKAZERUBI_ACCEPTED && fast_body_start(&other, &body_in_c) == 0, "a start");
     for (size_t i = 0; i < POSITIONS; i++) {
         struct nyokazerubi_given given = nyokazerubi_body_ask(&run, order, ACTIONS, summaries, SUMMARIES, worst_by_position, TABLE);
         fast_given same;
@@ -169,7 +169,7 @@ static double of_product(struct nyokazerubi_body body) {
     struct nyokazerubi_body_run run;
     uint32_t given_levels = 0;
     uint64_t began = now();
-    uint32_t refused = nyokazerubi_body_start(&run, body).number;
+    uint32_t refused = nyokazerubi_body_start(&run, &body).number;
     for (size_t i = 0; i < POSITIONS; i++) {
         struct nyokazerubi_given given = nyokazerubi_body_ask(&run, order, ACTIONS, summaries, SUMMARIES, worst_by_position, TABLE);
         given_levels += given.level;
@@ -220,7 +220,7 @@ static void agree_plain(struct nyokazerubi_body body, const struct plain *plan, 
     for (size_t at = 0; at < FRAMES * WIDE; at++) {
         size_t i = at % WIDE;
         if (i == 0) {
-            hold(nyokazerubi_body_start(&run, body).number == NYOKAZERUBI_ACCEPTED, "a start");
+            hold(nyokazerubi_body_start(&run, &body).number == NYOKAZERUBI_ACCEPTED, "a start");
             hold(nyokazerubi_start(&plain, WIDE, LEVELS).number == NYOKAZERUBI_ACCEPTED, "a plain start");
         }
         if (run.left == 0 && kept < TURNS) {
@@ -247,7 +247,7 @@ static double frames_of_body(struct nyokazerubi_body body) {
     uint32_t refused = 0;
     uint64_t began = now();
     for (size_t k = 0; k < FRAMES; k++) {
-        refused |= nyokazerubi_body_start(&run, body).number;
+        refused |= nyokazerubi_body_start(&run, &body).number;
         for (size_t i = 0; i < WIDE; i++) {
             refused |= ask_body(&run).refusal.number;
             refused |= nyokazerubi_body_report(&run, few_clocks[k][i], worst_by_position, TABLE).number;

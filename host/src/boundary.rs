@@ -4,7 +4,7 @@
 #![allow(dead_code, clippy::too_many_arguments)]
 
 /// The version of this boundary; [`nyokazerubi_boundary`] has that of the archive that is linked.
-pub const BOUNDARY: u32 = 5;
+pub const BOUNDARY: u32 = 6;
 
 pub const MOST_ACTIONS: usize = 64;
 pub const MOST_LEVELS: usize = 8;
@@ -395,14 +395,14 @@ extern "C" {
         worst_by_position_length: usize,
     ) -> BodyPlanned;
     pub fn nyokazerubi_body_limit(
-        body: Body,
+        body: *const Body,
         summaries: *const u32,
         summaries_length: usize,
         position: usize,
         level: usize,
     ) -> Limited;
     pub fn nyokazerubi_body_bound(
-        body: Body,
+        body: *const Body,
         summaries: *const u32,
         summaries_length: usize,
         worst_by_position: *const u32,
@@ -411,7 +411,7 @@ extern "C" {
         level: usize,
         length: usize,
     ) -> Limited;
-    pub fn nyokazerubi_body_start(run: *mut BodyRun, body: Body) -> Refusal;
+    pub fn nyokazerubi_body_start(run: *mut BodyRun, body: *const Body) -> Refusal;
     pub fn nyokazerubi_body_ask(
         run: *mut BodyRun,
         order: *const u8,

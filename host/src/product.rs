@@ -353,7 +353,7 @@ impl Calls for Product {
 
     fn body_limit(&self, body: Body, summaries: &[u32], position: usize, level: usize) -> Answer<i64> {
         let Limited { refusal, limit } =
-            unsafe { nyokazerubi_body_limit(body, summaries.as_ptr(), summaries.len(), position, level) };
+            unsafe { nyokazerubi_body_limit(&body, summaries.as_ptr(), summaries.len(), position, level) };
         answer(refusal, limit, 0)
     }
 
@@ -368,7 +368,7 @@ impl Calls for Product {
     ) -> Answer<i64> {
         let Limited { refusal, limit } = unsafe {
             nyokazerubi_body_bound(
-                body,
+                &body,
                 summaries.as_ptr(),
                 summaries.len(),
                 worst_by_position.as_ptr(),
@@ -382,7 +382,7 @@ impl Calls for Product {
     }
 
     fn body_start(&self, run: &mut BodyRun, body: Body) -> u8 {
-        unsafe { nyokazerubi_body_start(run, body).number as u8 }
+        unsafe { nyokazerubi_body_start(run, &body).number as u8 }
     }
 
     fn body_ask(&self, run: &mut BodyRun, tables: &BodyTables) -> Answer<calls::Given> {

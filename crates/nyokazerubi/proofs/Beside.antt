@@ -1,5 +1,5 @@
--- The parameters beside a record, numbers, shared slices and plain structs by value, as many as there are: what a signature says of them, their
--- laws, and the steps that a walk takes for all of them at once. Assumes nothing.
+-- The parameters beside a record, numbers, shared slices and shared references, as many as there are: what a signature says of them, their laws,
+-- and the steps that a walk takes for all of them at once. Assumes nothing.
 use Prim.Native.Nat.{ℕ, zero, suc}
 use mathlib.Core.Path.{_≡_, refl, sym, ap, subst}
 use mathlib.Core.List.{List, [], _∷_}
@@ -20,22 +20,20 @@ use denote.RattleType.{RattleType, Denots, Valss, flat, owns}
 use denote.Memory.{pointee}
 use denote.Laws.{Typed, typed-app, Is, Ises, Are, Spells, valss, Tells, Tellss, Copy}
 use denote.Plain.{UInt, uint-tells, uint-lawful, uint-copy}
-use denote.Ref.{ptr, now}
+use denote.Ref.{ptr, now, ptr-vals, shr-tells, shr-lawful, shr-copy}
 use denote.Slice.{sliceTy, sliceVal, shr-slice-tells, shr-slice-lawful, shr-slice-copy}
-use denote.Signature.{Slot, plain, shrSliceOf, typesAt}
+use denote.Signature.{Slot, plain, shrRefTo, shrSliceOf, typesAt}
 use denote.Steps.{nothing}
 use denote.Exit.{yes, Last}
 use denote.Triple.End.{Fins, all}
 use denote.Triple.Walked.{Stays, stay-none, AllGo, Goes, goes-none, fitsOf, hasOf}
-use Rattle.nyokazerubi.proofs.Plain as plain-struct
-use Rattle.nyokazerubi.proofs.Plain.{Kind, Still, row, mir-type, val, vals}
 
 -- ---- in a signature
 
 pub data Other (n : ℕ) : Type 2 where
   number : Width → Other n
   slice : (j : ℕ) → Within n j → RattleType → Other n
-  struct : (S : Kind) → Still S → Other n
+  reference : (j : ℕ) → Within n j → RattleType → Other n
 
 -- the function takes the record by value, or lent, at a lifetime that comes before those of the slices
 pub data Side : Type 0 where
@@ -57,7 +55,7 @@ module _ (s : Side) {n : ℕ} where
   abbrev slot : Other n → Slot (lifetimes s n)
   slot (number w) = plain (λ _. UInt w)
   slot (slice j ok R) = shrSliceOf (numbered s j ∷ []) (within s n j ok) (plain (λ _. R))
-  slot (struct S u) = plain (λ _. row S)
+  slot (reference j ok R) = shrRefTo (numbered s j ∷ []) (within s n j ok) (plain (λ _. R))
 
   abbrev pub slots : List (Other n) → List (Slot (lifetimes s n))
   slots [] = []
@@ -67,7 +65,7 @@ module _ (s : Side) {n : ℕ} where
   abbrev ty : Other n → Ty
   ty (number w) = tyInt w
   ty (slice j ok R) = sliceTy (tyRef (named (numbered s j)) imm (pointee (R .written)))
-  ty (struct S u) = mir-type S
+  ty (reference j ok R) = tyRef (named (numbered s j)) imm (pointee (R .written))
 
   abbrev pub tys : List (Other n) → List Ty
   tys [] = []
@@ -85,7 +83,7 @@ module _ (s : Side) {n : ℕ} where
     abbrev word : (o : Other n) → slot o .row κs .Denot → List Val
     word (number w) x = vint w x ∷ []
     word (slice j ok R) x = sliceVal (ptr x) (length (now x)) ∷ []
-    word (struct S u) x = vals S x
+    word (reference j ok R) x = ptr-vals x
 
     abbrev pub words : (os : List (Other n)) → Spells (rows os)
     words [] = tt
@@ -103,7 +101,7 @@ module _ (s : Side) {n : ℕ} where
     tell : (o : Other n) → Tells (slot o .row κs) (Is (slot o .row κs)) (word o)
     tell (number w) = uint-tells w
     tell (slice j ok R) = shr-slice-tells (named (numbered s j)) (lftAt (lifetimes s n) (numbered s j) (within s n j ok) κs) R
-    tell (struct S u) = plain-struct.tells S
+    tell (reference j ok R) = shr-tells (named (numbered s j)) (lftAt (lifetimes s n) (numbered s j) (within s n j ok) κs) R
 
     pub all-tell : (os : List (Other n)) → Tellss (rows os) (Ises (rows os)) (words os)
     all-tell [] = tt
@@ -112,7 +110,7 @@ module _ (s : Side) {n : ℕ} where
     abbrev still : (o : Other n) (x : slot o .row κs .Denot) → Last (slot o .row κs .exit yes) x
     still (number w) x = tt
     still (slice j ok R) x = tt
-    still (struct S u) x = u .last x
+    still (reference j ok R) x = tt
 
     abbrev pub as-passed : (os : List (Other n)) (a : Denots (rows os)) → Fins κs (slots os) (all yes (slots os)) a
     as-passed [] a = tt
@@ -131,7 +129,7 @@ module _ {M : Type 1} (𝓤 : URA M) (H : Heap 𝓤) (A : Atoms 𝓤) (W : Given
   go : (o : Other n) → Goes 𝓤 H A W (lifetimes s n) (slot s o) yes (stay-none (slot s o .row) yes)
   go (number w) = goes-none 𝓤 H A W (lifetimes s n) (λ _. UInt w) yes (λ κs x f. refl)
   go (slice j ok R) = goes-none 𝓤 H A W (lifetimes s n) (slot s (slice j ok R) .row) yes (λ κs x f. refl)
-  go (struct S u) = goes-none 𝓤 H A W (lifetimes s n) (λ _. row S) yes (λ κs x f. u .silent x f)
+  go (reference j ok R) = goes-none 𝓤 H A W (lifetimes s n) (slot s (reference j ok R) .row) yes (λ κs x f. refl)
 
   pub all-go : (os : List (Other n)) → AllGo 𝓤 H A W (lifetimes s n) (slots s os) (all yes (slots s os)) (stays s os)
   all-go [] = tt
@@ -143,7 +141,8 @@ module _ {M : Type 1} (𝓤 : URA M) (H : Heap 𝓤) (A : Atoms 𝓤) (W : Given
     typed (slice j ok R) x is =
         shr-slice-lawful 𝓤 H A W (named (numbered s j)) (lftAt (lifetimes s n) (numbered s j) (within s n j ok) κs) R .typed x
         (sliceVal (ptr x) (length (now x)) ∷ []) is
-    typed (struct S u) x is = (plain-struct.typed S 𝓤 H A W x (val S x) is, tt)
+    typed (reference j ok R) x is =
+        shr-lawful 𝓤 H A W (named (numbered s j)) (lftAt (lifetimes s n) (numbered s j) (within s n j ok) κs) R .typed x (ptr-vals x) is
 
     pub all-typed : (os : List (Other n)) (a : Denots (rows s κs os)) → Are (rows s κs os) (Ises (rows s κs os)) a (values s κs os a)
         → Typed (tys s os) (flat (rows s κs os) (values s κs os a))
@@ -154,7 +153,7 @@ module _ {M : Type 1} (𝓤 : URA M) (H : Heap 𝓤) (A : Atoms 𝓤) (W : Given
     copied : (o : Other n) → Copy 𝓤 H A (slot s o .row κs)
     copied (number w) = uint-copy 𝓤 H A W w
     copied (slice j ok R) = shr-slice-copy 𝓤 H A W (named (numbered s j)) (lftAt (lifetimes s n) (numbered s j) (within s n j ok) κs) R
-    copied (struct S u) = plain-struct.copy S 𝓤 H A W
+    copied (reference j ok R) = shr-copy 𝓤 H A W (named (numbered s j)) (lftAt (lifetimes s n) (numbered s j) (within s n j ok) κs) R
 
     -- each can be had twice, so the callee is passed a copy
     pub twice : (os : List (Other n)) (a : Denots (rows s κs os))

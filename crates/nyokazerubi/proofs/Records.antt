@@ -19,14 +19,14 @@ use Rattle.recording.proofs.Totals.Laws as totals-laws
 use Rattle.recording.proofs.Line as line′
 use Rattle.recording.proofs.Line.Laws as line-laws
 use Rattle.recording.proofs.Counted as counted′
-use Rattle.rules.proofs.Body as body′
-use Rattle.rules.proofs.Body.Laws as body-laws
 use Rattle.repeat_run.specs.declared.BodyStarted.{BodyStarted}
 use Rattle.repeat_run.specs.declared.BodyReported.{BodyReported}
 use Rattle.repeat_run.proofs.BodyRun as body-run′
 use Rattle.repeat_run.proofs.BodyRun.Laws as body-run-laws
 use Rattle.repeat_run.proofs.BodyStarted as body-started′
 use Rattle.repeat_run.proofs.BodyReported as body-reported′
+use Rattle.repeat_run.specs.declared.BodyBegins.{BodyBegins}
+use Rattle.repeat_run.proofs.BodyBegins as body-begins′
 use Rattle.nyokazerubi.specs.declared.bodies.Asked as bodies
 use Rattle.nyokazerubi.proofs.bodies.Asked as body-asked′
 use Rattle.repeat_run.specs.declared.BodyEnds.{BodyEnds}
@@ -63,12 +63,6 @@ line = record { type = line′.the-type; laws = line-laws.the-laws; plain = line
 abbrev pub counted : Pair totals line
 counted = record { name = counted′.the-type .name; D = Counted; next = λ r. r .totals; answer = λ r. r .line; one = counted′.the-type .to-one }
 
-abbrev pub body : Kind
-body = record { type = body′.the-type; laws = body-laws.the-laws; plain = body-laws.the-plain }
-
-abbrev pub body-still : Still body
-body-still = record { last = λ x. tt; silent = λ x f. refl }
-
 abbrev pub body-run : Kind
 body-run = record { type = body-run′.the-type; laws = body-run-laws.the-laws; plain = body-run-laws.the-plain }
 
@@ -91,6 +85,17 @@ body-reported = record {
   next = λ r. r .run;
   answer = λ r. r .refusal;
   one = body-reported′.the-type .to-one;
+}
+
+-- a start: a record of zero actions, and the one that begins
+abbrev pub body-begins : Result body-run refusal
+body-begins = record {
+  name = body-begins′.the-type .name;
+  D = BodyBegins;
+  next = λ r. r .run;
+  answer = λ r. r .refusal;
+  stores = again (λ r. r .begun) (λ r. r .begins);
+  one = body-begins′.the-type .to-one;
 }
 
 -- an asking: the record as it was, the one that a coast leaves, and the one that a decision leaves

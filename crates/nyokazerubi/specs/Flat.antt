@@ -1,12 +1,14 @@
--- The answers that are laid flat for a host, since an enum does not cross to C.
+-- A body as a host lends it, and the answers that are laid flat for a host, since an enum does not cross to C.
 use Prim.Native.Nat.{ℕ}
 use mathlib.Core.Path.{_≡_}
 use mathlib.Core.Bool.{true, false, cond}
 use mathlib.Core.List.{List}
 use lib.IntN.{pos}
 use lib.Ieee.{Float, fin}
+use lib.ListN.{getD}
 use Rattle.rules.specs.Run as rules
 use Rattle.rules.specs.Numbers.{most-actions}
+use Rattle.rules.specs.declared.Body.{Body}
 use Rattle.rules.specs.declared.Refusal.{Refusal}
 use Rattle.rules.specs.declared.Fault.{Fault}
 use Rattle.rules.specs.Speed.{ratio, spent}
@@ -20,7 +22,13 @@ use Rattle.nyokazerubi.specs.declared.readings.Read.{Read}
 
 -- The version of the boundary.
 abbrev pub boundary : ℕ
-boundary = 5
+boundary = 6
+
+-- ---- a body
+
+-- A body as it lies in a host's memory: its numbers, one after another.
+abbrev pub body-lent : List ℕ → Body
+body-lent s = record { n = getD s 0 0; levels = getD s 1 0; cycle = getD s 2 0; repeats = getD s 3 0; policy = getD s 4 0 }
 
 -- ---- starting and reporting
 

@@ -5,6 +5,7 @@ use crate::runs::Given;
 use repeat_frame::BodyFramed;
 use repeat_limits::Limited;
 use repeat_planner::BodyPlanned;
+use repeat_run::BodyBegins;
 use repeat_run::BodyRun;
 use rules::Body;
 use rules::Refusal;
@@ -13,9 +14,25 @@ ghost use mathlib.Core.List.{[]};
 ghost use Rattle.rules.specs.Repeat.{body-start, body-ask, body-report};
 ghost use Rattle.repeat_planner.specs.PlanningBody.{PlansBody};
 ghost use Rattle.repeat_limits.specs.Limits.{LimitAnswers, BoundAnswers};
-ghost use Rattle.repeat_run.specs.Calls.{steps-of};
+ghost use Rattle.repeat_run.specs.Calls.{steps-of, begins-of};
 ghost use Rattle.repeat_frame.specs.BodyFrame.{BodyFrames};
-ghost use Rattle.nyokazerubi.specs.Flat.{next-flat, Asks, asked-left};
+ghost use Rattle.nyokazerubi.specs.Flat.{body-lent, next-flat, Asks, asked-left};
+
+// ---- a body as a host lends it: its numbers, one after another
+
+pub const BODY_NUMBERS: usize = 5;
+
+fn body_lent(numbers: &[u32; BODY_NUMBERS]) -> Body
+    ensures { λ r. ⌜ r ≡ body-lent (now (numbers .entry)) ⌝ }
+{
+    Body {
+        n: numbers[0],
+        levels: numbers[1],
+        cycle: numbers[2],
+        repeats: numbers[3],
+        policy: numbers[4],
+    }
+}
 
 // ---- the plan, and what it comes to
 
@@ -37,32 +54,41 @@ pub extern "C" fn nyokazerubi_plan_body(
 
 #[no_mangle]
 pub extern "C" fn nyokazerubi_body_limit(
-    body: Body,
+    body: &[u32; BODY_NUMBERS],
     summaries: &[u32],
     position: usize,
     level: usize,
 ) -> Limited
-    ensures { λ r. ⌜ LimitAnswers body (now (summaries .entry)) position level r ⌝ }
+    ensures { λ r. ⌜ LimitAnswers (body-lent (now (body .entry))) (now (summaries .entry)) position level r ⌝ }
 {
-    repeat_limits::limit(body, summaries, position, level)
+    let lent = body_lent(body);
+    repeat_limits::limit(lent, summaries, position, level)
 }
 
 #[no_mangle]
 pub extern "C" fn nyokazerubi_body_bound(
-    body: Body,
+    body: &[u32; BODY_NUMBERS],
     summaries: &[u32],
     worst_by_position: &[u32],
     position: usize,
     level: usize,
     length: usize,
 ) -> Limited
-    ensures { λ r. ⌜ BoundAnswers body (record { order = []; summaries = now (summaries .entry); worst = now («worst_by_position» .entry) })
-        position level length r ⌝ }
+    ensures { λ r. ⌜ BoundAnswers (body-lent (now (body .entry)))
+        (record { order = []; summaries = now (summaries .entry); worst = now («worst_by_position» .entry) }) position level length r ⌝ }
 {
-    repeat_limits::bound(body, summaries, worst_by_position, position, level, length)
+    let lent = body_lent(body);
+    repeat_limits::bound(lent, summaries, worst_by_position, position, level, length)
 }
 
-// ---- asking by value, its answer laid flat
+// ---- starting and asking by value, the answer of an asking laid flat
+
+pub fn begins(body: &[u32; BODY_NUMBERS]) -> BodyBegins
+    ensures { λ r. ⌜ begins-of r ≡ body-start (body-lent (now (body .entry))) ⌝ }
+{
+    let lent = body_lent(body);
+    BodyRun::begins(lent)
+}
 
 // The next record is `made` where a decision was made, `gone` where it coasts, else `run`.
 pub struct Asked {
@@ -98,11 +124,14 @@ pub fn ask_flat(run: BodyRun, order: &[u8], summaries: &[u32], worst: &[u32]) ->
 // ---- over the lent record, which takes the next one whole; only a start sets its body
 
 #[no_mangle]
-pub extern "C" fn nyokazerubi_body_start(run: &mut BodyRun, body: Body) -> Refusal
-    ensures { λ r. ⌜ (now (run .exit) .body, next-flat (steps-of (now (run .exit))) r) ≡ body-start body ⌝ }
+pub extern "C" fn nyokazerubi_body_start(run: &mut BodyRun, body: &[u32; BODY_NUMBERS]) -> Refusal
+    ensures { λ r. ⌜ (now (run .exit) .body, next-flat (steps-of (now (run .exit))) r) ≡ body-start (body-lent (now (body .entry))) ⌝ }
 {
-    let out = BodyRun::start(body);
+    let out = begins(body);
     *run = out.run;
+    if out.begins {
+        *run = out.begun;
+    }
     out.refusal
 }
 

@@ -11,6 +11,7 @@ use Rattle.repeat_limits.specs.Limits.{CountsIn}
 use Rattle.repeat_decision.specs.Decision.{last-start}
 use Rattle.repeat_run.specs.declared.BodyRun.{BodyRun}
 use Rattle.repeat_run.specs.declared.BodyStarted.{BodyStarted}
+use Rattle.repeat_run.specs.declared.BodyBegins.{BodyBegins}
 use Rattle.repeat_run.specs.declared.BodyAsked.{BodyAsked}
 use Rattle.repeat_run.specs.declared.BodyAsks.{BodyAsks}
 use Rattle.repeat_run.specs.declared.BodyReported.{BodyReported}
@@ -69,6 +70,13 @@ asked-of a = with-run (a .answer) (steps-of (a .run))
 
 abbrev pub reported-of : BodyReported → rules.Next
 reported-of a = record { number = a .refusal .number; run = steps-of (a .run) }
+
+-- the record that a start leaves, and so what it answers
+abbrev pub begun-by : BodyBegins → BodyRun
+begun-by a = cond (a .begins) (a .begun) (a .run)
+
+abbrev pub begins-of : BodyBegins → Body × rules.Next
+begins-of a = (begun-by a .body, record { number = a .refusal .number; run = steps-of (begun-by a) })
 
 -- the record that an asking leaves, and so what it answers
 abbrev pub after-ask : BodyAsks → BodyRun

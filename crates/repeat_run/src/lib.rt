@@ -15,7 +15,7 @@ ghost use Rattle.rules.specs.Limits.{Plan};
 ghost use Rattle.rules.specs.Run.{begun, coast, decide, ended, refused};
 ghost use Rattle.rules.specs.Repeat.{positions, body-in-range, body-start, body-ask-refusal, body-ask, body-report-refusal, body-report};
 ghost use Rattle.repeat_decision.specs.Decision.{Chooses};
-ghost use Rattle.repeat_run.specs.Calls.{steps-of, passed-by, cut-short, started-of, asked-of, after-ask, asks-of, left-by, ends-of, reported-of};
+ghost use Rattle.repeat_run.specs.Calls.{steps-of, passed-by, cut-short, started-of, begins-of, asked-of, after-ask, asks-of, left-by, ends-of, reported-of};
 
 // The fields and their ranges are `body-in-range` of the rules. The position and the decisions are those of the unrolled system. The clock has 64
 // bits for a dry run, which goes on past the latest clock; between calls it is within it. No byte is left unused between the fields, so that a call
@@ -39,6 +39,16 @@ pub struct BodyRun {
 pub struct BodyStarted {
     pub run: BodyRun,
     pub refusal: Refusal,
+}
+
+// The same before it is known which record is the next: `begun` where it begins, else `run`, of zero actions. A host's record takes the one and then,
+// nearly always, the other, so that no field of it is chosen between the two.
+#[repr(C)]
+pub struct BodyBegins {
+    pub run: BodyRun,
+    pub refusal: Refusal,
+    pub begun: BodyRun,
+    pub begins: bool,
 }
 
 // What an asking answers, with the next record.
@@ -95,26 +105,37 @@ pub fn begun(body: Body) -> BodyRun
 
 impl BodyRun {
     // A refused start gives a record of zero actions, on which each later call answers 11.
+    pub fn begins(body: Body) -> BodyBegins
+        ensures { λ r. ⌜ begins-of r ≡ body-start body ⌝ }
+    {
+        let number = known_refusal(body);
+        let none = Body {
+            n: 0,
+            levels: 0,
+            cycle: 0,
+            repeats: 0,
+            policy: 0,
+        };
+        BodyBegins {
+            run: begun(none),
+            refusal: Refusal { number },
+            begun: begun(body),
+            begins: number == 0,
+        }
+    }
+
+    // The same by value.
     pub fn start(body: Body) -> BodyStarted
         ensures { λ r. ⌜ started-of r ≡ body-start body ⌝ }
     {
-        let number = known_refusal(body);
-        if number != 0 {
-            return BodyStarted {
-                run: begun(Body {
-                    n: 0,
-                    levels: 0,
-                    cycle: 0,
-                    repeats: 0,
-                    policy: 0,
-                }),
-                refusal: Refusal { number },
-            };
+        let out = BodyRun::begins(body);
+        let refusal = out.refusal;
+        if out.begins {
+            let run = out.begun;
+            return BodyStarted { run, refusal };
         }
-        BodyStarted {
-            run: begun(body),
-            refusal: Refusal { number: 0 },
-        }
+        let run = out.run;
+        BodyStarted { run, refusal }
     }
 
     // Whether each field is in its range. Too high a position is told first, so that what is asked and left after it does not wrap.

@@ -64,7 +64,8 @@ fn tell(run: BodyRun, line: &[u8], order: [u8; 3], summaries: &[u32], worst: [u3
 // ---- each call over the lent record and by value
 
 fn start(run: BodyRun, body: Body) -> BodyRun {
-    let lent = through::body_started(run, body);
+    let numbers = [body.n, body.levels, body.cycle, body.repeats, body.policy];
+    let lent = through::body_started(run, &numbers);
     let value = BodyRun::start(body);
     say(lent.refusal.number);
     tell_record(

@@ -6,7 +6,6 @@ use nyokazerubi::runs::Given;
 use repeat_run::BodyReported;
 use repeat_run::BodyRun;
 use repeat_run::BodyStarted;
-use rules::Body;
 use run::Reported;
 use run::Run;
 use run::Started;
@@ -16,7 +15,7 @@ ghost use Rattle.rules.specs.Run.{start, ask, report};
 ghost use Rattle.rules.specs.Repeat.{body-start, body-ask, body-report};
 ghost use Rattle.run.specs.Calls.{run-of};
 ghost use Rattle.repeat_run.specs.Calls.{steps-of};
-ghost use Rattle.nyokazerubi.specs.Flat.{next-flat, Asks};
+ghost use Rattle.nyokazerubi.specs.Flat.{body-lent, next-flat, Asks};
 
 pub fn started(run: Run, n: usize, levels: usize) -> Started
     ensures { λ r. ⌜ next-flat (run-of (r .run)) (r .refusal) ≡ start n levels ⌝ }
@@ -51,8 +50,8 @@ pub struct BodyAsked {
     pub given: Given,
 }
 
-pub fn body_started(run: BodyRun, body: Body) -> BodyStarted
-    ensures { λ r. ⌜ (r .run .body, next-flat (steps-of (r .run)) (r .refusal)) ≡ body-start body ⌝ }
+pub fn body_started(run: BodyRun, body: &[u32; bodies::BODY_NUMBERS]) -> BodyStarted
+    ensures { λ r. ⌜ (r .run .body, next-flat (steps-of (r .run)) (r .refusal)) ≡ body-start (body-lent (now (body .entry))) ⌝ }
 {
     let mut kept = run;
     let refusal = bodies::nyokazerubi_body_start(&mut kept, body);
