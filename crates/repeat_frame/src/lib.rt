@@ -45,7 +45,8 @@ fn refused(refusal: Fault) -> BodyFramed
     }
 }
 
-// The action at the position reached, decided or coasted.
+// The action at the position reached, decided or coasted. The slices of a decision are made ready where it is called, so that a coasted action has no
+// part in it.
 fn asked(run: BodyRun, summaries: &[u32], worst: &[u32]) -> BodyRun
     requires { ⌜ MayDecide (record { order = []; summaries = now summaries; worst = now worst }) (run .body) (steps-of run) ⌝ }
     ensures { λ r. ⌜ (r .body ≡ run .body) × (steps-of r ≡ given longest-coast
@@ -54,7 +55,14 @@ fn asked(run: BodyRun, summaries: &[u32], worst: &[u32]) -> BodyRun
     if run.left == 0 {
         let body = run.body;
         let spot = spot_of(body, run.position as usize);
-        let made = choose(body, summaries, worst, spot.place, spot.after, run.clock);
+        let made = choose(
+            body,
+            &summaries[..],
+            &worst[..],
+            spot.place,
+            spot.after,
+            run.clock,
+        );
         return run.decided(made);
     }
     run.coasted()

@@ -10,7 +10,7 @@ use native.Mathlib.Omega.{arith}
 use lib.Dec.{leb, ltb, eqb, lit<}
 use lib.ListN.{length}
 use borrow.Author.Tests.{eq-eqb, ne-eqb, ltb-false, leb-false}
-use Rattle.rules.specs.Numbers.{most-actions, most-levels, last-clock, most-repeats, longest-coast, policy-2008, policy-2005, summary-numbers, refused-room, refused-reading}
+use Rattle.rules.specs.Numbers.{most-actions, most-levels, last-clock, most-repeats, longest-coast, policy-2008, policy-2005, summary-numbers, refused-count, refused-room, refused-reading, refused-repeats}
 use Rattle.rules.specs.Refusals.{Test, _if_, first, UnknownPolicy}
 use Rattle.rules.specs.Repeat.{LentBody, positions, body-tests, known-tests, body-limit-refusal, body-bound-refusal}
 use Rattle.rules.specs.declared.Body.{Body}
@@ -36,6 +36,17 @@ repeats-out b = ltb (b .repeats) 1 || ltb most-repeats (b .repeats)
 
 abbrev policy-out : Body → Bool
 policy-out b = not (eqb (b .policy) policy-2008) && not (eqb (b .policy) policy-2005)
+
+-- neither is given exactly where none of the tests fails
+pub body-at-once : (b : Body) → not (count-out b || ltb (b .repeats) 1 || ltb most-repeats (b .repeats)) ≡ eqb (first (body-tests b)) 0
+unfolding first
+body-at-once b = by (count-out b) (ltb (b .repeats) 1) (ltb most-repeats (b .repeats))
+  where
+    by : (x y z : Bool) → not (x || y || z) ≡ eqb (cond x refused-count (cond (y || z) refused-repeats 0)) 0
+    by true y z = refl
+    by false true z = refl
+    by false false true = refl
+    by false false false = refl
 
 pub known-not-out : (b : Body) → (UnknownPolicy (b .policy) → ⊥) → policy-out b ≡ false
 known-not-out b h = by (ℕ-discrete (b .policy) policy-2008) (ℕ-discrete (b .policy) policy-2005)

@@ -6,6 +6,7 @@ ghost use mathlib.Core.Path.{_≡_};
 ghost use mathlib.Core.List.{[]};
 ghost use mathlib.Core.Logic.{_≢_};
 ghost use Prim.Native.Nat.{ℕ, suc, _+_, _-_, _*_, _≤_, _<_, max, min};
+ghost use lib.Dec.{eqb};
 ghost use lib.IntN.{pos, _+ℤ_, _-ℤ_};
 ghost use lib.ListN.{length, getD};
 ghost use lib.Signed.{mag};
@@ -246,7 +247,8 @@ fn bodies_still(policy: u32, summaries: &[u32], q: usize, spot: Spot, before: La
     before
 }
 
-// The greatest, over the positions of a coast, of the worst times before one and M from it on: what the cycle must have room for.
+// The greatest, over the positions of a coast, of the worst times before one and what the limit takes off the cycle there: what the cycle must have
+// room for.
 fn reach(
     body: Body,
     summaries: &[u32],
@@ -292,7 +294,7 @@ fn spent_before(summaries: &[u32], x: usize, y: usize, q: usize, passed: u32) ->
     if all < rest { 0 } else { all - rest }
 }
 
-// The worst times of a coast before its last position, and M from that on: what the cycle must have room for there.
+// The worst times of a coast before its last position, and what the limit takes off the cycle there: what the cycle must have room for.
 pub fn last_reach(
     body: Body,
     summaries: &[u32],
@@ -343,6 +345,24 @@ fn least_reach(
 
 // ---- refusals
 
+// Whether neither 3 nor 19 is given: the four counts are judged at once, since nearly always all are in range.
+fn body_in(body: Body) -> bool
+    ensures { λ r. ⌜ r ≡ eqb (first (body-tests body)) 0 ⌝ }
+{
+    let n = body.n;
+    let levels = body.levels;
+    let cycle = body.cycle;
+    let repeats = body.repeats;
+    !((n < 1)
+        | (rules::MOST_ACTIONS < n as usize)
+        | (levels < 1)
+        | (rules::MOST_LEVELS < levels as usize)
+        | (cycle < 1)
+        | (rules::LAST_CLOCK < cycle)
+        | (repeats < 1)
+        | (rules::MOST_REPEATS < repeats))
+}
+
 // 3 and 19.
 pub fn body_refusal(body: Body) -> u32
     ensures { λ r. ⌜ r ≡ first (body-tests body) ⌝ }
@@ -370,9 +390,8 @@ pub fn body_refusal(body: Body) -> u32
 pub fn known_refusal(body: Body) -> u32
     ensures { λ r. ⌜ r ≡ first (known-tests body) ⌝ }
 {
-    let number = body_refusal(body);
-    if number != 0 {
-        return number;
+    if !body_in(body) {
+        return body_refusal(body);
     }
     let policy = body.policy;
     if (policy != rules::POLICY_2008) & (policy != rules::POLICY_2005) {
