@@ -9,5 +9,6 @@
 /^define [^(]*(double|float)[^(]*@nyokazerubi_/ { print "a result with a float: " $0 > "/dev/stderr"; exit 1 }
 /^}/ { result = 0 }
 result && /^  ret ptr / { print "  ret void"; next }
-# A parameter of more than 16 bytes: a pointer to it, not the bytes among the parameters.
-{ gsub(/ byval\(\[[0-9]+ x i8\]\)/, ""); print }
+# A parameter of more than 16 bytes would be a pointer to it there, and its bytes among the parameters here: no call takes one.
+/^define .* byval\(/ { print "a parameter of more than 16 bytes: " $0 > "/dev/stderr"; exit 1 }
+{ print }

@@ -106,8 +106,9 @@ fn coast_row(limits: &[i32], worst: &[u32], after: &[i32], bounds: &mut [i32]) {
     for ((bounds, (&limit, &worst)), after) in cells.zip(after.chunks_exact(LONGEST_COAST)) {
         bounds[0] = limit;
         for (bound, &next) in bounds[1..].iter_mut().zip(&after[..LONGEST_COAST - 1]) {
-            let through = limit.min(next.wrapping_sub(worst as i32));
-            *bound = if next == ABSENT_BOUND { ABSENT_BOUND } else { through };
+            // An absent bound stays as it is: nothing is taken from it, and the limit is never below it.
+            let less = if next == ABSENT_BOUND { 0 } else { worst as i32 };
+            *bound = limit.min(next - less);
         }
     }
 }
