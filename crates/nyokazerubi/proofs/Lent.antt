@@ -1,7 +1,7 @@
 -- A function over a lent record: it copies the record out of the borrow, passes it by value with its other parameters to the function that does the
 -- work, stores the record of the result whole behind the reference, and another one of the result after it where a test of the result holds, if there
--- are such, and answers the rest of the result. Here is the one walk of such a function's MIR: it is for any plain record, any numbers and slices beside
--- it and any contract, and all that it knows of the callee is that it meets its own. Assumes nothing.
+-- are such, and answers the rest of the result. Here is the one walk of such a function's MIR: it is for any plain record, any numbers, slices
+-- and references beside it and any contract, and all that it knows of the callee is that it meets its own. Assumes nothing.
 use Prim.Native.Nat.{ℕ, zero, suc}
 use mathlib.Core.Path.{_≡_, refl, sym, ap, subst}
 use mathlib.Core.Bool.{Bool, cond}

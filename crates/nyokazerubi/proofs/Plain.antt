@@ -10,11 +10,10 @@ use mir.Val.{Val, WT, hasTy}
 use base.Fml.{Fml, ftrue}
 use prog.Wp.{Heap}
 use ghost.Atoms.{Atoms}
-use types.Kit.{Given, ‵, _$_, _∵_, !, qed, frame, done}
+use types.Kit.{Given}
 use denote.Exit.{yes, Last, left}
 use denote.RattleType.{RattleType, Denots}
-use denote.Laws.{Is, Tells, Makes, Copy, shows, valss}
-use denote.Steps.{owned, peeks}
+use denote.Laws.{Is, Tells, Makes, valss}
 use denote.Struct.Struct.{Struct, layout, Plains, AreAll, struct-lawful}
 use denote.Struct.Field.{Field, bool-field, rows}
 use denote.Struct.Declared as declared
@@ -58,13 +57,6 @@ module _ (S : Kind) where
 
     pub typed : Given 𝓤 H A → (x : Value) (v : Val) → Is row x (v ∷ []) → T (hasTy mir-type v) × WT v
     typed W x v is = LL.lawful (S .type) (S .laws) 𝓤 H A W .typed x (v ∷ []) is .0
-
-    -- a plain struct owns only facts, so it can be had twice
-    pub copy : Given 𝓤 H A → Copy 𝓤 H A row
-    copy W = record {
-      twice = λ x vs. qed W (‵ (row .own x vs) ∷ []) ∵ peeks ! row (Is row) (shows 𝓤 H A row) x vs
-          (λ is. owned ! row (Is row) makes x vs is $ frame ! $ done !);
-    }
 
   abbrev part-laws : LL.FLaws (field (S .type))
   part-laws = record {

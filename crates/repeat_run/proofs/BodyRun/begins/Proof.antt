@@ -5,7 +5,7 @@ use mathlib.Core.Bool.{Bool, true, false, cond}
 use lib.Dec.{eqb}
 use borrow.Author.Needs.{needs}
 use borrow.Author.Tests.{eqb-true}
-use Rattle.rules.specs.Run.{Next, begun}
+use Rattle.rules.specs.Run.{begun}
 use Rattle.rules.specs.Repeat.{positions, no-body, body-start}
 use Rattle.rules.specs.declared.Body.{Body}
 use Rattle.repeat_run.specs.Calls.{steps-of, begins-of}
