@@ -8,67 +8,77 @@ use native.Mathlib.Omega.{arith}
 use lib.ListN.{getD, replicate}
 use Rattle.rules.specs.Numbers.{most-actions, refused-loop, refused-unfit}
 use Rattle.rules.specs.Image.{Profile, due}
-use Rattle.rules.specs.Order.{Order, TheOrder, Fit}
+use Rattle.rules.specs.Order.{Order, Loop, TheOrder, Fit}
 use Rattle.rules.specs.Refusals.{LowestFault, _when_, _blames_below_, LoopFault, Looped, Unfit}
 use Rattle.rules.specs.declared.Fault.{Fault}
 use Rattle.rules.proofs.Tests.{not-both}
 use Rattle.rules.proofs.Faults.{some-fault}
 use Rattle.rules.proofs.Refusals.{Same, refuses-same, refuses-none, refuses-when, refuses-on, refuses-blamed}
 use Rattle.rules.proofs.Order.Alike.{Alike, alike-back, on-loop-alike, looped-alike, fit-alike, order-alike}
+use Rattle.sets.specs.Sets.{comes-before}
+use Rattle.sets.proofs.Lists.{none-yet}
 use Rattle.order.specs.Lent.{lent-profile}
 use Rattle.order_urgency.specs.Spread.{Urgent}
 use Rattle.order.specs.Arranged.{Lists, Placed}
 use Rattle.order.specs.Judged.{Ordered, TellsFit, order-checks, Verdict}
-use Rattle.order.proofs.Waiting.{none-yet}
 
-pub ordered-placed : (n cycle : ℕ) (masks deadlines : List ℕ) {u : List ℕ} {k : ℕ} {l : List ℕ}
-    → Urgent (lent-profile n cycle masks deadlines [] 0) u → Placed n masks u k l → Ordered (lent-profile n cycle masks deadlines [] 0) k l
-ordered-placed n cycle masks deadlines {u} urgent placed = record {
-  looped = placed .looped;
-  whole = λ all.
-      let w = placed .whole (omega (arith, placed .most)) in
-      (w .0, record { urgency = λ a. getD u a 0; urgent = urgent; by-urgency = w .1 }, w .2);
-  rest = placed .rest;
-}
-
--- The order does not depend on the worst times.
-pub ordered-timed : (n cycle : ℕ) (masks deadlines worst : List ℕ) (stride : ℕ) {k : ℕ} {l : List ℕ}
-    → Ordered (lent-profile n cycle masks deadlines [] 0) k l → Ordered (lent-profile n cycle masks deadlines worst stride) k l
-unfolding due
-ordered-timed n cycle masks deadlines worst stride x = record {
-  looped = x .looped;
-  whole = λ all.
-      let w = x .whole all in
-      (w .0, record { urgency = w .1 .urgency; urgent = w .1 .urgent; by-urgency = w .1 .by-urgency }, w .2);
-  rest = x .rest;
-}
-
-module _ {F : Profile} {k : ℕ} {l : List ℕ} (x : Ordered F k l) where
-  -- where not all were placed there is a loop, and r is the lowest action on one
-  pub verdict-loop : k < F .n → {r : ℕ} → F .n ≤ most-actions → LowestFault (LoopFault F) (F .n) r
-      → Verdict F (record { number = refused-loop; action = r }) (replicate most-actions 0)
-  verdict-loop m few low = record {
-    given = refuses-blamed refused-loop low few (some-fault low .1 (x .looped .0 m));
-    order = λ e. absurd (e refl);
+module _ (n cycle : ℕ) (masks deadlines : List ℕ) {looped : Bool} (exact : (looped ≡ true) ↔ Loop n (comes-before masks)) where
+  pub ordered-loop : looped ≡ true → Ordered (lent-profile n cycle masks deadlines [] 0) true (replicate most-actions 0)
+  ordered-loop e = record {
+    loop = (λ q. exact .0 e, λ h. refl);
+    whole = λ q. absurd (not-both refl q);
     rest = λ j h. none-yet most-actions j;
-    looped = λ e. refl;
+    none = λ q. refl;
   }
 
-  module _ (all : F .n ≤ k) where
+  pub ordered-placed : looped ≡ false → {u l : List ℕ} → Urgent (lent-profile n cycle masks deadlines [] 0) u → Placed n masks u l
+      → Ordered (lent-profile n cycle masks deadlines [] 0) false l
+  ordered-placed e {u} urgent placed = record {
+    loop = (λ q. absurd (not-both q refl), λ h. absurd (not-both (exact .1 h) e));
+    whole = λ q. let w = placed .whole in (w .0, record { urgency = λ a. getD u a 0; urgent = urgent; by-urgency = w .1 }, w .2);
+    rest = placed .rest;
+    none = λ q. absurd (not-both q refl);
+  }
+
+-- The order does not depend on the worst times.
+pub ordered-timed : (n cycle : ℕ) (masks deadlines worst : List ℕ) (stride : ℕ) {looped : Bool} {l : List ℕ}
+    → Ordered (lent-profile n cycle masks deadlines [] 0) looped l → Ordered (lent-profile n cycle masks deadlines worst stride) looped l
+unfolding due
+ordered-timed n cycle masks deadlines worst stride x = record {
+  loop = x .loop;
+  whole = λ e.
+      let w = x .whole e in
+      (w .0, record { urgency = w .1 .urgency; urgent = w .1 .urgent; by-urgency = w .1 .by-urgency }, w .2);
+  rest = x .rest;
+  none = x .none;
+}
+
+module _ {F : Profile} {looped : Bool} {l : List ℕ} (x : Ordered F looped l) where
+  -- where there is a loop, r is the lowest action on one
+  pub verdict-loop : looped ≡ true → {r : ℕ} → F .n ≤ most-actions → LowestFault (LoopFault F) (F .n) r
+      → Verdict F (record { number = refused-loop; action = r }) l
+  verdict-loop e few low = record {
+    given = refuses-blamed refused-loop low few (some-fault low .1 (x .loop .0 e));
+    order = λ q. absurd (q refl);
+    rest = x .rest;
+    looped = λ q. x .none e;
+  }
+
+  module _ (straight : looped ≡ false) where
     pub listed-below : (j : ℕ) → j < F .n → getD l j 0 < F .n
-    listed-below j m = let w = x .whole all in subst (λ (a : ℕ). a < F .n) (sym (w .2 j m)) (w .0 .at-lt j m)
+    listed-below j m = let w = x .whole straight in subst (λ (a : ℕ). a < F .n) (sym (w .2 j m)) (w .0 .at-lt j m)
 
     loopless : Looped F → ⊥
-    loopless h = omega (arith, x .looped .1 h)
+    loopless h = not-both (x .loop .1 h) straight
 
     module _ {r : Bool} (tells : TellsFit F l r) where
       exact : (r ≡ true) ↔ Fit F
-      exact = let w = x .whole all in tells (w .0) (w .1) (w .2)
+      exact = let w = x .whole straight in tells (w .0) (w .1) (w .2)
 
       pub verdict-fit : r ≡ true → Verdict F (record { number = 0; action = most-actions }) l
       verdict-fit e = record {
         given = refuses-on loopless (refuses-on (λ unfit. unfit (exact .0 e)) refuses-none);
-        order = λ h. x .whole all;
+        order = λ h. x .whole straight;
         rest = x .rest;
         looped = λ z. absurd (omega arith);
       }
@@ -76,7 +86,7 @@ module _ {F : Profile} {k : ℕ} {l : List ℕ} (x : Ordered F k l) where
       pub verdict-unfit : r ≡ false → Verdict F (record { number = refused-unfit; action = most-actions }) l
       verdict-unfit e = record {
         given = refuses-on loopless (refuses-when refused-unfit (λ fit. not-both (exact .1 fit) e));
-        order = λ h. x .whole all;
+        order = λ h. x .whole straight;
         rest = x .rest;
         looped = λ z. absurd (omega arith);
       }

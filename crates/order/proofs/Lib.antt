@@ -1,5 +1,4 @@
 pub mod Waiting
-pub mod Picking
 pub mod Placing
 pub mod Ending
 pub mod Judging

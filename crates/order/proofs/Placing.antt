@@ -7,22 +7,21 @@ use Prim.Native.Nat.{ℕ, suc, _≤_, _<_}
 use native.Mathlib.Nat.{le-refl}
 use native.Mathlib.Omega.{arith}
 use lib.ListN.{length, getD, set, length-set}
-use lib.Seq.{getD-set-same, getD-set-other}
 use Rattle.rules.specs.Image.{has}
 use Rattle.rules.specs.Order.{Order, Loop, ByUrgency}
 use Rattle.rules.proofs.Tests.{is-true?, failed, not-both}
 use Rattle.rules.proofs.Sums.{below-suc}
-use Rattle.rules.proofs.Order.Best.{by-urgency-permitted}
-use Rattle.rules.proofs.Order.Loops.{no-loop}
 use Rattle.rules.proofs.Order.Stepwise
-use Rattle.rules.proofs.Order.Stepwise.{Earlier, Free, free-same, next-same, stuck-in-loop}
+use Rattle.rules.proofs.Order.Stepwise.{Free, free-same, next-same, stuck-in-loop}
 use Rattle.sets.specs.Sets.{members, With, comes-before}
 use Rattle.sets.proofs.Bits.{has-empty}
 use Rattle.sets.proofs.Laws.{added, stays, either}
 use Rattle.sets.proofs.Members.{members-none, members-with}
-use Rattle.sets.proofs.Cases.{eq-or-ne}
+use Rattle.sets.proofs.Cases.{lt-or-le}
+use Rattle.order_line.proofs.Growing.{Among, past, among-set, here, among-more}
+use Rattle.order_urgency.specs.Spread.{NextIn}
 use Rattle.order.specs.Lent.{Masked}
-use Rattle.order.specs.Arranged.{ReadyIn, Parted, NextIn, Placed, ZeroFrom}
+use Rattle.order.specs.Arranged.{ReadyIn, Parted, Placed, ZeroFrom}
 use Rattle.order.proofs.Waiting.{parted-each}
 
 -- ---- what is ready, and what is free
@@ -34,28 +33,19 @@ module _ {n : ℕ} {masks : List ℕ} (x : Masked n masks) {done a : ℕ} where
   free-ready : a < n → Free n (comes-before masks) (λ b. has done b ≡ true) a → ReadyIn n masks done a
   free-ready l f = record { present = l; waits = failed (has done a) (f .0); free = λ b h. f .1 b (x .below a l b h) h }
 
--- ---- lists
-
--- the first j actions of a list, before and after a store at k
-earlier-set : (l : List ℕ) (k v j : ℕ) → j ≤ k → (a : ℕ) → Earlier (λ i. getD l i 0) j a ↔ Earlier (λ i. getD (set l k v) i 0) j a
-earlier-set l k v j m a = (λ e. (e .0, e .1, same (e .0) (e .1) ∙ e .2), λ e. (e .0, e .1, sym (same (e .0) (e .1)) ∙ e .2))
-  where
-    same : (i : ℕ) → i < j → getD (set l k v) i 0 ≡ getD l i 0
-    same i h = getD-set-other l k i v 0 (omega arith)
-
 -- ---- one action more
 
 module _ (n : ℕ) (masks u : List ℕ) where
   -- the action that goes next after the first j of the list
   abbrev NextAfter : List ℕ → ℕ → ℕ → Type 0
-  NextAfter l j a = Stepwise.Next n (comes-before masks) (λ b. getD u b 0) (Earlier (λ i. getD l i 0) j) n a
+  NextAfter l j a = Stepwise.Next n (comes-before masks) (λ b. getD u b 0) (Among l j) n a
 
   -- The first k of the list are placed, and done has them; the others are parted into free and waiting.
   pub record Placing (l w : List ℕ) (done free k : ℕ) : Type 0 where
     pub most : k ≤ n
     pub long : length l ≡ 64
     pub counts : members 64 done ≡ k
-    pub exact : (a : ℕ) → (has done a ≡ true) ↔ Earlier (λ i. getD l i 0) k a
+    pub exact : (a : ℕ) → (has done a ≡ true) ↔ Among l k a
     pub parted : Parted n masks done free 0 w
     pub nexts : (j : ℕ) → j < k → NextAfter l j (getD l j 0)
     pub rest : ZeroFrom k l
@@ -92,68 +82,56 @@ module _ (n : ℕ) (masks u : List ℕ) where
           → Placing (set l k a) w′ done′ free′ k′
       placing-more m {free′} {k′} {w′} parted e = subst (Placing (set l k a) w′ done′ free′) (sym (e ∙ counted)) more
         where
-          here : getD (set l k a) k 0 ≡ a
-          here = getD-set-same l k a 0 (omega (arith, g .long, x .few))
-
-          past : (j : ℕ) → (j ≡ k → ⊥) → getD (set l k a) j 0 ≡ getD l j 0
-          past j ne = getD-set-other l k j a 0 ne
+          long : k < length l
+          long = omega (arith, g .long, x .few)
 
           moved : (j b : ℕ) → j ≤ k → NextAfter l j b → NextAfter (set l k a) j b
-          moved j b h = next-same n (comes-before masks) (λ c. getD u c 0) (earlier-set l k a j h)
+          moved j b h = next-same n (comes-before masks) (λ c. getD u c 0) (among-set l k a j h)
 
-          to : (b : ℕ) → (has done b ≡ true) ⊎ (a ≡ b) → Earlier (λ i. getD (set l k a) i 0) (suc k) b
-          to b (inl h) = let s = earlier-set l k a k (le-refl k) b .0 (g .exact b .0 h) in (s .0, omega (arith, s .1), s .2)
-          to b (inr q) = (k, le-refl _, here ∙ q)
-
-          from : (b : ℕ) (s : Earlier (λ i. getD (set l k a) i 0) (suc k) b) → (s .0 ≡ k) ⊎ (s .0 ≡ k → ⊥) → has done′ b ≡ true
-          from b s (inl q) = subst (λ (c : ℕ). has done′ c ≡ true) (sym here ∙ ap (λ (i : ℕ). getD (set l k a) i 0) (sym q) ∙ s .2) (added in′)
-          from b s (inr q) = stays in′ b (g .exact b .1 (s .0, omega (arith, s .1), sym (past (s .0) q) ∙ s .2))
+          with-a : (b : ℕ) → (has done′ b ≡ true) ↔ ((has done b ≡ true) ⊎ (a ≡ b))
+          with-a b = (
+            either in′ b,
+            elim [ inl h ↦ stays in′ b h | inr e ↦ subst (λ (c : ℕ). has done′ c ≡ true) e (added in′) ],
+          )
 
           more : Placing (set l k a) w′ done′ free′ (suc k)
           more = record {
             most = m;
             long = length-set l k a ∙ g .long;
             counts = counted;
-            exact = λ b. (λ h. to b (either in′ b h), λ s. from b s (eq-or-ne (s .0) k));
+            exact = among-more l k a long (g .exact) with-a;
             parted = parted;
             nexts = below-suc k (λ (j : ℕ). NextAfter (set l k a) j (getD (set l k a) j 0))
-                (λ j h. rw (past j (omega arith)) (moved j _ (omega arith) (g .nexts j h)))
-                (rw here (moved k a (le-refl k) goes));
-            rest = λ j h. past j (omega arith) ∙ g .rest j (omega arith);
+                (λ j h. rw (past l k a j (omega arith)) (moved j _ (omega arith) (g .nexts j h)))
+                (rw (here l k a long) (moved k a (le-refl k) goes));
+            rest = λ j h. past l k a j (omega arith) ∙ g .rest j (omega arith);
           }
 
-    -- ---- nothing is ready
+    -- ---- without a loop one is ready
 
-    pub placing-stuck : free ≡ 0 → k < n → Placed n masks u k l
-    placing-stuck e m = record {
-      most = omega arith;
-      looped = (λ h. loop, λ h. m);
-      whole = λ q. absurd (omega arith);
-      rest = λ j h. g .rest j (omega arith);
-    }
+    pub some-free : (Loop n (comes-before masks) → ⊥) → k < n → 0 < free
+    some-free loopless m = elim (lt-or-le 0 free) [ inl l ↦ l | inr l ↦ absurd (loopless (loop (omega arith))) ]
       where
-        none : (a : ℕ) → a < n → Free n (comes-before masks) (Earlier (λ i. getD l i 0) k) a → ⊥
-        none a h f = not-both
-            (parted-each (g .parted) a (free-ready x h (free-same n (comes-before masks) (λ b. (g .exact b .1, g .exact b .0)) a f)))
-            (ap (λ (s : ℕ). has s a) e ∙ has-empty a)
-
-        loop : Loop n (comes-before masks)
-        loop = stuck-in-loop n (comes-before masks) (λ b a. is-true? (has (getD masks a 0) b)) (λ i. getD l i 0) k m none
+        loop : free ≡ 0 → Loop n (comes-before masks)
+        loop e = stuck-in-loop n (comes-before masks) (λ b a. is-true? (has (getD masks a 0) b)) (λ i. getD l i 0) k m none
+          where
+            none : (a : ℕ) → a < n → Free n (comes-before masks) (Among l k) a → ⊥
+            none a h f = not-both
+                (parted-each (g .parted) a (free-ready x h (free-same n (comes-before masks) (λ b. (g .exact b .1, g .exact b .0)) a f)))
+                (ap (λ (s : ℕ). has s a) e ∙ has-empty a)
 
   -- ---- all are placed
 
-  pub placing-whole : {l w : List ℕ} {done free k : ℕ} → Placing l w done free k → n ≤ k → Placed n masks u k l
+  pub placing-whole : {l w : List ℕ} {done free k : ℕ} → Placing l w done free k → n ≤ k → Placed n masks u l
   placing-whole {l} {k = k} g m = record {
-    most = g .most;
-    looped = (λ h. absurd (omega arith), λ h. absurd (no-loop o (by-urgency-permitted o by) h));
-    whole = λ q. (o, by, λ j h. sym (Stepwise.order-at n (comes-before masks) (λ b. getD u b 0) at nexts j));
+    whole = (o, by, λ j h. sym (Stepwise.order-at n (comes-before masks) (λ b. getD u b 0) at nexts j));
     rest = λ j h. g .rest j (omega (arith, g .most));
   }
     where
       at : ℕ → ℕ
       at i = getD l i 0
 
-      nexts : (j : ℕ) → j < n → Stepwise.Next n (comes-before masks) (λ b. getD u b 0) (Earlier at j) n (at j)
+      nexts : (j : ℕ) → j < n → Stepwise.Next n (comes-before masks) (λ b. getD u b 0) (Among l j) n (at j)
       nexts j h = g .nexts j (omega arith)
 
       o : Order n

@@ -11,9 +11,10 @@ use lib.Seq.{getD-set-same, getD-set-other}
 use borrow.Author.Tests.{ltb-true, lt-ltb, not-true, not-false}
 use Rattle.rules.specs.Image.{has}
 use Rattle.rules.proofs.Tests.{true-or-false, not-both, and-true}
-use Rattle.sets.specs.Sets.{Subset, AllBelow, Lowest, Highest, With, Without}
+use Rattle.sets.specs.Sets.{Subset, AllBelow, Lowest, With, Without}
 use Rattle.sets.proofs.Bits.{has-empty}
 use Rattle.sets.proofs.Laws.{has-minus, added, stays, others, either, was, kept, apart, or-gone}
+use Rattle.sets.proofs.Lists.{none-yet}
 use Rattle.sets.proofs.Cases.{lt-or-le, eq-or-ne}
 use Rattle.order.specs.Arranged.{ReadyIn, WaitsWith, Parted}
 
@@ -29,16 +30,11 @@ module _ {mask done : ℕ} (m : mask < 2 ^ 64) (d : done < 2 ^ 64) where
           let none : has (bitAnd mask ((2 ^ 64 - 1) - done)) j ≡ false = ap (λ (s : ℕ). has s j) e ∙ has-empty j in
           not-false (has done j) (sym (ap (λ (x : Bool). x && not (has done j)) p) ∙ sym (has-minus mask done j m d) ∙ none)
 
-  -- the highest of them
-  pub one-left : {b : ℕ} → Highest (bitAnd mask ((2 ^ 64 - 1) - done)) b → (has mask b ≡ true) × (has done b ≡ false)
-  one-left {b} h = let both = and-true _ _ .0 (sym (has-minus mask done b m d) ∙ h .member) in (both .0, not-true (has done b) (both .1))
+  -- one of them
+  pub one-left : (b : ℕ) → has (bitAnd mask ((2 ^ 64 - 1) - done)) b ≡ true → (has mask b ≡ true) × (has done b ≡ false)
+  one-left b h = let both = and-true _ _ .0 (sym (has-minus mask done b m d) ∙ h) in (both .0, not-true (has done b) (both .1))
 
 -- ---- at first all are to be looked at
-
-pub none-yet : (k b : ℕ) → getD {A = ℕ} (replicate k 0) b 0 ≡ 0
-none-yet zero b = refl
-none-yet (suc k) zero = refl
-none-yet (suc k) (suc b) = none-yet k b
 
 pub parted-start : (n : ℕ) (masks : List ℕ) {all : ℕ} → AllBelow n all → Parted n masks 0 0 all (replicate 64 0)
 parted-start n masks {all} every = record {

@@ -2,13 +2,14 @@
 use Prim.Native.Nat.{ℕ, _≤_, _<_}
 use mathlib.Core.Path.{_≡_}
 use mathlib.Core.Bool.{true, false}
-use mathlib.Core.Logic.{_⊎_, _↔_}
+use mathlib.Core.Logic.{_⊎_}
 use mathlib.Core.List.{List}
 use lib.ListN.{length, getD}
 use Rattle.rules.specs.Numbers.{most-actions}
 use Rattle.rules.specs.Image.{has}
-use Rattle.rules.specs.Order.{Order, Loop, ByUrgency}
+use Rattle.rules.specs.Order.{Order, ByUrgency}
 use Rattle.sets.specs.Sets.{Subset, comes-before}
+pub use Rattle.order_line.specs.Line.{ZeroFrom, Lists}
 
 -- Action a is ready: it is not done yet, and all its predecessors are.
 pub record ReadyIn (n : ℕ) (masks : List ℕ) (done a : ℕ) : Type 0 where
@@ -33,23 +34,7 @@ pub record Parted (n : ℕ) (masks : List ℕ) (done free t : ℕ) (w : List ℕ
   pub each : (a : ℕ) → a < n → has done a ≡ false → has t a ≡ false
       → (has free a ≡ true) ⊎ ((b : ℕ) × (has done b ≡ false) × (has (getD w b 0) a ≡ true))
 
--- Of the members of s action a is next: the one of least urgency, ties to the lowest number.
-pub record NextIn (u : List ℕ) (s a : ℕ) : Type 0 where
-  pub member : has s a ≡ true
-  pub least : (b : ℕ) → has s b ≡ true → getD u a 0 ≤ getD u b 0
-  pub lowest : (b : ℕ) → has s b ≡ true → getD u a 0 ≡ getD u b 0 → a ≤ b
-
--- the list has the actions in the order o
-abbrev pub Lists : {n : ℕ} → List ℕ → Order n → Type 0
-Lists {n} l o = (k : ℕ) → k < n → getD l k 0 ≡ o .at k
-
--- it has 0 after n of them
-abbrev pub ZeroFrom : ℕ → List ℕ → Type 0
-ZeroFrom n l = (k : ℕ) → n ≤ k → getD l k 0 ≡ 0
-
--- k actions were placed, fewer than n exactly when the masks contain a loop; else the list has all of them in order, by the urgencies u.
-pub record Placed (n : ℕ) (masks u : List ℕ) (k : ℕ) (l : List ℕ) : Type 0 where
-  pub most : k ≤ n
-  pub looped : (k < n) ↔ Loop n (comes-before masks)
-  pub whole : k ≡ n → (o : Order n) × ByUrgency n (comes-before masks) (λ a. getD u a 0) o × Lists l o
+-- The list has the actions in order by the urgencies u, and then 0.
+pub record Placed (n : ℕ) (masks u l : List ℕ) : Type 0 where
+  pub whole : (o : Order n) × ByUrgency n (comes-before masks) (λ a. getD u a 0) o × Lists l o
   pub rest : ZeroFrom n l

@@ -1,7 +1,7 @@
 -- The order of a profile, and refusals 8 and 9.
 use Prim.Native.Nat.{ℕ, _≤_, _<_}
 use mathlib.Core.Path.{_≡_}
-use mathlib.Core.Bool.{Bool, true}
+use mathlib.Core.Bool.{Bool, true, false}
 use mathlib.Core.Logic.{_↔_, _≢_}
 use mathlib.Core.List.{List, [], _∷_}
 use lib.ListN.{replicate}
@@ -13,16 +13,21 @@ use Rattle.rules.specs.declared.Fault.{Fault}
 use Rattle.sets.specs.Sets.{Below}
 use Rattle.order.specs.Arranged.{Lists, ZeroFrom}
 
+-- all deadlines are one
+abbrev pub OneDeadline : Profile → Type 0
+OneDeadline F = (a b : ℕ) → a < F .n → b < F .n → due F a ≡ due F b
+
 -- All deadlines are one, and each mask names lower numbers alone.
 pub record ByNumber (F : Profile) : Type 0 where
-  pub one : (a b : ℕ) → a < F .n → b < F .n → due F a ≡ due F b
+  pub one : OneDeadline F
   pub lower : (a : ℕ) → a < F .n → Below (F .mask a) a
 
--- The list has the actions in the order of F and then 0, unless the masks contain a loop and k falls short of n.
-pub record Ordered (F : Profile) (k : ℕ) (l : List ℕ) : Type 0 where
-  pub looped : (k < F .n) ↔ Looped F
-  pub whole : F .n ≤ k → (o : Order (F .n)) × TheOrder F o × Lists l o
+-- The list has the actions in the order of F and then 0, unless the masks contain a loop; looped tells, and then the list has 0 alone.
+pub record Ordered (F : Profile) (looped : Bool) (l : List ℕ) : Type 0 where
+  pub loop : (looped ≡ true) ↔ Looped F
+  pub whole : looped ≡ false → (o : Order (F .n)) × TheOrder F o × Lists l o
   pub rest : ZeroFrom (F .n) l
+  pub none : looped ≡ true → l ≡ replicate most-actions 0
 
 -- r tells whether F is fit, where the list has the actions in the order of F.
 abbrev pub TellsFit : Profile → List ℕ → Bool → Type 0

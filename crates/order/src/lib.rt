@@ -1,8 +1,11 @@
 // The order of actions on lent slices: the masks and deadlines by action, the level 0 worst time of action a at a * stride.
 // A deadline of 0 stands for the cycle.
 
+use order_line::lower_alone;
+use order_line::numbers;
 use order_loops::first_looped;
 use order_urgency::due;
+use order_urgency::next;
 use order_urgency::urgencies;
 use rules::Fault;
 use sets::above_lowest;
@@ -20,15 +23,29 @@ ghost use mathlib.Core.List.{List, []};
 ghost use Prim.Native.Nat.{ℕ, _≤_, _<_};
 ghost use lib.ListN.{length, getD};
 ghost use Rattle.rules.specs.Numbers.{most-actions};
-ghost use Rattle.sets.specs.Sets.{Below};
+ghost use Rattle.rules.specs.Image.{has};
+ghost use Rattle.rules.specs.Order.{Loop};
+ghost use Rattle.sets.specs.Sets.{Below, comes-before};
 ghost use Rattle.order.specs.Lent.{lent-profile, Masked, Timed};
-ghost use Rattle.order.specs.Arranged.{Parted, NextIn, Placed, ZeroFrom};
-ghost use Rattle.order.specs.Judged.{ByNumber, Ordered, TellsFit, Verdict};
+ghost use Rattle.order.specs.Arranged.{Parted, Placed};
+ghost use Rattle.order.specs.Judged.{OneDeadline, ByNumber, Ordered, TellsFit, Verdict};
 
 // ---- order
 
+// Of the predecessors that are not done the one to wait with: at first the highest, as the higher numbers tend to be done later. Where
+// others are done after it the numbers may run against the order, so that it is then the lowest.
+fn awaited(left: u64, first: bool) -> usize
+    requires { ⌜ 0 < left ⌝ }
+    ensures { λ r. ⌜ (r < most-actions) × (has left r ≡ true) ⌝ }
+{
+    if first {
+        return highest(left);
+    }
+    lowest(left)
+}
+
 // The ready actions: `free`, and those of `from` that are ready. Each other one of `from` waits with one of its predecessors that are
-// not done, the highest, as the higher numbers tend to be done later. It is looked at again when that one is done.
+// not done, and is looked at again when that one is done.
 fn release(masks: &[u64], from: u64, done: u64, free: u64, waiting: &mut [u64; 64]) -> u64
     requires { ⌜ Below from (length (now masks)) ⌝ }
     ensures { λ r. ⌜ ((n : ℕ) → Masked n (now (masks .entry)) → Parted n (now (masks .entry)) done free from (now (waiting .entry))
@@ -42,7 +59,7 @@ fn release(masks: &[u64], from: u64, done: u64, free: u64, waiting: &mut [u64; 6
         if subset(mask, done) {
             r = with(r, a);
         } else {
-            let b = highest(mask & !done);
+            let b = awaited(mask & !done, done == 0);
             waiting[b] = with(waiting[b], a);
         }
         t = above_lowest(t);
@@ -50,33 +67,10 @@ fn release(masks: &[u64], from: u64, done: u64, free: u64, waiting: &mut [u64; 6
     r
 }
 
-// The ready action of least urgency, the lowest of several.
-fn next(urgency: &[u32; 64], ready: u64) -> usize
-    requires { ⌜ 0 < ready ⌝ }
-    ensures { λ r. ⌜ NextIn (now (urgency .entry)) ready r ⌝ }
-{
-    let mut best = lowest(ready);
-    let mut t = above_lowest(ready);
-    while t != 0 {
-        let a = lowest(t);
-        if urgency[a] < urgency[best] {
-            best = a;
-        }
-        t = above_lowest(t);
-    }
-    best
-}
-
-// How many actions were placed, and their order where all were, then 0.
-pub struct Arranged {
-    pub placed: usize,
-    pub order: [u8; 64],
-}
-
-// The actions in order by urgency, as far as the masks allow.
-pub fn arrange(masks: &[u64], urgency: &[u32; 64], n: usize) -> Arranged
-    requires { ⌜ Masked n (now masks) ⌝ }
-    ensures { λ r. ⌜ Placed n (now (masks .entry)) (now (urgency .entry)) (r .placed) (r .order) ⌝ }
+// The actions in order by urgency, and then 0. There is no loop, so that one is ready as long as one is left.
+fn arrange(masks: &[u64], urgency: &[u32; 64], n: usize) -> [u8; 64]
+    requires { ⌜ Masked n (now masks) × (Loop n (comes-before (now masks)) → ⊥) ⌝ }
+    ensures { λ r. ⌜ Placed n (now (masks .entry)) (now (urgency .entry)) r ⌝ }
 {
     let mut order = [0u8; 64];
     let mut waiting = [0u64; 64];
@@ -84,65 +78,77 @@ pub fn arrange(masks: &[u64], urgency: &[u32; 64], n: usize) -> Arranged
     let mut free = release(masks, all_below(n), 0, 0, &mut waiting);
     let mut k: usize = 0;
     while k < n {
-        if free == 0 {
-            return Arranged { placed: k, order };
-        }
         let a = next(urgency, free);
         order[k] = a as u8;
         done = with(done, a);
         free = release(masks, waiting[a], done, without(free, a), &mut waiting);
         k = count(done) as usize;
     }
-    Arranged { placed: k, order }
+    order
 }
 
 // ---- order of the numbers
+
+// Whether all deadlines are one.
+fn one_deadline(deadlines: &[u32], cycle: u32, n: usize) -> bool
+    requires { ⌜ (n ≤ most-actions) × (n ≤ length (now deadlines)) ⌝ }
+    ensures { λ r. ⌜ (r ≡ true) ↔ OneDeadline (lent-profile n cycle [] (now (deadlines .entry)) [] 0) ⌝ }
+{
+    if n == 0 {
+        return true;
+    }
+    let first = due(deadlines[0], cycle);
+    let mut other: u32 = 0;
+    let mut a: usize = 0;
+    while a < n {
+        other = other | (due(deadlines[a], cycle) ^ first);
+        a += 1;
+    }
+    other == 0
+}
 
 // Whether all deadlines are one and each mask names lower numbers alone. Then the order is that of the numbers.
 fn by_number(masks: &[u64], deadlines: &[u32], cycle: u32, n: usize) -> bool
     requires { ⌜ (n ≤ most-actions) × (n ≤ length (now masks)) × (n ≤ length (now deadlines)) ⌝ }
     ensures { λ r. ⌜ (r ≡ true) ↔ ByNumber (lent-profile n cycle (now (masks .entry)) (now (deadlines .entry)) [] 0) ⌝ }
 {
-    if n == 0 {
-        return true;
+    if lower_alone(masks, n) {
+        return one_deadline(deadlines, cycle, n);
     }
-    let first = due(deadlines[0], cycle);
-    let mut odd: u64 = 0;
-    let mut a: usize = 0;
-    while a < n {
-        let other = due(deadlines[a], cycle) ^ first;
-        odd = odd | other as u64 | (masks[a] >> a);
-        a += 1;
-    }
-    odd == 0
+    false
 }
 
-// The numbers below n in order, and then 0.
-fn numbers(n: usize) -> [u8; 64]
-    requires { ⌜ n ≤ most-actions ⌝ }
-    ensures { λ r. ⌜ ((k : ℕ) → k < n → getD r k 0 ≡ k) ⌝ }
-    ensures { λ r. ⌜ ZeroFrom n r ⌝ }
-{
-    let mut order = [0u8; 64];
-    let mut k: usize = 0;
-    while k < n {
-        order[k] = k as u8;
-        k += 1;
-    }
-    order
+// The actions in order and then 0, and 0 alone where the masks contain a loop.
+pub struct Arranged {
+    pub looped: bool,
+    pub order: [u8; 64],
 }
 
-// The actions in order, as far as the masks allow.
+// Whether there is a loop is told by the pass that finds the urgencies, and looked for nowhere else.
 fn ordered(masks: &[u64], deadlines: &[u32], cycle: u32, n: usize) -> Arranged
     requires { ⌜ Masked n (now masks) × (n ≤ length (now deadlines)) ⌝ }
-    ensures { λ r. ⌜ Ordered (lent-profile n cycle (now (masks .entry)) (now (deadlines .entry)) [] 0) (r .placed) (r .order) ⌝ }
+    ensures { λ r. ⌜ Ordered (lent-profile n cycle (now (masks .entry)) (now (deadlines .entry)) [] 0) (r .looped) (r .order) ⌝ }
 {
     if by_number(masks, deadlines, cycle, n) {
         let order = numbers(n);
-        return Arranged { placed: n, order };
+        return Arranged {
+            looped: false,
+            order,
+        };
     }
-    let urgency = urgencies(masks, deadlines, cycle, n);
-    arrange(masks, &urgency, n)
+    let pass = urgencies(masks, deadlines, cycle, n);
+    if pass.looped {
+        return Arranged {
+            looped: true,
+            order: [0u8; 64],
+        };
+    }
+    let urgency = pass.urgency;
+    let order = arrange(masks, &urgency, n);
+    Arranged {
+        looped: false,
+        order,
+    }
 }
 
 // ---- refusals 8 and 9
@@ -194,16 +200,13 @@ pub fn judge(
 {
     let arranged = ordered(masks, deadlines, cycle, n);
     let order = arranged.order;
-    if arranged.placed < n {
+    if arranged.looped {
         let looped = first_looped(masks, n);
         let refusal = Fault {
             number: rules::REFUSED_LOOP,
             action: looped as u32,
         };
-        return Judgement {
-            refusal,
-            order: [0u8; 64],
-        };
+        return Judgement { refusal, order };
     }
     let number = if fit(&order, deadlines, cycle, worst, stride, n) {
         0

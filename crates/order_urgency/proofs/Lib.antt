@@ -1,1 +1,3 @@
-pub mod Spread
+pub mod Handing
+pub mod Picking
+pub mod Turns

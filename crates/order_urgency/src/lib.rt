@@ -1,18 +1,25 @@
-// The urgency of each action, from lent masks and deadlines by action. Actions hand their urgencies on to their predecessors, pass after
-// pass, until nothing is left to hand on. A deadline of 0 stands for the cycle.
+// The urgency of each action, from lent masks and deadlines by action, in one pass from the last action to the first: at its turn an
+// action has got the urgencies of all that must follow it, and hands its own on to its predecessors. A deadline of 0 stands for the cycle.
 
+use order_line::line_up;
 use sets::above_lowest;
+use sets::all_below;
 use sets::lowest;
+use sets::without;
 ghost use mathlib.Core.Path.{_≡_};
-ghost use mathlib.Core.Bool.{cond};
+ghost use mathlib.Core.Bool.{cond, true};
+ghost use mathlib.Core.Logic.{_↔_};
 ghost use mathlib.Core.List.{[]};
 ghost use Prim.Native.Nat.{ℕ, _≤_, _<_};
 ghost use lib.Dec.{eqb};
 ghost use lib.ListN.{length, getD};
 ghost use Rattle.rules.specs.Numbers.{most-actions};
 ghost use Rattle.rules.specs.Image.{has, due};
+ghost use Rattle.rules.specs.Order.{Loop};
+ghost use Rattle.sets.specs.Sets.{comes-before};
+ghost use Rattle.order_line.specs.Line.{InLine};
 ghost use Rattle.order_urgency.specs.Lent.{lent-profile};
-ghost use Rattle.order_urgency.specs.Spread.{HandedOn, PassedDown, Urgent};
+ghost use Rattle.order_urgency.specs.Spread.{HandedOn, NextIn, Foremost, Spread, Urgent};
 
 // A deadline as it counts.
 pub fn due(deadline: u32, cycle: u32) -> u32
@@ -36,53 +43,101 @@ fn dues(deadlines: &[u32], cycle: u32, n: usize) -> [u32; 64]
     u
 }
 
-// Makes each member of the mask of a at least as urgent as a. Answers whether one above a became more urgent.
-fn hand_on(mask: u64, a: usize, u: &mut [u32; 64]) -> bool
-    requires { ⌜ (a < most-actions) × (length (now u) ≡ most-actions) ⌝ }
-    ensures { λ r. ⌜ HandedOn (has mask) a (now (u .entry)) (now (u .exit)) r ⌝ }
+// Makes each member of the mask at least as urgent as x.
+fn hand_on(mask: u64, x: u32, u: &mut [u32; 64])
+    requires { ⌜ length (now u) ≡ most-actions ⌝ }
+    ensures { λ _. ⌜ HandedOn (has mask) x (now (u .entry)) (now (u .exit)) ⌝ }
 {
-    let x = u[a];
-    let mut late = false;
     let mut t = mask;
     while t != 0 {
         let b = lowest(t);
         if x < u[b] {
             u[b] = x;
-            if a < b {
-                late = true;
-            }
         }
         t = above_lowest(t);
     }
-    late
 }
 
-// One pass from the last action to the first. What an action got before its turn it hands on at its turn, so another pass is needed
-// only where an action became more urgent after its turn.
-fn pass(masks: &[u64], n: usize, u: &mut [u32; 64]) -> bool
-    requires { ⌜ (n ≤ most-actions) × (n ≤ length (now masks)) × (length (now u) ≡ most-actions) ⌝ }
-    ensures { λ r. ⌜ PassedDown n 0 (now (masks .entry)) (now (u .entry)) (now (u .exit)) r ⌝ }
+// The member of least urgency, the lowest of several.
+pub fn next(urgency: &[u32; 64], among: u64) -> usize
+    requires { ⌜ 0 < among ⌝ }
+    ensures { λ r. ⌜ NextIn (now (urgency .entry)) among r ⌝ }
 {
-    let mut again = false;
-    let mut a = n;
-    while 0 < a {
-        a -= 1;
-        if hand_on(masks[a], a, u) {
-            again = true;
+    let mut best = lowest(among);
+    let mut t = above_lowest(among);
+    while t != 0 {
+        let a = lowest(t);
+        if urgency[a] < urgency[best] {
+            best = a;
         }
+        t = above_lowest(t);
     }
-    again
+    best
 }
 
-// The urgency of each action.
-pub fn urgencies(masks: &[u64], deadlines: &[u32], cycle: u32, n: usize) -> [u32; 64]
-    requires { ⌜ (n ≤ most-actions) × (n ≤ length (now masks)) × (n ≤ length (now deadlines)) ⌝ }
-    ensures { λ r. ⌜ Urgent (lent-profile n cycle (now (masks .entry)) (now (deadlines .entry)) [] 0) r ⌝ }
+// From the last action of a permitted order to the first.
+fn last_first(masks: &[u64], order: &[u8; 64], n: usize, u: &mut [u32; 64])
+    requires { ⌜ (n ≤ most-actions) × (n ≤ length (now masks)) × InLine n (now masks) (now order) × (length (now u) ≡ most-actions) ⌝ }
+    ensures { λ _. ⌜ Spread n (now (masks .entry)) (now (u .entry)) (now (u .exit)) ⌝ }
 {
-    let mut u = dues(deadlines, cycle, n);
-    let mut again = true;
-    while again {
-        again = pass(masks, n, &mut u);
+    let mut k = n;
+    while 0 < k {
+        k -= 1;
+        let a = order[k] as usize;
+        let x = u[a];
+        hand_on(masks[a], x, u);
     }
-    u
+}
+
+// Of those that are left one of least urgency: one of `front`, which has such ones alone, or else the one that is next.
+fn foremost(u: &[u32; 64], left: u64, front: u64) -> usize
+    requires { ⌜ 0 < left ⌝ }
+    ensures { λ r. ⌜ (((a : ℕ) → has front a ≡ true → Foremost (now (u .entry)) left a) → Foremost (now (u .entry)) left r) ⌝ }
+{
+    if front == 0 {
+        return next(u, left);
+    }
+    lowest(front)
+}
+
+// Round a loop none is last. There the turn is that of the least urgent: what is left can make it no more urgent. It makes those before it
+// that are left as urgent, so that they are among the least urgent too.
+fn least_first(masks: &[u64], n: usize, u: &mut [u32; 64])
+    requires { ⌜ (n ≤ most-actions) × (n ≤ length (now masks)) × (length (now u) ≡ most-actions) ⌝ }
+    ensures { λ _. ⌜ Spread n (now (masks .entry)) (now (u .entry)) (now (u .exit)) ⌝ }
+{
+    let mut left = all_below(n);
+    let mut front: u64 = 0;
+    while left != 0 {
+        let a = foremost(&*u, left, front);
+        let x = u[a];
+        let mask = masks[a];
+        hand_on(mask, x, u);
+        left = without(left, a);
+        front = (front | mask) & left;
+    }
+}
+
+// The urgency of each action, and whether the masks contain a loop.
+pub struct Pass {
+    pub looped: bool,
+    pub urgency: [u32; 64],
+}
+
+// Each action has its turn once.
+pub fn urgencies(masks: &[u64], deadlines: &[u32], cycle: u32, n: usize) -> Pass
+    requires { ⌜ (n ≤ most-actions) × (n ≤ length (now masks)) × (n ≤ length (now deadlines)) ⌝ }
+    ensures looped { λ r. ⌜ (r .looped ≡ true) ↔ Loop n (comes-before (now (masks .entry))) ⌝ }
+    ensures urgent { λ r. ⌜ Urgent (lent-profile n cycle (now (masks .entry)) (now (deadlines .entry)) [] 0) (r .urgency) ⌝ }
+{
+    let line = line_up(masks, n);
+    let mut urgency = dues(deadlines, cycle, n);
+    let looped = line.looped;
+    if looped {
+        least_first(masks, n, &mut urgency);
+    } else {
+        let order = line.at;
+        last_first(masks, &order, n, &mut urgency);
+    }
+    Pass { looped, urgency }
 }

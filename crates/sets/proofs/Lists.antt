@@ -1,11 +1,16 @@
--- Lists filled from the front, as a loop over the actions fills them.
-use mathlib.Core.Path.{_≡_, _∙_}
+-- Lists of zeros, and those filled from the front, as a loop over the actions fills them.
+use mathlib.Core.Path.{_≡_, refl, _∙_}
 use mathlib.Core.List.{List}
-use Prim.Native.Nat.{ℕ, _+_, _<_}
+use Prim.Native.Nat.{ℕ, zero, suc, _+_, _<_}
 use native.Mathlib.Omega.{arith}
 use borrow.Author.Count.{below-more}
-use lib.ListN.{length, getD, set}
+use lib.ListN.{length, getD, set, replicate}
 use lib.Seq.{getD-set-same, getD-set-other}
+
+pub none-yet : (k b : ℕ) → getD {A = ℕ} (replicate k 0) b 0 ≡ 0
+none-yet zero b = refl
+none-yet (suc k) zero = refl
+none-yet (suc k) (suc b) = none-yet k b
 
 -- the first k entries are those of f
 abbrev pub Filled : (ℕ → ℕ) → ℕ → List ℕ → Type 0

@@ -5,8 +5,9 @@ use borrow.Author.Needs.{needs}
 use lib.ListN.{getD}
 use Rattle.sets.proofs.Members.{members-le}
 use Rattle.order.specs.Arranged.{Parted}
-use Rattle.order.proofs.Waiting.{none-yet, parted-start, parted-done}
-use Rattle.order.proofs.Placing.{Placing, placing-start, counted, placing-more, placing-stuck, placing-whole}
+use Rattle.sets.proofs.Lists.{none-yet}
+use Rattle.order.proofs.Waiting.{parted-start, parted-done}
+use Rattle.order.proofs.Placing.{Placing, placing-start, counted, placing-more, some-free, placing-whole}
 use Rattle.order.proofs.arrange.Statement.{statement}
 use Rattle.order.proofs.arrange.Tie as tie
 
@@ -20,43 +21,44 @@ abbrev μ-loop : tie.MeasureT-loop
 next-small : (c : tie.After-next Inv-loop μ-loop) → c .next .result < 64
 next-small c = omega (
   arith,
-  c .before .before .before .loop .inv .parted .ready (c .next .result) (c .next .ensures .member) .present,
-  c .before .before .before .before .before .before .before .before .pre .few,
+  c .before .before .loop .inv .parted .ready (c .next .result) (c .next .ensures .member) .present,
+  c .before .before .before .before .before .before .before .pre .0 .few,
 )
 
 -- those that wait with it are to be looked at
 one-done : (c : tie.After-waiting2 Inv-loop μ-loop)
-    → let at = c .before .before .before .before .before .before in
+    → let at = c .before .before .before .before .before in
     let start = at .before .before .before .before .before in
     Parted (start .args .n) (start .args .masks .now) (c .before .before .with .result) (c .before .without .result)
     (getD (at .loop .waiting) (c .before .before .before .next .result) 0) (at .loop .waiting)
 one-done c =
-    let at = c .before .before .before .before .before .before in
+    let at = c .before .before .before .before .before in
     parted-done (at .loop .inv .parted) (c .before .before .before .next .ensures .member) (c .before .without .ensures) (c .before .before .with .ensures)
 
 all-below-requires : tie.Need-all-below-requires Inv-loop μ-loop
-all-below-requires c κs = c .before .pre .few
+all-below-requires c κs = c .before .pre .0 .few
 
 release-requires : tie.Need-release-requires Inv-loop μ-loop
 release-requires c κs =
     let start = c .before .before .before in
-    λ j p. omega (arith, parted-start (start .args .n) (start .args .masks .now) (c .before .all-below .ensures) .left j p .0, start .pre .long)
+    λ j p. omega (arith, parted-start (start .args .n) (start .args .masks .now) (c .before .all-below .ensures) .left j p .0, start .pre .0 .long)
 
 loop-holds : tie.Need-loop-holds Inv-loop μ-loop
 loop-holds c =
     let start = c .before .before .before .before in
-    placing-start _ _ _ refl (λ j h. none-yet 64 j) (c .release .ensures _ (start .pre) (parted-start _ _ (c .before .before .all-below .ensures)))
+    placing-start _ _ _ refl (λ j h. none-yet 64 j) (c .release .ensures _ (start .pre .0) (parted-start _ _ (c .before .before .all-below .ensures)))
 
-returns : tie.Need-returns Inv-loop μ-loop
-returns c =
-    let at = c .before .before in
-    placing-stuck _ _ _ (at .before .before .before .before .before .pre) (at .loop .inv) (c .if1 .taken) (c .before .loop-test .taken)
+next-requires : tie.Need-next-requires Inv-loop μ-loop
+next-requires c κs =
+    let at = c .before in
+    let pre = at .before .before .before .before .before .pre in
+    some-free _ _ _ (pre .0) (at .loop .inv) (pre .1) (c .loop-test .taken)
 
 cast-order : tie.Need-cast-order Inv-loop μ-loop
 cast-order c = record { fits = omega (arith, next-small c) }
 
 array-write-order : tie.Need-array-write-order Inv-loop μ-loop
-array-write-order c = omega (arith, c .before .before .before .before .before .before .before .before .pre .few)
+array-write-order c = omega (arith, c .before .before .before .before .before .before .before .pre .0 .few)
 
 with-requires : tie.Need-with-requires Inv-loop μ-loop
 with-requires c κs = next-small c
@@ -71,7 +73,7 @@ without-requires : tie.Need-without-requires Inv-loop μ-loop
 without-requires c κs = next-small (c .before)
 
 release-requires-2 : tie.Need-release-requires-2 Inv-loop μ-loop
-release-requires-2 c κs = λ j p. omega (arith, one-done c .left j p .0, c .before .before .before .before .before .before .before .before .before .before .before .pre .long)
+release-requires-2 c κs = λ j p. omega (arith, one-done c .left j p .0, c .before .before .before .before .before .before .before .before .before .before .pre .0 .long)
 
 cast-k : tie.Need-cast-k Inv-loop μ-loop
 cast-k c = record { fits = omega (arith, c .count .ensures, members-le 64 (c .before .before .before .before .with .result)) }
@@ -79,23 +81,23 @@ cast-k c = record { fits = omega (arith, c .count .ensures, members-le 64 (c .be
 loop-less : tie.Need-loop-less Inv-loop μ-loop
 loop-less c =
     let set = c .before .before .before .before in
-    let at = set .before .before .before .before in
+    let at = set .before .before .before in
     omega (
       arith,
       c .count .ensures,
-      counted _ _ _ (at .before .before .before .before .before .pre) (at .loop .inv) (set .before .next .ensures) (set .with .ensures),
+      counted _ _ _ (at .before .before .before .before .before .pre .0) (at .loop .inv) (set .before .next .ensures) (set .with .ensures),
     )
 
 loop-again : tie.Need-loop-again Inv-loop μ-loop
 loop-again c =
     let set = c .before .before .before .before in
-    let at = set .before .before .before .before in
-    let pre = at .before .before .before .before .before .pre in
-    placing-more _ _ _ pre (at .loop .inv) (set .before .next .ensures) (set .with .ensures) (set .before .before .before .loop-test .taken)
+    let at = set .before .before .before in
+    let pre = at .before .before .before .before .before .pre .0 in
+    placing-more _ _ _ pre (at .loop .inv) (set .before .next .ensures) (set .with .ensures) (set .before .before .loop-test .taken)
     (c .before .release2 .ensures _ pre (one-done (c .before .before))) (c .count .ensures)
 
-returns-2 : tie.Need-returns-2 Inv-loop μ-loop
-returns-2 c = placing-whole _ _ _ (c .before .loop .inv) (c .loop-test .left)
+returns : tie.Need-returns Inv-loop μ-loop
+returns c = placing-whole _ _ _ (c .before .loop .inv) (c .loop-test .left)
 
 pub arrange-spec : {M : Type 1} → statement M
 arrange-spec =
@@ -106,8 +108,7 @@ arrange-spec =
     all-below-requires
     release-requires
     loop-holds
-    returns
-    (λ c κs. omega arith)
+    next-requires
     cast-order
     array-write-order
     with-requires
@@ -119,4 +120,4 @@ arrange-spec =
     cast-k
     loop-less
     loop-again
-    returns-2)
+    returns)

@@ -10,45 +10,42 @@ use Rattle.order.proofs.judge.Tie as tie
 abbrev said : tie.Start → Profile
 said c = lent-profile (c .args .n) (c .args .cycle) (c .args .masks .now) (c .args .deadlines .now) (c .args .worst .now) (c .args .stride)
 
-known : (c : tie.After-ordered) → Ordered (said (c .before .before .before .before)) (c .ordered .result .placed) (c .ordered .result .order)
+known : (c : tie.After-ordered) → Ordered (said (c .before .before .before .before)) (c .ordered .result .looped) (c .ordered .result .order)
 known c =
     let s = c .before .before .before .before .args in
     ordered-timed (s .n) (s .cycle) (s .masks .now) (s .deadlines .now) (s .worst .now) (s .stride) (c .ordered .ensures)
 
-first-looped-requires : tie.Need-first-looped-requires
-first-looped-requires c κs = let pre = c .before .before .before .before .before .before .before .pre .0 in (pre .few, pre .long)
-
 returns : tie.Need-returns
 returns c =
-    let placed = c .before .before .before .before in
-    let few = placed .before .before .before .before .pre .0 .few in
-    verdict-loop (known placed) (c .before .if1 .taken) few (c .first-looped .ensures)
+    let arranged = c .before .before .before in
+    verdict-loop (known arranged) (c .before .if1 .taken) (arranged .before .before .before .before .pre .0 .few) (c .first-looped .ensures)
 
 fit-requires : tie.Need-fit-requires
 fit-requires c κs =
-    let start = c .before .before .before .before .before .before .before .before in
-    (start .pre .0 .few, start .pre .1, listed-below (known (c .before .before .before .before)) (c .before .if1 .left))
+    let arranged = c .before .before .before in
+    let pre = arranged .before .before .before .before .pre in
+    (pre .0 .few, pre .1, listed-below (known arranged) (c .before .if1 .left))
 
 returns-2 : tie.Need-returns-2
 returns-2 c =
     let at = c .before .before .before in
-    let placed = at .before .before .before in
-    let masks = placed .before .before .before .before .args .masks .now in
-    verdict-fit (known placed) (at .if1 .left) (c .before .fit .ensures masks) (c .if2 .taken)
+    let arranged = at .before .before in
+    let masks = arranged .before .before .before .before .args .masks .now in
+    verdict-fit (known arranged) (at .if1 .left) (c .before .fit .ensures masks) (c .if2 .taken)
 
 returns-3 : tie.Need-returns-3
 returns-3 c =
     let at = c .before .before .before in
-    let placed = at .before .before .before in
-    let masks = placed .before .before .before .before .args .masks .now in
-    verdict-unfit (known placed) (at .if1 .left) (c .before .fit .ensures masks) (c .if2 .left)
+    let arranged = at .before .before in
+    let masks = arranged .before .before .before .before .args .masks .now in
+    verdict-unfit (known arranged) (at .if1 .left) (c .before .fit .ensures masks) (c .if2 .left)
 
 pub judge-spec : {M : Type 1} → statement M
 judge-spec =
     tie.close
     (tie.spec
     (λ c κs. search needs)
-    first-looped-requires
+    (λ c κs. search needs)
     (λ c. search needs)
     returns
     fit-requires

@@ -2,21 +2,18 @@ use mathlib.Core.Logic.{⊎-elim}
 use native.Mathlib.Omega.{arith}
 use borrow.Author.Needs.{needs}
 use Rattle.sets.proofs.Laws.{falls}
-use Rattle.order_urgency.proofs.Spread.{Handing, handing-start, handing-end, handing-late, handing-early, handing-keep}
+use Rattle.order_urgency.proofs.Handing.{Handing, handing-start, handing-end, handing-take, handing-keep}
 use Rattle.order_urgency.proofs.hand_on.Statement.{statement}
 use Rattle.order_urgency.proofs.hand_on.Tie as tie
 
 abbrev Inv-loop : tie.InvT-loop
-Inv-loop mask a u₀ x late₀ t₀ u late t = Handing mask a u₀ u late t
+Inv-loop mask x u₀ t₀ u t = Handing mask x u₀ u t
 
 abbrev μ-loop : tie.MeasureT-loop
-μ-loop mask a u₀ x late₀ t₀ u late t = t
-
-mul-x : tie.Need-mul-x Inv-loop μ-loop
-mul-x c = record { fits = omega arith }
+μ-loop mask x u₀ t₀ u t = t
 
 loop-holds : tie.Need-loop-holds Inv-loop μ-loop
-loop-holds c = handing-start _ _ (c .before .pre .1)
+loop-holds c = handing-start _ _ (c .pre)
 
 mul-if1 : tie.Need-mul-if1 Inv-loop μ-loop
 mul-if1 c = record { fits = omega (arith, c .lowest .ensures .small) }
@@ -40,9 +37,7 @@ loop-again c =
     let inv = c .before .before .before .before .before .loop .inv in
     let low = c .before .before .before .lowest .ensures in
     let rest = c .above-lowest .ensures _ low in
-    ⊎-elim (λ w. rw (w .2, w .3) (handing-late inv low rest (w .0 .taken) (w .1 .taken)))
-    (⊎-elim (λ w. rw (w .2, w .3) (handing-early inv low rest (w .0 .taken) (w .1 .left)))
-    (λ w. rw (w .1, w .2) (handing-keep inv low rest (w .0 .left))))
+    ⊎-elim (λ w. rw (w .1) (handing-take inv low rest (w .0 .taken))) (λ w. rw (w .1) (handing-keep inv low rest (w .0 .left)))
     (c .before .if1 .came)
 
 returns : tie.Need-returns Inv-loop μ-loop
@@ -54,8 +49,6 @@ hand-on-spec =
     (tie.spec
     Inv-loop
     μ-loop
-    mul-x
-    (λ c. search needs)
     loop-holds
     (λ c κs. search needs)
     mul-if1

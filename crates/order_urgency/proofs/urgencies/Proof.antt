@@ -1,45 +1,39 @@
-use mathlib.Core.Path.{ap}
-use mathlib.Core.List.{[]}
-use Prim.Native.Nat.{_+_}
-use native.Mathlib.Omega.{arith}
-use Rattle.rules.specs.Words.{one-if}
-use Rattle.rules.specs.Image.{due}
-use Rattle.order_urgency.specs.Lent.{lent-profile}
-use Rattle.order_urgency.specs.Spread.{total}
-use Rattle.order_urgency.proofs.Spread.{Spreading, spreading-start, spreading-more, spreading-end, passed-falls}
+use borrow.Author.Needs.{needs}
+use Rattle.order_line.proofs.Walking.{lined-exact}
+use Rattle.order_urgency.proofs.Turns.{spread-urgent}
 use Rattle.order_urgency.proofs.urgencies.Statement.{statement}
 use Rattle.order_urgency.proofs.urgencies.Tie as tie
 
-abbrev Inv-loop : tie.InvT-loop
-Inv-loop masks deadlines cycle n u₀ again₀ u again = Spreading n masks (due (lent-profile n cycle masks deadlines [] 0)) u again
-
-abbrev μ-loop : tie.MeasureT-loop
-μ-loop masks deadlines cycle n u₀ again₀ u again = total u + one-if again
-
-dues-requires : tie.Need-dues-requires Inv-loop μ-loop
-dues-requires c κs = (c .before .before .pre .0, c .before .before .pre .2)
-
-loop-holds : tie.Need-loop-holds Inv-loop μ-loop
-unfolding due
-loop-holds c = spreading-start _ _ _ (c .dues .ensures .0) (c .dues .ensures .1)
-
-pass-requires : tie.Need-pass-requires Inv-loop μ-loop
-pass-requires c κs =
-    let start = c .before .before .before .before .before .before in
-    (start .pre .0, start .pre .1, c .before .before .loop .inv .long)
-
-loop-less : tie.Need-loop-less Inv-loop μ-loop
-loop-less c = omega (arith, passed-falls (c .pass .ensures), ap one-if (c .before .before .loop-test .taken))
-
-loop-again : tie.Need-loop-again Inv-loop μ-loop
-loop-again c =
+last-first-requires : tie.Need-last-first-requires
+last-first-requires c κs =
     let at = c .before .before .before in
-    spreading-more (at .before .before .before .before .pre .0) (at .loop .inv) (c .pass .ensures)
+    let line = at .before .before in
+    let pre = line .before .before .before .pre in
+    (pre .0, pre .1, line .line-up .ensures .whole (at .if1 .left), at .before .dues .ensures .0)
 
-returns : tie.Need-returns Inv-loop μ-loop
-returns c = spreading-end (rw (c .loop-test .left) at (c .before .loop .inv))
+returns : tie.Need-returns
+returns c =
+    let line = c .before .before .before .before in
+    let s = line .before .before .before .args in (
+      lined-exact (line .line-up .ensures),
+      spread-urgent (s .n) (s .cycle) (s .masks .now) (s .deadlines .now) (c .before .before .before .dues .result) (c .least-first .last .1 .1 .0) (c .before .before .before .dues .ensures .1) (c .least-first .ensures),
+    )
+
+returns-2 : tie.Need-returns-2
+returns-2 c =
+    let line = c .before .before .before .before .before .before in
+    let s = line .before .before .before .args in (
+      lined-exact (line .line-up .ensures),
+      spread-urgent (s .n) (s .cycle) (s .masks .now) (s .deadlines .now) (c .before .before .before .before .before .dues .result) (c .last-first .last .1 .1 .1 .0) (c .before .before .before .before .before .dues .ensures .1) (c .last-first .ensures),
+    )
 
 pub urgencies-spec : {M : Type 1} → statement M
 urgencies-spec =
     tie.close
-    (tie.spec Inv-loop μ-loop dues-requires loop-holds pass-requires loop-less loop-again returns)
+    (tie.spec
+    (λ c κs. search needs)
+    (λ c κs. search needs)
+    (λ c κs. search needs)
+    last-first-requires
+    returns
+    returns-2)

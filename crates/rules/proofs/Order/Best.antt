@@ -6,7 +6,7 @@ use native.Mathlib.Nat.{le-trans, le-of-eq, not-suc-le-zero, lt-of-not-le}
 use native.Mathlib.Decide.{decLe, decLt, ℕ-discrete}
 use native.Mathlib.Omega.{arith}
 use Rattle.rules.specs.Words.{sum}
-use Rattle.rules.specs.Order.{Order, Permitted, MustFollow, Urgency, ends, Meets, ByUrgency}
+use Rattle.rules.specs.Order.{Order, Permitted, MustFollow, Urgency, ends, Meets, ByUrgency, Ready}
 use Rattle.rules.proofs.Sums.{sum-mono, sum-same, sum-add, sum-none, sum-one, sum-longer, keep, keep-yes, keep-no, keep-mono}
 use Rattle.rules.proofs.Sums.{greatest, Found, find, both}
 
@@ -65,10 +65,13 @@ pub follows-later : {n : ℕ} {before : ℕ → ℕ → Type 0} (o : Order n) �
 follows-later o p {a} {b} l (MustFollow.next m h) = p a b l m h
 follows-later o p {a} l (MustFollow.through {b = b} m h f) = omega (arith, p a b l m h, follows-later o p m f)
 
+-- an order in which each action is ready at its position is permitted
+pub ready-permitted : {n : ℕ} {before : ℕ → ℕ → Type 0} (o : Order n) → ((k : ℕ) → k < n → Ready n before o k (o .at k)) → Permitted before o
+ready-permitted {before = before} o ready b a l m h = ready (o .pos a) (o .pos-lt a m) .free b l (subst (before b) (sym (o .at-pos a m)) h)
+
 -- the order by urgency is permitted
 pub by-urgency-permitted : {n : ℕ} {before : ℕ → ℕ → Type 0} {U : ℕ → ℕ} (o : Order n) → ByUrgency n before U o → Permitted before o
-by-urgency-permitted {before = before} o g b a l m h =
-    g .ready (o .pos a) (o .pos-lt a m) .free b l (subst (before b) (sym (o .at-pos a m)) h)
+by-urgency-permitted o g = ready-permitted o (g .ready)
 
 -- ---- the order by urgency is best
 

@@ -4,6 +4,7 @@ use mathlib.Core.Path.{_≡_, sym, subst}
 use mathlib.Core.Logic.{_⊎_}
 use native.Mathlib.Nat.{le-trans, lt-irrefl}
 use native.Mathlib.Decide.{le-ind}
+use native.Mathlib.Omega.{arith}
 use Rattle.rules.specs.Order.{Order, Permitted, MustFollow, Loop, Urgency}
 use Rattle.rules.proofs.Order.Best.{follows-later}
 use Rattle.rules.proofs.Order.Pigeon.{pigeon, Shared}
@@ -11,7 +12,25 @@ use Rattle.rules.proofs.Order.Pigeon.{pigeon, Shared}
 pub no-loop : {n : ℕ} {before : ℕ → ℕ → Type 0} (o : Order n) → Permitted before o → Loop n before → ⊥
 no-loop o p l = lt-irrefl _ (follows-later o p (l .1) (l .2))
 
--- Actions that are left, each waiting for another that is left: walk from one to what it waits for, and of n + 1 actions two are the same.
+-- n steps back, each to an action that comes before the last one: of n + 1 actions two are the same.
+module _ (n : ℕ) (before : ℕ → ℕ → Type 0) (at : ℕ → ℕ) (present : (k : ℕ) → k ≤ n → at k < n)
+    (back : (k : ℕ) → k < n → before (at (suc k)) (at k)) where
+  follows : (i j : ℕ) → i < j → j ≤ n → MustFollow n before (at j) (at i)
+  follows i = le-ind (λ (k : ℕ). k ≤ n → MustFollow n before (at k) (at i))
+      (λ h. MustFollow.next (present i (omega arith)) (back i h))
+      (λ k m f h. MustFollow.through (present k (omega arith)) (back k h) (f (omega arith)))
+
+  pub round-loop : Loop n before
+  round-loop = go (pigeon n at present)
+    where
+      go : Shared n at → Loop n before
+      go s = (
+        at (s .0),
+        present (s .0) (omega (arith, s .2, s .3)),
+        subst (λ (y : ℕ). MustFollow n before y (at (s .0))) (sym (s .4)) (follows (s .0) (s .1) (s .2) (s .3)),
+      )
+
+-- Actions that are left, each waiting for another that is left: walk from one to what it waits for.
 module _ (n : ℕ) (before : ℕ → ℕ → Type 0) (Left : ℕ → Type 0)
     (waits : (a : ℕ) → a < n → Left a → (b : ℕ) × (b < n) × Left b × before b a) where
   walk : (a : ℕ) → a < n → Left a → ℕ → (b : ℕ) × (b < n) × Left b
@@ -22,18 +41,8 @@ module _ (n : ℕ) (before : ℕ → ℕ → Type 0) (Left : ℕ → Type 0)
   unfolding walk
   walk-step a l x k = let w = walk a l x k in waits (w .0) (w .1) (w .2) .3
 
-  walk-follows : (a : ℕ) (l : a < n) (x : Left a) (i j : ℕ) → i < j → MustFollow n before (walk a l x j .0) (walk a l x i .0)
-  walk-follows a l x i = le-ind (λ (k : ℕ). MustFollow n before (walk a l x k .0) (walk a l x i .0))
-      (MustFollow.next (walk a l x i .1) (walk-step a l x i))
-      (λ k m f. MustFollow.through (walk a l x k .1) (walk-step a l x k) f)
-
   pub stuck-loop : (a : ℕ) → a < n → Left a → Loop n before
-  stuck-loop a l x = go (pigeon n (λ k. walk a l x k .0) (λ k m. walk a l x k .1))
-    where
-      go : Shared n (λ k. walk a l x k .0) → Loop n before
-      go s =
-          let w = walk a l x (s .0) in
-          (w .0, w .1, subst (λ (y : ℕ). MustFollow n before y (w .0)) (sym (s .4)) (walk-follows a l x (s .0) (s .1) (s .2)))
+  stuck-loop a l x = round-loop n before (λ k. walk a l x k .0) (λ k m. walk a l x k .1) (λ k m. walk-step a l x k)
 
 -- A spread of deadlines that no pass changes any more is the urgency.
 module _ (n : ℕ) (before : ℕ → ℕ → Type 0) (D U : ℕ → ℕ)

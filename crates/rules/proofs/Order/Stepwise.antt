@@ -92,6 +92,34 @@ module _ (n : ℕ) (before : ℕ → ℕ → Type 0) where
 
   -- ---- never stuck
 
+  -- Where the action at each position is free, they are an order, and a permitted one.
+  module _ (at : ℕ → ℕ) (free : (k : ℕ) → k < n → (at k < n) × Free (Earlier at k) (at k)) where
+    differ : (j k : ℕ) → j < k → k < n → at j ≢ at k
+    differ j k l m e = free k m .1 .0 (j, l, e)
+
+    pub listed : Order n
+    listed = order-of n at (λ k l. free k l .0) differ
+
+    pub listed-at : (k : ℕ) → listed .at k ≡ at k
+    unfolding listed
+    listed-at = order-of-at n at (λ k l. free k l .0) differ
+
+    earlier-at : (k b : ℕ) → b < n → listed .pos b < k → Earlier at k b
+    earlier-at k b l h = (listed .pos b, h, sym (listed-at (listed .pos b)) ∙ listed .at-pos b l)
+
+    at-earlier : (k b : ℕ) → k ≤ n → Earlier at k b → listed .pos b < k
+    at-earlier k b l e = omega (arith, e .1, ap (listed .pos) (listed-at (e .0) ∙ e .2), listed .pos-at (e .0) (omega (arith, e .1)))
+
+    pub listed-ready : (k : ℕ) → k < n → Ready n before listed k (listed .at k)
+    listed-ready k l = record {
+      present = listed .at-lt k l;
+      waits = le-of-eq (sym (listed .pos-at k l));
+      free = λ b m h. at-earlier k b (omega arith) (free k l .1 .1 b m (subst (before b) (listed-at k) h));
+    }
+
+    pub ready-free : (k a : ℕ) → k < n → Ready n before listed k a → Free (Earlier at k) a
+    ready-free k a l r = ((λ e. omega (arith, at-earlier k a (omega arith) e, r .waits)), λ b m h. earlier-at k b m (r .free b m h))
+
   module _ (U : ℕ → ℕ) where
     -- of the free actions below m, a goes first
     pub record Next (Done : ℕ → Type 0) (m a : ℕ) : Type 0 where
@@ -106,34 +134,22 @@ module _ (n : ℕ) (before : ℕ → ℕ → Type 0) where
       first = λ b l f. x .first b l (free-same (λ c. (same c .1, same c .0)) b f);
     }
 
-    -- Where the action at each position is the next one, they are an order, and by urgency.
+    -- Where the action at each position is the next one, they are in order by urgency.
     module _ (at : ℕ → ℕ) (next : (k : ℕ) → k < n → Next (Earlier at k) n (at k)) where
-      differ : (j k : ℕ) → j < k → k < n → at j ≢ at k
-      differ j k l m e = next k m .free .0 (j, l, e)
+      opens : (k : ℕ) → k < n → (at k < n) × Free (Earlier at k) (at k)
+      opens k l = (next k l .present, next k l .free)
 
       pub order : Order n
-      order = order-of n at (λ k l. next k l .present) differ
+      order = listed at opens
 
       pub order-at : (k : ℕ) → order .at k ≡ at k
       unfolding order
-      order-at = order-of-at n at (λ k l. next k l .present) differ
-
-      earlier-at : (k b : ℕ) → b < n → order .pos b < k → Earlier at k b
-      earlier-at k b l h = (order .pos b, h, sym (order-at (order .pos b)) ∙ order .at-pos b l)
-
-      at-earlier : (k b : ℕ) → k ≤ n → Earlier at k b → order .pos b < k
-      at-earlier k b l e = omega (arith, e .1, ap (order .pos) (order-at (e .0) ∙ e .2), order .pos-at (e .0) (omega (arith, e .1)))
-
-      ready-free : (k a : ℕ) → k < n → Ready n before order k a → Free (Earlier at k) a
-      ready-free k a l r = ((λ e. omega (arith, at-earlier k a (omega arith) e, r .waits)), λ b m h. earlier-at k b m (r .free b m h))
+      order-at = listed-at at opens
 
       pub order-by-urgency : ByUrgency n before U order
+      unfolding order
       order-by-urgency = record {
-        ready = λ k l. record {
-          present = order .at-lt k l;
-          waits = le-of-eq (sym (order .pos-at k l));
-          free = λ b m h. at-earlier k b (omega arith) (next k l .free .1 b m (subst (before b) (order-at k) h));
-        };
-        least = λ k a l r. rw (order-at k) (next k l .first a (r .present) (ready-free k a l r) .0);
-        lowest = λ k a l r e. rw (order-at k) (next k l .first a (r .present) (ready-free k a l r) .1 (ap U (sym (order-at k)) ∙ e));
+        ready = listed-ready at opens;
+        least = λ k a l r. rw (order-at k) (next k l .first a (r .present) (ready-free at opens k a l r) .0);
+        lowest = λ k a l r e. rw (order-at k) (next k l .first a (r .present) (ready-free at opens k a l r) .1 (ap U (sym (order-at k)) ∙ e));
       }

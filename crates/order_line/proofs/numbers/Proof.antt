@@ -4,11 +4,10 @@ use native.Mathlib.Omega.{arith}
 use borrow.Author.Needs.{needs}
 use lib.ListN.{length, length-set}
 use lib.Seq.{getD-set-other}
-use Rattle.sets.proofs.Lists.{Filled, filled-more}
-use Rattle.order.specs.Arranged.{ZeroFrom}
-use Rattle.order.proofs.Waiting.{none-yet}
-use Rattle.order.proofs.numbers.Statement.{statement}
-use Rattle.order.proofs.numbers.Tie as tie
+use Rattle.sets.proofs.Lists.{none-yet, Filled, filled-more}
+use Rattle.order_line.specs.Line.{ZeroFrom}
+use Rattle.order_line.proofs.numbers.Statement.{statement}
+use Rattle.order_line.proofs.numbers.Tie as tie
 
 abbrev Inv-loop : tie.InvT-loop
 Inv-loop n order₀ k₀ order k = (k ≤ n) × (length order ≡ 64) × Filled (λ j. j) k order × ZeroFrom k order

@@ -3,18 +3,18 @@ use Prim.Native.Nat.{_<_}
 use native.Mathlib.Omega.{arith}
 use borrow.Author.Needs.{needs}
 use Rattle.sets.proofs.Laws.{falls, lt-below}
-use Rattle.order.proofs.Picking.{Best, best-start, best-take, best-keep, best-end}
-use Rattle.order.proofs.next.Statement.{statement}
-use Rattle.order.proofs.next.Tie as tie
+use Rattle.order_urgency.proofs.Picking.{Best, best-start, best-take, best-keep, best-end}
+use Rattle.order_urgency.proofs.next.Statement.{statement}
+use Rattle.order_urgency.proofs.next.Tie as tie
 
 abbrev Inv-loop : tie.InvT-loop
-Inv-loop urgency ready best₀ t₀ best t = Best urgency ready t best
+Inv-loop urgency among best₀ t₀ best t = Best urgency among t best
 
 abbrev μ-loop : tie.MeasureT-loop
-μ-loop urgency ready best₀ t₀ best t = t
+μ-loop urgency among best₀ t₀ best t = t
 
 best-small : (c : tie.At-loop Inv-loop μ-loop) → c .loop .best < 64
-best-small c = lt-below 64 _ (c .before .before .before .fits .ready .fits) (c .loop .best) (c .loop .inv .member)
+best-small c = lt-below 64 _ (c .before .before .before .fits .among .fits) (c .loop .best) (c .loop .inv .member)
 
 lowest-requires : tie.Need-lowest-requires Inv-loop μ-loop
 lowest-requires c κs = c .pre

@@ -1,4 +1,4 @@
--- The next one of the ready actions, looked through lowest first.
+-- The least urgent member of a set, looked for lowest first.
 use mathlib.Core.Path.{_≡_, refl, ap, subst}
 use mathlib.Core.Bool.{true, false}
 use mathlib.Core.Logic.{inl, inr}
@@ -13,7 +13,7 @@ use Rattle.rules.proofs.Order.Stepwise.{First}
 use Rattle.sets.specs.Sets.{Lowest, Without}
 use Rattle.sets.proofs.Bits.{has-empty}
 use Rattle.sets.proofs.Laws.{was, or-gone, rest-above}
-use Rattle.order.specs.Arranged.{NextIn}
+use Rattle.order_urgency.specs.Spread.{NextIn}
 
 -- a is the best member of s so far, and t has the members still to be looked at
 pub record Best (u : List ℕ) (s t a : ℕ) : Type 0 where
