@@ -11,7 +11,7 @@ use rules::Fault;
 use sets::above_lowest;
 use sets::all_below;
 use sets::count;
-use sets::highest;
+use sets::end;
 use sets::lowest;
 use sets::subset;
 use sets::with;
@@ -23,7 +23,6 @@ ghost use mathlib.Core.List.{List, []};
 ghost use Prim.Native.Nat.{ℕ, _≤_, _<_};
 ghost use lib.ListN.{length, getD};
 ghost use Rattle.rules.specs.Numbers.{most-actions};
-ghost use Rattle.rules.specs.Image.{has};
 ghost use Rattle.rules.specs.Order.{Loop};
 ghost use Rattle.sets.specs.Sets.{Below, comes-before};
 ghost use Rattle.order.specs.Lent.{lent-profile, Masked, Timed};
@@ -32,20 +31,9 @@ ghost use Rattle.order.specs.Judged.{OneDeadline, ByNumber, Ordered, Tel
 
 // ---- order
 
-// Of the predecessors that are not done the one to wait with: at first the highest, as the higher numbers tend to be done later. Where
-// others are done after it the numbers may run against the order, so that it is then the lowest.
-fn awaited(left: u64, first: bool) -> usize
-    requires { ⌜ 0 < left ⌝ }
-    ensures { λ r. ⌜ (r < most-actions) × (has left r ≡ true) ⌝ }
-{
-    if first {
-        return highest(left);
-    }
-    lowest(left)
-}
-
 // The ready actions: `free`, and those of `from` that are ready. Each other one of `from` waits with one of its predecessors that are
-// not done, and is looked at again when that one is done.
+// not done, and is looked at again when that one is done. It is at first the highest, as the higher numbers tend to be done later. Where
+// others are left after it the numbers may run against the order, so that it is then the lowest.
 fn release(masks: &[u64], from: u64, done: u64, free: u64, waiting: &mut [u64; 64]) -> u64
     requires { ⌜ Below from (length (now masks)) ⌝ }
     ensures { λ r. ⌜ ((n : ℕ) → Masked n (now (masks .entry)) → Parted n (now (masks .entry)) done free from (now (waiting .entry))
@@ -59,7 +47,7 @@ fn release(masks: &[u64], from: u64, done: u64, free: u64, waiting: &mut [u64; 6
         if subset(mask, done) {
             r = with(r, a);
         } else {
-            let b = awaited(mask & !done, done == 0);
+            let b = end(mask & !done, done == 0);
             waiting[b] = with(waiting[b], a);
         }
         t = above_lowest(t);

@@ -1,9 +1,9 @@
--- An urgency handed on to the members of a mask, lowest first.
+-- An urgency handed on to each member of a set, lowest first.
 use mathlib.Core.Path.{_≡_, refl, sym, ap, subst, _∙_}
 use mathlib.Core.Bool.{Bool, true, false, not, _&&_, and-true, and-false, and-not-self}
 use mathlib.Core.Logic.{_⊎_, inl, inr}
 use mathlib.Core.List.{List}
-use Prim.Native.Nat.{ℕ, _≤_, _<_, min}
+use Prim.Native.Nat.{ℕ, _^_, _≤_, _<_, min}
 use native.Mathlib.Omega.{arith}
 use lib.ListN.{length, getD, set, length-set}
 use lib.Seq.{getD-set-same, getD-set-other}
@@ -11,9 +11,9 @@ use Rattle.rules.specs.Image.{has}
 use Rattle.rules.proofs.Tests.{true-or-false}
 use Rattle.sets.specs.Sets.{Lowest, Without}
 use Rattle.sets.proofs.Bits.{has-empty}
-use Rattle.sets.proofs.Laws.{gone, kept, was}
+use Rattle.sets.proofs.Laws.{lt-below, gone, kept, was}
 use Rattle.sets.proofs.Cases.{eq-or-ne}
-use Rattle.order_urgency.specs.Spread.{lowered, HandedOn}
+use Rattle.order_urgency.specs.Spread.{lowered, HandedEach, HandedOn}
 
 -- the members of the mask that are not left any more
 abbrev got : ℕ → ℕ → ℕ → Bool
@@ -22,7 +22,7 @@ got mask t j = has mask j && not (has t j)
 -- x has been handed on to the members of the mask that are not in t
 pub record Handing (mask x : ℕ) (u v : List ℕ) (t : ℕ) : Type 0 where
   pub part : (j : ℕ) → has t j ≡ true → has mask j ≡ true
-  pub handed : HandedOn (got mask t) x u v
+  pub handed : HandedEach (got mask t) x u v
 
 pub handing-start : (mask x : ℕ) {u : List ℕ} → length u ≡ 64 → Handing mask x u u mask
 handing-start mask x {u} long = record {
@@ -30,7 +30,7 @@ handing-start mask x {u} long = record {
   handed = record { long = long; each = λ j l. sym (ap (λ (y : Bool). lowered y x (getD u j 0)) (and-not-self (has mask j))) };
 }
 
-pub handing-end : {mask x : ℕ} {u v : List ℕ} → Handing mask x u v 0 → HandedOn (has mask) x u v
+pub handing-end : {mask x : ℕ} {u v : List ℕ} → Handing mask x u v 0 → HandedEach (has mask) x u v
 handing-end {mask} {x} {u} {v} h = record {
   long = h .handed .long;
   each = λ j l. h .handed .each j l ∙ ap (λ (y : Bool). lowered y x (getD u j 0)) (all j);
@@ -72,19 +72,34 @@ module _ {mask x t b t′ : ℕ} {u v : List ℕ} (h : Handing mask x u v t) (lo
 
 -- ---- what came of it
 
-module _ {test : ℕ → Bool} {x : ℕ} {u v : List ℕ} (h : HandedOn test x u v) (b : ℕ) (small : b < 64) where
-  pub passed-on : test b ≡ true → getD v b 0 ≡ min x (getD u b 0)
-  passed-on e = h .each b small ∙ ap (λ (y : Bool). lowered y x (getD u b 0)) e
+pub lowered-less : (test : Bool) (p q : ℕ) → lowered test p q ≤ q
+lowered-less true p q = omega arith
+lowered-less false p q = omega arith
 
-  pub either : ((test b ≡ true) × (getD v b 0 ≡ min x (getD u b 0))) ⊎ (getD v b 0 ≡ getD u b 0)
-  either = elim (true-or-false (test b)) [
-    | inl e ↦ inl (e, passed-on e)
-    | inr e ↦ inr (h .each b small ∙ ap (λ (y : Bool). lowered y x (getD u b 0)) e)
-  ]
+-- not below what is as urgent as both
+pub lowered-above : (test : Bool) (p q y : ℕ) → y ≤ p → y ≤ q → y ≤ lowered test p q
+lowered-above true p q y k m = omega arith
+lowered-above false p q y k m = m
 
+module _ (masks : List ℕ) (to x : ℕ) {u v : List ℕ} where
+  -- each member has got it
+  pub handed-each : to < 2 ^ 64 → HandedEach (has to) x u v → HandedOn masks to x u v
+  handed-each small h = record {
+    long = h .long;
+    each = λ b l. elim (true-or-false (has to b)) [ inl e ↦ inr (e, given b l e) | inr e ↦ inl (h .each b l ∙ told b e) ];
+    got = λ b p. inl (omega (arith, given b (lt-below 64 to small b p) p));
+  }
+    where
+      told : {y : Bool} (b : ℕ) → has to b ≡ y → lowered (has to b) x (getD u b 0) ≡ lowered y x (getD u b 0)
+      told b e = ap (λ (z : Bool). lowered z x (getD u b 0)) e
+
+      given : (b : ℕ) → b < 64 → has to b ≡ true → getD v b 0 ≡ min x (getD u b 0)
+      given b l e = h .each b l ∙ told b e
+
+module _ {masks : List ℕ} {to x : ℕ} {u v : List ℕ} (h : HandedOn masks to x u v) (b : ℕ) (small : b < 64) where
   pub less : getD v b 0 ≤ getD u b 0
-  less = elim either [ inl e ↦ omega (arith, e .1) | inr e ↦ omega (arith, e) ]
+  less = elim (h .each b small) [ inl e ↦ omega (arith, e) | inr e ↦ omega (arith, e .1) ]
 
   -- not below what is as urgent as both
   pub above : (y : ℕ) → y ≤ x → y ≤ getD u b 0 → y ≤ getD v b 0
-  above y k m = elim either [ inl e ↦ omega (arith, e .1) | inr e ↦ omega (arith, e) ]
+  above y k m = elim (h .each b small) [ inl e ↦ omega (arith, e) | inr e ↦ omega (arith, e .1) ]

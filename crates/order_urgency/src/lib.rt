@@ -4,6 +4,7 @@
 use order_line::line_up;
 use sets::above_lowest;
 use sets::all_below;
+use sets::end;
 use sets::lowest;
 use sets::without;
 ghost use mathlib.Core.Path.{_≡_};
@@ -16,10 +17,10 @@ ghost use lib.ListN.{length, getD};
 ghost use Rattle.rules.specs.Numbers.{most-actions};
 ghost use Rattle.rules.specs.Image.{has, due};
 ghost use Rattle.rules.specs.Order.{Loop};
-ghost use Rattle.sets.specs.Sets.{comes-before};
+ghost use Rattle.sets.specs.Sets.{Below, comes-before};
 ghost use Rattle.order_line.specs.Line.{InLine};
 ghost use Rattle.order_urgency.specs.Lent.{lent-profile};
-ghost use Rattle.order_urgency.specs.Spread.{HandedOn, NextIn, Foremost, Spread, Urgent};
+ghost use Rattle.order_urgency.specs.Spread.{HandedEach, Given, HandedOn, NextIn, Foremost, Spread, Urgent};
 
 // A deadline as it counts.
 pub fn due(deadline: u32, cycle: u32) -> u32
@@ -43,12 +44,14 @@ fn dues(deadlines: &[u32], cycle: u32, n: usize) -> [u32; 64]
     u
 }
 
-// Makes each member of the mask at least as urgent as x.
-fn hand_on(mask: u64, x: u32, u: &mut [u32; 64])
+// ---- handing on
+
+// Makes each member of a set at least as urgent as x.
+fn hand_each(to: u64, x: u32, u: &mut [u32; 64])
     requires { ⌜ length (now u) ≡ most-actions ⌝ }
-    ensures { λ _. ⌜ HandedOn (has mask) x (now (u .entry)) (now (u .exit)) ⌝ }
+    ensures { λ _. ⌜ HandedEach (has to) x (now (u .entry)) (now (u .exit)) ⌝ }
 {
-    let mut t = mask;
+    let mut t = to;
     while t != 0 {
         let b = lowest(t);
         if x < u[b] {
@@ -57,6 +60,47 @@ fn hand_on(mask: u64, x: u32, u: &mut [u32; 64])
         t = above_lowest(t);
     }
 }
+
+// Makes b at least as urgent as x. Answers the others of t that do not come before it.
+fn give(masks: &[u64], t: u64, b: usize, x: u32, u: &mut [u32; 64]) -> u64
+    requires { ⌜ (b < most-actions) × (b < length (now masks)) × (length (now u) ≡ most-actions) ⌝ }
+    ensures { λ r. ⌜ Given (now (masks .entry)) t b x (now (u .entry)) (now (u .exit)) r ⌝ }
+{
+    if x < u[b] {
+        u[b] = x;
+    }
+    without(t & !masks[b], b)
+}
+
+// Passes over what comes before one that has got x: that one hands it on at its turn. Where numbers run with the order the highest comes
+// last, where they run against it the lowest, and all others may come before it.
+fn hand_apart(masks: &[u64], to: u64, x: u32, u: &mut [u32; 64])
+    requires { ⌜ Below to (length (now masks)) × (length (now u) ≡ most-actions) ⌝ }
+    ensures { λ _. ⌜ HandedOn (now (masks .entry)) to x (now (u .entry)) (now (u .exit)) ⌝ }
+{
+    let mut t = to;
+    let mut high = true;
+    while t != 0 {
+        t = give(masks, t, end(t, high), x, u);
+        high = !high;
+    }
+}
+
+// Hands x on to a set. To pass over members costs more than to give each of a few its due, so that it is done where four numbers in a row
+// are members: then there are many.
+fn hand_on(masks: &[u64], to: u64, x: u32, u: &mut [u32; 64])
+    requires { ⌜ Below to (length (now masks)) × (length (now u) ≡ most-actions) ⌝ }
+    ensures { λ _. ⌜ HandedOn (now (masks .entry)) to x (now (u .entry)) (now (u .exit)) ⌝ }
+{
+    let pairs = to & (to >> 1);
+    if pairs & (pairs >> 2) == 0 {
+        hand_each(to, x, u);
+    } else {
+        hand_apart(masks, to, x, u);
+    }
+}
+
+// ---- turns
 
 // The member of least urgency, the lowest of several.
 pub fn next(urgency: &[u32; 64], among: u64) -> usize
@@ -80,12 +124,13 @@ fn last_first(masks: &[u64], order: &[u8; 64], n: usize, u: &mut [u32; 64])
     requires { ⌜ (n ≤ most-actions) × (n ≤ length (now masks)) × InLine n (now masks) (now order) × (length (now u) ≡ most-actions) ⌝ }
     ensures { λ _. ⌜ Spread n (now (masks .entry)) (now (u .entry)) (now (u .exit)) ⌝ }
 {
+    let all = all_below(n);
     let mut k = n;
     while 0 < k {
         k -= 1;
         let a = order[k] as usize;
         let x = u[a];
-        hand_on(masks[a], x, u);
+        hand_on(masks, masks[a] & all, x, u);
     }
 }
 
@@ -112,8 +157,8 @@ fn least_first(masks: &[u64], n: usize, u: &mut [u32; 64])
         let a = foremost(&*u, left, front);
         let x = u[a];
         let mask = masks[a];
-        hand_on(mask, x, u);
         left = without(left, a);
+        hand_each(mask & left, x, u);
         front = (front | mask) & left;
     }
 }

@@ -14,7 +14,7 @@ use borrow.Author.Tests.{eq-eqb, ne-eqb, eqb-true, lt-ltb}
 use Rattle.rules.specs.Image.{has}
 use Rattle.rules.proofs.Sums.{find, both}
 use Rattle.rules.proofs.Tests.{is-true?, not-both, and-true as both-true, or-true as either-true}
-use Rattle.sets.specs.Sets.{Subset, Below, Lowest, With, Without, plus}
+use Rattle.sets.specs.Sets.{Subset, Below, Lowest, Highest, With, Without, plus}
 use Rattle.sets.proofs.Cases.{lt-or-le, eq-or-ne}
 use Rattle.sets.proofs.Bits.{has-above, has-or, has-and, has-not, has-pow, has-ones, ext}
 
@@ -67,6 +67,11 @@ below-exact s n = (
 
 pub lowest-le : {s b : ℕ} → Lowest s b → (j : ℕ) → has s j ≡ true → b ≤ j
 lowest-le {s} {b} low j p = elim (lt-or-le j b) [ inl l ↦ absurd (not-both p (low .least j l)) | inr l ↦ l ]
+
+-- the highest or the lowest
+pub end-member : {s b : ℕ} (high : Bool) → (high ≡ true → Highest s b) × (high ≡ false → Lowest s b) → (b < 64) × (has s b ≡ true)
+end-member true h = (h .0 refl .small, h .0 refl .member)
+end-member false h = (h .1 refl .small, h .1 refl .member)
 
 -- ---- `s & !t`, the members of s that t lacks
 

@@ -1,7 +1,7 @@
 // 64-bit sets of actions: the bit worth 2^b says that the set has action b.
 
 ghost use mathlib.Core.Path.{_≡_};
-ghost use mathlib.Core.Bool.{true};
+ghost use mathlib.Core.Bool.{true, false};
 ghost use mathlib.Core.Logic.{_↔_};
 ghost use Prim.Native.Nat.{ℕ, _<_, _≤_};
 ghost use Rattle.rules.specs.Numbers.{most-actions};
@@ -65,6 +65,17 @@ pub fn highest(s: u64) -> usize
     ensures { λ r. ⌜ Highest s r ⌝ }
 {
     63 - u64::leading_zeros(s) as usize
+}
+
+// The highest member of a set that has one, or the lowest.
+pub fn end(s: u64, high: bool) -> usize
+    requires { ⌜ 0 < s ⌝ }
+    ensures { λ r. ⌜ ((high ≡ true → Highest s r) × (high ≡ false → Lowest s r)) ⌝ }
+{
+    if high {
+        return highest(s);
+    }
+    lowest(s)
 }
 
 // The members of a set above the lowest.

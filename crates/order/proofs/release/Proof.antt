@@ -5,7 +5,7 @@ use borrow.Author.Needs.{needs}
 use lib.ListN.{length, getD}
 use Rattle.rules.proofs.Tests.{not-both}
 use Rattle.sets.specs.Sets.{Subset, Below}
-use Rattle.sets.proofs.Laws.{falls, was}
+use Rattle.sets.proofs.Laws.{end-member, falls, was}
 use Rattle.order.specs.Lent.{Masked}
 use Rattle.order.specs.Arranged.{Parted}
 use Rattle.order.proofs.Waiting.{some-left, one-left, parted-free, parted-held}
@@ -38,26 +38,26 @@ shared-slice-read-mask c = c .before .before .before .loop .inv .0 _ (c .before 
 with-requires : tie.Need-with-requires Inv-loop μ-loop
 with-requires c κs = c .before .before .before .lowest .ensures .small
 
-awaited-requires : tie.Need-awaited-requires Inv-loop μ-loop
-awaited-requires c κs =
+end-requires : tie.Need-end-requires Inv-loop μ-loop
+end-requires c κs =
     let read = c .before .before in
     some-left (read .shared-slice-known2 .given _ .fits) (read .before .before .before .before .before .fits .done .fits)
     (λ h. not-both (c .before .subset .ensures .1 h) (c .if1 .left))
 
 mul-with : tie.Need-mul-with Inv-loop μ-loop
-mul-with c = record { fits = omega (arith, c .awaited .ensures .0) }
+mul-with c = record { fits = omega (arith, end-member _ (c .end .ensures) .0) }
 
 element-copy-out-with : tie.Need-element-copy-out-with Inv-loop μ-loop
-element-copy-out-with c = c .awaited .ensures .0
+element-copy-out-with c = end-member _ (c .end .ensures) .0
 
 with-requires-2 : tie.Need-with-requires-2 Inv-loop μ-loop
 with-requires-2 c κs = c .before .before .before .before .before .lowest .ensures .small
 
 mul-waiting : tie.Need-mul-waiting Inv-loop μ-loop
-mul-waiting c = record { fits = omega (arith, c .before .before .awaited .ensures .0) }
+mul-waiting c = record { fits = omega (arith, end-member _ (c .before .before .end .ensures) .0) }
 
 element-write-waiting : tie.Need-element-write-waiting Inv-loop μ-loop
-element-write-waiting c = c .before .before .awaited .ensures .0
+element-write-waiting c = end-member _ (c .before .before .end .ensures) .0
 
 loop-less : tie.Need-loop-less Inv-loop μ-loop
 loop-less c =
@@ -74,7 +74,7 @@ loop-again c =
       λ j p. at .loop .inv .0 j (was out j p),
       λ n x g. ⊎-elim
           (λ w. rw (w .2, w .3) (parted-free (at .loop .inv .1 n x g) low out (all-done (record { before = c .before .before; if1 = w .0 })) (w .1 .ensures)))
-          (λ w. rw (w .4, w .5) (parted-held (at .loop .inv .1 n x g) low out (w .1 .ensures .0) (one-left (read .fits) d _ (w .1 .ensures .1)) (w .3 .ensures)))
+          (λ w. rw (w .4, w .5) (parted-held (at .loop .inv .1 n x g) low out (end-member _ (w .1 .ensures) .0) (one-left (read .fits) d _ (end-member _ (w .1 .ensures) .1)) (w .3 .ensures)))
           (c .before .if1 .came),
     )
 
@@ -93,7 +93,7 @@ release-spec =
     shared-slice-read-mask
     (λ c κs. search needs)
     with-requires
-    awaited-requires
+    end-requires
     mul-with
     element-copy-out-with
     with-requires-2

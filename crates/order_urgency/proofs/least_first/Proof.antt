@@ -1,9 +1,11 @@
 use mathlib.Core.Path.{_≡_, refl, sym, ap, _∙_}
 use mathlib.Core.Bool.{true}
 use Prim.Native.Nat.{ℕ, _≤_, _<_}
+use native.Mathlib.Nat.{lt-of-le-of-lt}
 use native.Mathlib.Omega.{arith}
 use borrow.Author.Needs.{needs}
 use borrow.Author.Tests.{lt-ltb, ltb-true}
+use lib.Bits.{and-le-l}
 use lib.ListN.{getD}
 use Rattle.rules.specs.Image.{has}
 use Rattle.rules.proofs.Tests.{not-both}
@@ -11,6 +13,7 @@ use Rattle.sets.specs.Sets.{Below}
 use Rattle.sets.proofs.Bits.{has-empty}
 use Rattle.sets.proofs.Laws.{falls, was}
 use Rattle.order_urgency.specs.Spread.{Foremost}
+use Rattle.order_urgency.proofs.Handing.{handed-each}
 use Rattle.order_urgency.proofs.Turns.{Turns, turns-start, turn-of-least, front-more, turns-end}
 use Rattle.order_urgency.proofs.least_first.Statement.{statement}
 use Rattle.order_urgency.proofs.least_first.Tie as tie
@@ -56,25 +59,27 @@ shared-slice-read-mask : tie.Need-shared-slice-read-mask Inv-loop μ-loop
 shared-slice-read-mask c =
     let turn = c .before .before in omega (arith, there turn, turn .before .before .before .before .before .before .pre .1)
 
-hand-on-requires : tie.Need-hand-on-requires Inv-loop μ-loop
-hand-on-requires c κs = c .before .before .before .before .before .before .loop .inv .1 .long
+hand-each-requires : tie.Need-hand-each-requires Inv-loop μ-loop
+hand-each-requires c κs = c .before .before .before .before .before .before .before .loop .inv .1 .long
 
 without-requires : tie.Need-without-requires Inv-loop μ-loop
-without-requires c κs = there-small (c .before .before .before .before)
+without-requires c κs = there-small (c .before .before)
 
 loop-less : tie.Need-loop-less Inv-loop μ-loop
-loop-less c = falls (c .without .ensures) (chosen (c .before .before .before .before .before) .0)
+loop-less c = falls (c .before .before .without .ensures) (chosen (c .before .before .before .before .before) .0)
 
 loop-again : tie.Need-loop-again Inv-loop μ-loop
 loop-again c =
-    let turn = c .before .before .before .before .before in
+    let out = c .before .before .without .ensures in
+    let read = c .before .before .before in
+    let turn = read .before .before in
     let at = turn .before .before .before in
     let few = at .before .before .before .pre .0 in
     let inv = at .loop .inv in
-    let handed = c .before .hand-on .ensures in (
-      λ a p. inv .0 a (was (c .without .ensures) a p),
-      turn-of-least _ _ _ few (inv .0) (chosen turn) (c .without .ensures) handed (inv .1),
-      front-more _ (λ a p. omega (arith, few, inv .0 a p)) (chosen turn) (c .without .ensures) handed (at .loop .front) (inv .2),
+    let fits = lt-of-le-of-lt (and-le-l _ (c .before .before .without .result)) (read .shared-slice-known2 .given (turn .foremost .result) .fits) in (
+      λ a p. inv .0 a (was out a p),
+      turn-of-least _ _ _ few (inv .0) (chosen turn) out (handed-each _ _ _ fits (c .hand-each .ensures)) (inv .1),
+      front-more _ (λ a p. omega (arith, few, inv .0 a p)) (chosen turn) out (c .hand-each .ensures) (at .loop .front) (inv .2),
     )
 
 returns : tie.Need-returns Inv-loop μ-loop
@@ -95,8 +100,8 @@ least-first-spec =
     element-copy-out-x
     mul-mask
     shared-slice-read-mask
-    hand-on-requires
     without-requires
+    hand-each-requires
     loop-less
     loop-again
     returns)
