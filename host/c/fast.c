@@ -134,45 +134,76 @@ static inline uint32_t take_lowest(uint64_t *set) {
 
 static inline uint32_t highest(uint64_t set) { return 63u - (uint32_t)__builtin_clzll(set); }
 
-/* Ascending (Shell's way: short, and quick for so few). */
-static void sort_keys(uint64_t *keys, uint32_t n) {
-    static const uint32_t gaps[] = {23, 10, 4, 1};
-    for (uint32_t g = 0; g < 4; g++) {
-        uint32_t gap = gaps[g];
-        for (uint32_t i = gap; i < n; i++) {
-            uint64_t key = keys[i];
-            uint32_t at = i;
-            for (; at >= gap && keys[at - gap] > key; at -= gap) keys[at] = keys[at - gap];
-            keys[at] = key;
+/* The actions in a line, each after its predecessors; false where there is a loop. From an action back to one before it that has no place yet, and
+ * on; where none is left the action takes the next place, and it goes back to the one it came from. */
+static bool line_up(const actions *of, uint32_t n, uint8_t *line) {
+    uint8_t path[64];
+    uint64_t left = present(n);
+    uint32_t depth = 0, placed = 0, a = 0;
+    path[0] = 0;
+    while (left) {
+        uint64_t before = of->masks[a] & left;
+        if (before) {
+            if (++depth == n) return false;
+            a = (uint32_t)__builtin_ctzll(before);
+            path[depth] = (uint8_t)a;
+        } else {
+            left &= ~(UINT64_C(1) << a);
+            line[placed++] = (uint8_t)a;
+            if (depth) {
+                a = path[--depth];
+            } else if (left) {
+                a = (uint32_t)__builtin_ctzll(left);
+                path[0] = (uint8_t)a;
+            }
         }
+    }
+    return true;
+}
+
+static inline uint32_t lesser(uint32_t a, uint32_t b) { return a < b ? a : b; }
+
+/* Hands an urgency on to a set of actions. Where there are many, those are passed over that come before one that has got it: at its turn it hands it
+ * on to them. */
+static inline void hand_on(const actions *of, uint64_t to, uint32_t handed, uint32_t *urgency) {
+    uint64_t pairs = to & to >> 1;
+    if (!(pairs & pairs >> 2)) {
+        while (to) {
+            uint32_t b = take_lowest(&to);
+            urgency[b] = lesser(handed, urgency[b]);
+        }
+        return;
+    }
+    while (to) {
+        uint32_t b = highest(to);
+        urgency[b] = lesser(handed, urgency[b]);
+        to &= ~(of->masks[b] | UINT64_C(1) << b);
+        if (!to) return;
+        b = (uint32_t)__builtin_ctzll(to);
+        urgency[b] = lesser(handed, urgency[b]);
+        to &= ~(of->masks[b] | UINT64_C(1) << b);
     }
 }
 
-/* The actions by urgency, then number. */
-static void rank_actions(const actions *of, uint32_t n, bool same_deadlines, uint8_t *by_rank) {
-    if (same_deadlines) {
-        for (uint32_t a = 0; a < n; a++) by_rank[a] = (uint8_t)a;
-        return;
+/* The urgency of each action, in one pass from the last of the line to the first; false where there is a loop. */
+static bool find_urgencies(const actions *of, uint32_t n, uint32_t *urgency) {
+    uint8_t line[64];
+    if (!line_up(of, n, line)) return false;
+    memcpy(urgency, of->deadlines, sizeof of->deadlines);
+    for (uint32_t k = n; k-- > 0;) hand_on(of, of->masks[line[k]], urgency[line[k]], urgency);
+    return true;
+}
+
+/* Takes the least urgent out of a set that has a member, of several the lowest. */
+static inline uint32_t take_least(uint64_t *set, const uint32_t *urgency) {
+    uint64_t rest = *set;
+    uint32_t least = take_lowest(&rest);
+    while (rest) {
+        uint32_t a = take_lowest(&rest);
+        if (urgency[a] < urgency[least]) least = a;
     }
-    uint64_t keys[64];
-    for (uint32_t a = 0; a < n; a++) keys[a] = (uint64_t)of->deadlines[a] << 6 | a;
-    sort_keys(keys, n);
-    /* Deadlines from the least up: those of one deadline and all before them that have no lesser one. */
-    uint64_t left = present(n);
-    uint32_t at = 0, rank = 0;
-    while (left) {
-        uint64_t deadline = keys[at] >> 6, front = 0;
-        while (at < n && keys[at] >> 6 == deadline) front |= UINT64_C(1) << (keys[at++] & 63);
-        front &= left;
-        uint64_t group = front;
-        while (front) {
-            uint64_t new = of->masks[take_lowest(&front)] & left & ~group;
-            group |= new;
-            front |= new;
-        }
-        left &= ~group;
-        while (group) by_rank[rank++] = (uint8_t)take_lowest(&group);
-    }
+    *set &= ~(UINT64_C(1) << least);
+    return least;
 }
 
 /* The lowest action that must follow itself, where there is one: by all that comes before each, at any remove. */
@@ -187,24 +218,24 @@ static __attribute__((cold, noinline)) uint32_t lowest_on_a_loop(const actions *
     return lowest;
 }
 
-/* The order by urgency. An action that is not ready waits with one of its predecessors still to be done. */
+/* The order by urgency. An action that is not ready waits with one of its predecessors still to be done. Where all deadlines are one the lowest of the
+ * ready ones is next. */
 static uint32_t by_urgency(const actions *of, uint32_t n, bool same_deadlines, uint8_t *order) {
-    uint8_t by_rank[64], rank[64];
+    uint32_t urgency[64];
     uint64_t waiting[64] = {0}, ready = 0, done = 0;
-    rank_actions(of, n, same_deadlines, by_rank);
-    for (uint32_t place = 0; place < n; place++) rank[by_rank[place]] = (uint8_t)place;
+    if (!same_deadlines && !find_urgencies(of, n, urgency)) return LOOP;
     for (uint32_t a = 0; a < n; a++) {
         uint64_t mask = of->masks[a];
         if (mask)
             waiting[highest(mask)] |= UINT64_C(1) << a;
         else
-            ready |= UINT64_C(1) << rank[a];
+            ready |= UINT64_C(1) << a;
     }
     uint32_t clock = 0;
     bool unfit = false;
     for (uint32_t i = 0; i < n; i++) {
         if (!ready) return LOOP;
-        uint32_t action = by_rank[take_lowest(&ready)];
+        uint32_t action = same_deadlines ? take_lowest(&ready) : take_least(&ready, urgency);
         order[i] = (uint8_t)action;
         done |= UINT64_C(1) << action;
         clock += of->worst[action];
@@ -218,7 +249,7 @@ static uint32_t by_urgency(const actions *of, uint32_t n, bool same_deadlines, u
                 uint64_t turned = rest >> turn | rest << (-turn & 63);
                 waiting[((uint32_t)__builtin_ctzll(turned) + turn) % 64] |= UINT64_C(1) << a;
             } else {
-                ready |= UINT64_C(1) << rank[a];
+                ready |= UINT64_C(1) << a;
             }
         }
     }

@@ -3,7 +3,7 @@ use mathlib.Core.Path.{_≡_, refl, sym, ap, subst, _∙_}
 use mathlib.Core.Bool.{Bool, true, false, cond}
 use mathlib.Core.Logic.{_⊎_, inl, inr, _↔_}
 use mathlib.Core.List.{List}
-use Prim.Native.Nat.{ℕ, suc, _+_, _-_, _^_, _≤_, _<_, zero-le}
+use Prim.Native.Nat.{ℕ, suc, _+_, _-_, _≤_, _<_}
 use native.Mathlib.Nat.{le-refl}
 use native.Mathlib.Omega.{arith}
 use lib.Bits.{bitAnd}
@@ -19,7 +19,7 @@ use Rattle.rules.proofs.Order.Loops.{no-loop, round-loop}
 use Rattle.rules.proofs.Order.Stepwise.{Free, free-same, listed, listed-at, listed-ready}
 use Rattle.sets.specs.Sets.{members, Below, AllBelow, Lowest, Without, comes-before}
 use Rattle.sets.proofs.Bits.{has-empty, has-and}
-use Rattle.sets.proofs.Laws.{gone, kept, was, apart, or-gone}
+use Rattle.sets.proofs.Laws.{gone, kept, was}
 use Rattle.sets.proofs.Members.{members-none, members-all, members-without}
 use Rattle.sets.proofs.Cases.{lt-or-le, eq-or-ne}
 use Rattle.order_line.specs.Line.{InLine, Lined}

@@ -20,7 +20,7 @@ pub record HandedEach (test : ℕ → Bool) (x : ℕ) (u v : List ℕ) : Type 0 
   pub long : length v ≡ most-actions
   pub each : (b : ℕ) → b < most-actions → getD v b 0 ≡ lowered (test b) x (getD u b 0)
 
--- The urgency x has been given to b, one of the set t. Of t the set r has those that are still to get it: not b, and none that comes before b.
+-- The urgency x has been given to b. Of the set t the set r has those that are still to get it: not b, and none that comes before b.
 pub record Given (masks : List ℕ) (t b x : ℕ) (u v : List ℕ) (r : ℕ) : Type 0 where
   pub long : length v ≡ most-actions
   pub here : getD v b 0 ≡ min x (getD u b 0)

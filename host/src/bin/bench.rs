@@ -30,7 +30,12 @@ fn main() {
     let images = [("encoder", encoder()), ("chain", chain()), ("graph", graph())];
     if std::env::args().nth(1).as_deref() != Some("bodies") {
         for (name, image) in &images {
-            table(&sides, name, [POLICY_2008, POLICY_2005].map(|policy| Bench::new(image, policy)));
+            table(&sides, name, image, &CALLS.map(|(call, _)| call));
+        }
+        for (name, image) in
+            [("full graph, numbers against the order", full()), ("chain, numbers against the order", backward())]
+        {
+            table(&sides, name, &image, &ORDERED);
         }
         frame(&sides);
         recordings(&sides, &images[1..]);
@@ -46,7 +51,8 @@ fn main() {
 type Sides<'a> = [(&'static str, &'a dyn Calls); 3];
 
 /// The figures of one image, planned by 2008; of the calls that plan and decide, those by 2005 beside them.
-fn table(sides: &Sides, name: &str, [bench, apart]: [Bench; 2]) {
+fn table(sides: &Sides, name: &str, image: &[u8], calls: &[&str]) {
+    let [bench, apart] = [POLICY_2008, POLICY_2005].map(|policy| Bench::new(image, policy));
     let Counts { n, levels, .. } = bench.counts;
     println!(
         "\n### {name}: n = {n}, L = {levels}, {} bytes, {} decisions in the cycle, by 2005 {}\n",
@@ -55,7 +61,7 @@ fn table(sides: &Sides, name: &str, [bench, apart]: [Bench; 2]) {
         apart.decisions
     );
     println!("| call | product | Rust | C | ratio |\n|---|---|---|---|---|");
-    for (call, run) in CALLS {
+    for (call, run) in CALLS.into_iter().filter(|(call, _)| calls.contains(call)) {
         let by = if call.ends_with("an action") { n as f64 } else { 1.0 };
         let row = |words: &str, bench: &Bench| {
             let [product, rust, c] = measure(sides, |calls| run(bench, calls)).map(|median| median / by);
@@ -256,6 +262,9 @@ fn room() -> &'static mut Room {
     unsafe { &mut *std::ptr::addr_of_mut!(ROOM) }
 }
 
+/// Those that are timed where the numbers run against the order.
+const ORDERED: [&str; 3] = ["check", "write", "plan"];
+
 /// Those that a policy is told, and those that read its tables.
 const BY_POLICY: [&str; 3] = ["plan", "ask + report, an action", "dry frame"];
 
@@ -414,6 +423,21 @@ fn graph() -> Vec<u8> {
             }
         }
     }
+    drawn_deadlines(sketch, &mut draw)
+}
+
+/// Each action after all that have a higher number.
+fn full() -> Vec<u8> {
+    drawn_deadlines(Sketch { masks: (0..64).map(|a| u64::MAX << a << 1).collect(), ..times() }, &mut Draw::new(66))
+}
+
+/// Each action after the one that has the next number.
+fn backward() -> Vec<u8> {
+    drawn_deadlines(Sketch { masks: (0..64).map(|a| 1 << a << 1).collect(), ..times() }, &mut Draw::new(66))
+}
+
+/// All deadlines different, and every order meets them at level 0.
+fn drawn_deadlines(mut sketch: Sketch, draw: &mut Draw) -> Vec<u8> {
     let least = sketch.cycle / 6;
     sketch.deadlines = (0..64).map(|_| draw.between(least, sketch.cycle)).collect();
     sketch.image()

@@ -36,43 +36,83 @@ const BY_NUMBER: [u8; 64] = {
     numbers
 };
 
-/// The actions by urgency, then number.
-fn ranked(actions: &Actions, n: usize) -> [u8; 64] {
-    let deadlines = &actions.deadlines[..n];
-    if deadlines.iter().all(|&deadline| deadline == deadlines[0]) {
-        return BY_NUMBER;
-    }
-    let mut ranked = [0; 64];
-    let mut keys = [0u64; 64];
-    for (a, (key, &deadline)) in keys.iter_mut().zip(deadlines).enumerate() {
-        *key = u64::from(deadline) << 6 | a as u64;
-    }
-    let keys = &mut keys[..n];
-    keys.sort_unstable();
-    // Deadlines from the least up: those of one deadline and all before them that have no lesser one.
+/// The actions in a line, each after its predecessors; none where there is a loop. From an action back to one before it that has no place
+/// yet, and on; where none is left the action takes the next place, and it goes back to the one it came from.
+fn line_up(masks: &[u64; 64], n: usize) -> Option<[u8; 64]> {
+    let (mut line, mut path) = ([0; 64], [0u8; 64]);
     let mut left = u64::MAX >> (64 - n);
-    let (mut at, mut rank) = (0, 0);
+    let (mut depth, mut placed, mut a) = (0, 0, 0);
     while left != 0 {
-        let deadline = keys[at] >> 6;
-        let mut front = 0;
-        while at < n && keys[at] >> 6 == deadline {
-            front |= 1 << (keys[at] & 63);
-            at += 1;
-        }
-        front &= left;
-        let mut group = front;
-        while front != 0 {
-            let new = actions.masks[take_lowest(&mut front)] & left & !group;
-            group |= new;
-            front |= new;
-        }
-        left &= !group;
-        while group != 0 {
-            ranked[rank] = take_lowest(&mut group) as u8;
-            rank += 1;
+        let before = masks[a] & left;
+        if before != 0 {
+            depth += 1;
+            if depth == n {
+                return None;
+            }
+            a = before.trailing_zeros() as usize;
+            path[depth & 63] = a as u8;
+        } else {
+            left &= !(1 << a);
+            line[placed & 63] = a as u8;
+            placed += 1;
+            if depth != 0 {
+                depth -= 1;
+                a = path[depth & 63] as usize & 63;
+            } else if left != 0 {
+                a = left.trailing_zeros() as usize;
+                path[0] = a as u8;
+            }
         }
     }
-    ranked
+    Some(line)
+}
+
+/// Hands an urgency on to a set of actions. Where there are many, those are passed over that come before one that has got it: at its turn it
+/// hands it on to them.
+fn hand_on(masks: &[u64; 64], mut to: u64, handed: u32, urgency: &mut [u32; 64]) {
+    let pairs = to & to >> 1;
+    if pairs & pairs >> 2 == 0 {
+        while to != 0 {
+            let before = &mut urgency[take_lowest(&mut to)];
+            *before = handed.min(*before);
+        }
+        return;
+    }
+    let mut give = |a: usize, to: u64| {
+        urgency[a] = handed.min(urgency[a]);
+        to & !(masks[a] | 1 << a)
+    };
+    while to != 0 {
+        to = give(to.ilog2() as usize, to);
+        if to != 0 {
+            to = give(to.trailing_zeros() as usize, to);
+        }
+    }
+}
+
+/// The urgency of each action, in one pass from the last of the line to the first; none where there is a loop.
+fn urgencies(actions: &Actions, n: usize) -> Option<[u32; 64]> {
+    let line = line_up(&actions.masks, n)?;
+    let mut urgency = actions.deadlines;
+    for &a in line[..n].iter().rev() {
+        let a = a as usize & 63;
+        hand_on(&actions.masks, actions.masks[a], urgency[a], &mut urgency);
+    }
+    Some(urgency)
+}
+
+/// Takes the least urgent out of a set that has a member, of several the lowest.
+fn take_least(set: &mut u64, urgency: &[u32; 64]) -> usize {
+    let mut rest = *set;
+    let mut least = take_lowest(&mut rest);
+    while rest != 0 {
+        let a = take_lowest(&mut rest);
+        if urgency[a] < urgency[least] {
+            least = a;
+        }
+    }
+    *set &= !(1 << least);
+    least
 }
 
 /// Whether the order is that of the numbers: all deadlines are the same and every predecessor has a lower number.
@@ -119,18 +159,17 @@ fn lowest_on_a_loop(masks: &[u64]) -> usize {
     (0..64).find(|&a| before[a] >> a & 1 == 1).expect("a loop")
 }
 
-/// Each action that is not ready waits with one of its predecessors still to be done; with a loop some wait for ever.
+/// Each action that is not ready waits with one of its predecessors still to be done; with a loop some wait for ever. Where all deadlines
+/// are one the lowest of the ready ones is next.
 fn by_urgency(actions: &Actions, n: usize) -> Option<(Arranged, bool)> {
-    let by_rank = ranked(actions, n);
-    let mut rank = [0u8; 64];
-    for (place, &a) in by_rank[..n].iter().enumerate() {
-        rank[a as usize & 63] = place as u8;
-    }
+    let (masks, deadlines) = (&actions.masks[..n], &actions.deadlines[..n]);
+    let same = deadlines.iter().all(|&deadline| deadline == deadlines[0]);
+    let urgency = if same { [0; 64] } else { urgencies(actions, n)? };
     let mut waiting = [0u64; 64];
     let (mut ready, mut done) = (0u64, 0u64);
-    for (a, &mask) in actions.masks[..n].iter().enumerate() {
+    for (a, &mask) in masks.iter().enumerate() {
         if mask == 0 {
-            ready |= 1 << rank[a];
+            ready |= 1 << a;
         } else {
             waiting[mask.ilog2() as usize] |= 1 << a;
         }
@@ -141,7 +180,7 @@ fn by_urgency(actions: &Actions, n: usize) -> Option<(Arranged, bool)> {
         if ready == 0 {
             return None;
         }
-        let action = by_rank[take_lowest(&mut ready)] as usize & 63;
+        let action = if same { take_lowest(&mut ready) } else { take_least(&mut ready, &urgency) };
         *place = action as u8;
         done |= 1 << action;
         clock += actions.worst[action];
@@ -151,7 +190,7 @@ fn by_urgency(actions: &Actions, n: usize) -> Option<(Arranged, bool)> {
             let a = take_lowest(&mut freed);
             let rest = actions.masks[a] & !done;
             if rest == 0 {
-                ready |= 1 << rank[a];
+                ready |= 1 << a;
             } else {
                 // Any will do; one that changes from step to step is seldom the next again.
                 let turn = i * 29 % 64;

@@ -1,4 +1,3 @@
-use mathlib.Core.Path.{_≡_}
 use borrow.Author.Needs.{needs}
 use Rattle.rules.proofs.Tests.{not-both}
 use Rattle.sets.proofs.end.Statement.{statement}
