@@ -6,16 +6,13 @@ use mathlib.Core.Logic.{_↔_, _≢_}
 use mathlib.Core.List.{List, [], _∷_}
 use lib.ListN.{replicate}
 use Rattle.rules.specs.Numbers.{most-actions, refused-loop, refused-unfit}
-use Rattle.rules.specs.Image.{Profile, due}
+use Rattle.rules.specs.Image.{Profile}
 use Rattle.rules.specs.Order.{Order, TheOrder, Fit}
 use Rattle.rules.specs.Refusals.{Ground, _when_, _blames_below_, Refuses, LoopFault, Looped, Unfit}
 use Rattle.rules.specs.declared.Fault.{Fault}
 use Rattle.sets.specs.Sets.{Below}
+use Rattle.order_urgency.specs.Spread.{OneDeadline}
 use Rattle.order.specs.Arranged.{Lists, ZeroFrom}
-
--- all deadlines are one
-abbrev pub OneDeadline : Profile → Type 0
-OneDeadline F = (a b : ℕ) → a < F .n → b < F .n → due F a ≡ due F b
 
 -- All deadlines are one, and each mask names lower numbers alone.
 pub record ByNumber (F : Profile) : Type 0 where

@@ -6,6 +6,7 @@ use order_line::numbers;
 use order_loops::first_looped;
 use order_urgency::due;
 use order_urgency::next;
+use order_urgency::one_deadline;
 use order_urgency::urgencies;
 use rules::Fault;
 use sets::above_lowest;
@@ -27,7 +28,7 @@ ghost use Rattle.rules.specs.Order.{Loop};
 ghost use Rattle.sets.specs.Sets.{Below, comes-before};
 ghost use Rattle.order.specs.Lent.{lent-profile, Masked, Timed};
 ghost use Rattle.order.specs.Arranged.{Parted, Placed};
-ghost use Rattle.order.specs.Judged.{OneDeadline, ByNumber, Ordered, TellsFit, Verdict};
+ghost use Rattle.order.specs.Judged.{ByNumber, Ordered, TellsFit, Verdict};
 
 // ---- order
 
@@ -77,31 +78,13 @@ fn arrange(masks: &[u64], urgency: &[u32; 64], n: usize) -> [u8; 64]
 
 // ---- order of the numbers
 
-// Whether all deadlines are one.
-fn one_deadline(deadlines: &[u32], cycle: u32, n: usize) -> bool
-    requires { ⌜ (n ≤ most-actions) × (n ≤ length (now deadlines)) ⌝ }
-    ensures { λ r. ⌜ (r ≡ true) ↔ OneDeadline (lent-profile n cycle [] (now (deadlines .entry)) [] 0) ⌝ }
-{
-    if n == 0 {
-        return true;
-    }
-    let first = due(deadlines[0], cycle);
-    let mut other: u32 = 0;
-    let mut a: usize = 0;
-    while a < n {
-        other = other | (due(deadlines[a], cycle) ^ first);
-        a += 1;
-    }
-    other == 0
-}
-
 // Whether all deadlines are one and each mask names lower numbers alone. Then the order is that of the numbers.
 fn by_number(masks: &[u64], deadlines: &[u32], cycle: u32, n: usize) -> bool
     requires { ⌜ (n ≤ most-actions) × (n ≤ length (now masks)) × (n ≤ length (now deadlines)) ⌝ }
     ensures { λ r. ⌜ (r ≡ true) ↔ ByNumber (lent-profile n cycle (now (masks .entry)) (now (deadlines .entry)) [] 0) ⌝ }
 {
-    if lower_alone(masks, n) {
-        return one_deadline(deadlines, cycle, n);
+    if one_deadline(deadlines, cycle, n) {
+        return lower_alone(masks, n);
     }
     false
 }

@@ -1,3 +1,4 @@
+pub mod One
 pub mod Handing
 pub mod Apart
 pub mod Picking

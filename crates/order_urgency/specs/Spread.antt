@@ -11,6 +11,10 @@ use Rattle.rules.specs.Image.{Profile, has, due}
 use Rattle.rules.specs.Order.{Urgency, Before}
 use Rattle.sets.specs.Sets.{Without, comes-before}
 
+-- all deadlines are one
+abbrev pub OneDeadline : Profile → Type 0
+OneDeadline F = (a b : ℕ) → a < F .n → b < F .n → due F a ≡ due F b
+
 -- q, or p where that is less and the test passes
 abbrev pub lowered : Bool → ℕ → ℕ → ℕ
 lowered test p q = cond test (min p q) q

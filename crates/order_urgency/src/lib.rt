@@ -20,7 +20,7 @@ ghost use Rattle.rules.specs.Order.{Loop};
 ghost use Rattle.sets.specs.Sets.{Below, comes-before};
 ghost use Rattle.order_line.specs.Line.{InLine};
 ghost use Rattle.order_urgency.specs.Lent.{lent-profile};
-ghost use Rattle.order_urgency.specs.Spread.{HandedEach, Given, HandedOn, NextIn, Foremost, Spread, Urgent};
+ghost use Rattle.order_urgency.specs.Spread.{OneDeadline, HandedEach, Given, HandedOn, NextIn, Foremost, Spread, Urgent};
 
 // A deadline as it counts.
 pub fn due(deadline: u32, cycle: u32) -> u32
@@ -42,6 +42,24 @@ fn dues(deadlines: &[u32], cycle: u32, n: usize) -> [u32; 64]
         a += 1;
     }
     u
+}
+
+// Whether all deadlines are one.
+pub fn one_deadline(deadlines: &[u32], cycle: u32, n: usize) -> bool
+    requires { ⌜ (n ≤ most-actions) × (n ≤ length (now deadlines)) ⌝ }
+    ensures { λ r. ⌜ (r ≡ true) ↔ OneDeadline (lent-profile n cycle [] (now (deadlines .entry)) [] 0) ⌝ }
+{
+    if n == 0 {
+        return true;
+    }
+    let first = due(deadlines[0], cycle);
+    let mut other: u32 = 0;
+    let mut a: usize = 0;
+    while a < n {
+        other = other | (due(deadlines[a], cycle) ^ first);
+        a += 1;
+    }
+    other == 0
 }
 
 // ---- handing on
@@ -169,7 +187,7 @@ pub struct Pass {
     pub urgency: [u32; 64],
 }
 
-// Each action has its turn once.
+// Each action has its turn once, unless all deadlines are one: then that is the urgency of all.
 pub fn urgencies(masks: &[u64], deadlines: &[u32], cycle: u32, n: usize) -> Pass
     requires { ⌜ (n ≤ most-actions) × (n ≤ length (now masks)) × (n ≤ length (now deadlines)) ⌝ }
     ensures looped { λ r. ⌜ (r .looped ≡ true) ↔ Loop n (comes-before (now (masks .entry))) ⌝ }
@@ -178,6 +196,9 @@ pub fn urgencies(masks: &[u64], deadlines: &[u32], cycle: u32, n: usize) -> Pass
     let line = line_up(masks, n);
     let mut urgency = dues(deadlines, cycle, n);
     let looped = line.looped;
+    if one_deadline(deadlines, cycle, n) {
+        return Pass { looped, urgency };
+    }
     if looped {
         least_first(masks, n, &mut urgency);
     } else {

@@ -8,11 +8,12 @@ use Rattle.order.proofs.by_number.Tie as tie
 returns : tie.Need-returns
 unfolding due
 returns c =
-    let lower = c .before .before .lower-alone .ensures .0 (c .before .if1 .taken) in
-    (λ e. record { one = c .one-deadline .ensures .0 e; lower = lower }, λ x. c .one-deadline .ensures .1 (x .one))
+    let one = c .before .before .one-deadline .ensures .0 (c .before .if1 .taken) in
+    (λ e. record { one = one; lower = c .lower-alone .ensures .0 e }, λ x. c .lower-alone .ensures .1 (x .lower))
 
 returns-2 : tie.Need-returns-2
-returns-2 c = (λ e. absurd (not-both e refl), λ x. absurd (not-both (c .before .lower-alone .ensures .1 (x .lower)) (c .if1 .left)))
+unfolding due
+returns-2 c = (λ e. absurd (not-both e refl), λ x. absurd (not-both (c .before .one-deadline .ensures .1 (x .one)) (c .if1 .left)))
 
 pub by-number-spec : {M : Type 1} → statement M
 by-number-spec =

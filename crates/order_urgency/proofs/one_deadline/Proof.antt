@@ -5,10 +5,10 @@ use native.Mathlib.Omega.{arith}
 use borrow.Author.Needs.{needs}
 use Rattle.rules.specs.Image.{Profile, due}
 use Rattle.order_line.proofs.Numbering.{Tested, tested-none, tested-more}
-use Rattle.order.specs.Lent.{lent-profile}
-use Rattle.order.proofs.Numbering.{same-exact, one-none, one-end}
-use Rattle.order.proofs.one_deadline.Statement.{statement}
-use Rattle.order.proofs.one_deadline.Tie as tie
+use Rattle.order_urgency.specs.Lent.{lent-profile}
+use Rattle.order_urgency.proofs.One.{same-exact, one-none, one-end}
+use Rattle.order_urgency.proofs.one_deadline.Statement.{statement}
+use Rattle.order_urgency.proofs.one_deadline.Tie as tie
 
 abbrev Inv-loop : tie.InvT-loop
 Inv-loop deadlines cycle n first other₀ a₀ other a = (a ≤ n) × Tested (λ b. due (lent-profile n cycle [] deadlines [] 0) b ≡ first) a other
