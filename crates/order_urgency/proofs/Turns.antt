@@ -1,5 +1,5 @@
 -- The actions have their turns one by one. What an action has at its turn stays its urgency.
-use mathlib.Core.Path.{_≡_, refl, sym, ap, subst, _∙_}
+use mathlib.Core.Path.{_≡_, sym, ap, subst, _∙_}
 use mathlib.Core.Bool.{Bool, true}
 use mathlib.Core.Logic.{_⊎_, inl, inr}
 use mathlib.Core.List.{List, []}
@@ -67,16 +67,14 @@ module _ (n : ℕ) (masks : List ℕ) (D : ℕ → ℕ) where
     still : (b : ℕ) → b < n → (Left′ b → ⊥) → getD v b 0 ≡ getD u b 0
     still b l had = elim (x .each b (small b l)) [ inl e ↦ e | inr e ↦ absurd (had (of-to b (e .0) .2)) ]
 
-    had-turn : Left′ a → ⊥
-    had-turn y = fewer a y .1 refl
-
-    -- where b had its turn too
+    -- what comes before a and had its turn
     before-turn : (b : ℕ) → b < n → comes-before masks b a → (Left′ b → ⊥) → getD v b 0 ≤ getD u a 0
     before-turn b l e had = elim (eq-or-ne a b) [
       | inl q ↦ omega (arith, still b l had, ap (λ (i : ℕ). getD u i 0) q)
       | inr ne ↦ omega (arith, still b l had, turns .ahead b a a l present present e (λ y. had (rest b l y ne)) here here)
     ]
 
+    -- all that comes before a
     reached-a : (b y : ℕ) → b < n → comes-before masks b a → getD u a 0 ≤ y → Reached Left′ v b y
     reached-a b y l e k = elim (true-or-false (has to b)) [
       | inl p ↦ elim (x .got b p) [
