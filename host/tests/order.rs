@@ -2,7 +2,7 @@
 
 mod common;
 
-use nyokazerubi_host::calls::{refused, Calls, Counts, Refused};
+use nyokazerubi_host::calls::{refused, Calls, Counts, Refused, POLICY_2008};
 use nyokazerubi_host::draw::{Draw, Size, Sketch};
 use nyokazerubi_host::product::Product;
 use nyokazerubi_host::reference::{Follows, Order, Profile};
@@ -210,4 +210,58 @@ fn drawn_loops() {
         met.iter().sum::<usize>()
     );
     assert!(different > 30 && before > 300 && after > 300);
+}
+
+/// Lines of up to 64 actions by their numbers, against them and mixed: full graphs, chains and graphs with gaps, their deadlines one, rising and falling
+/// along the line and drawn. The order on all sides is that of the definitions; with a step from the last action back to the first it is 8.
+#[test]
+fn lines_and_numbers() {
+    let (mut draw, sides) = (Draw::new(66), common::sides());
+    for n in [1, 2, 3, 4, 5, 6, 8, 33, 63, 64usize] {
+        let mixed: Vec<usize> =
+            (0..n).map(|place| if place % 2 == 0 { place / 2 } else { n - 1 - place / 2 }).collect();
+        for line in [(0..n).collect(), (0..n).rev().collect(), mixed] {
+            for shape in 0..4 {
+                for deadlines in 0..4 {
+                    let profile = lined(&mut draw, &line, shape, deadlines);
+                    confirm_order(&sides, &profile);
+                    let mut around = profile;
+                    around.masks[line[0]] |= 1 << line[n - 1];
+                    confirm_refused(&sides, &around);
+                }
+            }
+        }
+    }
+}
+
+/// One level, each action of time 1, in a cycle that all deadlines leave time for.
+fn lined(draw: &mut Draw, line: &[usize], shape: usize, kind: usize) -> Profile {
+    let n = line.len();
+    let (mut masks, mut deadlines) = (vec![0; n], vec![0; n]);
+    for (place, &a) in line.iter().enumerate() {
+        for (earlier, &b) in line[..place].iter().enumerate() {
+            let after = [true, earlier + 1 == place, (place - earlier) % 3 == 1, earlier + 5 > place][shape];
+            masks[a] |= u64::from(after) << b;
+        }
+        deadlines[a] = [0, n + place, 3 * n - place, draw.between(n as u32, 4 * n as u32) as usize][kind] as i64;
+    }
+    bare(masks, deadlines, &vec![1; n], 4 * n as i64)
+}
+
+fn confirm_order(sides: &[(&str, Box<dyn Calls>)], profile: &Profile) {
+    let (image, n) = (image(profile), profile.n);
+    let wanted: Vec<u8> = Order::by_urgency(profile).0.iter().map(|&a| a as u8).collect();
+    for (name, calls) in sides {
+        let (mut order, mut limits, mut worst, mut bounds) = (vec![0; n], vec![0; n], vec![0; n], vec![0; 16 * n]);
+        let planned = calls.plan(&image, POLICY_2008, &mut order, &mut limits, &mut worst, &mut bounds);
+        assert!(planned.is_ok() && order == wanted, "{name}: {order:?} for {wanted:?}, {profile:?}");
+    }
+}
+
+fn confirm_refused(sides: &[(&str, Box<dyn Calls>)], profile: &Profile) {
+    let wanted = loop_refusal(&profile.masks);
+    assert!(wanted.is_some(), "a loop: {profile:?}");
+    for (name, calls) in sides {
+        assert_eq!(calls.check(&image(profile)).err(), wanted, "{name}: {profile:?}");
+    }
 }
