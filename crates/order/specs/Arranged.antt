@@ -1,5 +1,5 @@
 -- The actions in order, by 64-bit sets: done has the actions done so far.
-use Prim.Native.Nat.{ℕ, _<_}
+use Prim.Native.Nat.{ℕ, _≤_, _<_}
 use mathlib.Core.Path.{_≡_}
 use mathlib.Core.Bool.{true, false}
 use mathlib.Core.Logic.{_⊎_}
@@ -9,7 +9,7 @@ use Rattle.rules.specs.Numbers.{most-actions}
 use Rattle.rules.specs.Image.{has}
 use Rattle.rules.specs.Order.{Order, ByUrgency}
 use Rattle.sets.specs.Sets.{Subset, comes-before}
-pub use Rattle.order_line.specs.Line.{ZeroFrom, Lists}
+pub use Rattle.order_line.specs.Line.{Lists}
 
 -- Action a is ready: it is not done yet, and all its predecessors are.
 pub record ReadyIn (n : ℕ) (masks : List ℕ) (done a : ℕ) : Type 0 where
@@ -33,6 +33,10 @@ pub record Parted (n : ℕ) (masks : List ℕ) (done free t : ℕ) (w : List ℕ
   pub waiting : (b a : ℕ) → has done b ≡ false → has (getD w b 0) a ≡ true → WaitsWith n masks done b a
   pub each : (a : ℕ) → a < n → has done a ≡ false → has t a ≡ false
       → (has free a ≡ true) ⊎ ((b : ℕ) × (has done b ≡ false) × (has (getD w b 0) a ≡ true))
+
+-- the list has 0 after n of its entries
+abbrev pub ZeroFrom : ℕ → List ℕ → Type 0
+ZeroFrom n l = (k : ℕ) → n ≤ k → getD l k 0 ≡ 0
 
 -- The list has the actions in order by the urgencies u, and then 0.
 pub record Placed (n : ℕ) (masks u l : List ℕ) : Type 0 where

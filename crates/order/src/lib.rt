@@ -2,7 +2,7 @@
 // A deadline of 0 stands for the cycle.
 
 use order_line::lower_alone;
-use order_line::numbers;
+use order_line::number;
 use order_loops::first_looped;
 use order_urgency::due;
 use order_urgency::next;
@@ -101,20 +101,20 @@ fn ordered(masks: &[u64], deadlines: &[u32], cycle: u32, n: usize) -> Arranged
     ensures { λ r. ⌜ Ordered (lent-profile n cycle (now (masks .entry)) (now (deadlines .entry)) [] 0) (r .looped) (r .order) ⌝ }
 {
     if by_number(masks, deadlines, cycle, n) {
-        let order = numbers(n);
+        let mut order = [0u8; 64];
+        number(n, &mut order);
         return Arranged {
             looped: false,
             order,
         };
     }
-    let pass = urgencies(masks, deadlines, cycle, n);
-    if pass.looped {
+    let mut urgency = [0u32; 64];
+    if urgencies(masks, deadlines, cycle, n, &mut urgency) {
         return Arranged {
             looped: true,
             order: [0u8; 64],
         };
     }
-    let urgency = pass.urgency;
     let order = arrange(masks, &urgency, n);
     Arranged {
         looped: false,

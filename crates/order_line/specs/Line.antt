@@ -1,5 +1,5 @@
 -- The actions in a line, each after its predecessors.
-use Prim.Native.Nat.{ℕ, _≤_, _<_}
+use Prim.Native.Nat.{ℕ, _<_}
 use mathlib.Core.Path.{_≡_}
 use mathlib.Core.Bool.{Bool, true, false}
 use mathlib.Core.List.{List}
@@ -10,10 +10,6 @@ use Rattle.sets.specs.Sets.{Below, comes-before}
 -- each mask names lower numbers alone
 abbrev pub LowerAlone : ℕ → List ℕ → Type 0
 LowerAlone n masks = (a : ℕ) → a < n → Below (getD masks a 0) a
-
--- the list has 0 after n of its entries
-abbrev pub ZeroFrom : ℕ → List ℕ → Type 0
-ZeroFrom n l = (k : ℕ) → n ≤ k → getD l k 0 ≡ 0
 
 -- the list has the actions in the order o
 abbrev pub Lists : {n : ℕ} → List ℕ → Order n → Type 0

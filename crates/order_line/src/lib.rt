@@ -9,7 +9,7 @@ ghost use mathlib.Core.Logic.{_↔_};
 ghost use Prim.Native.Nat.{ℕ, _≤_, _<_};
 ghost use lib.ListN.{length, getD};
 ghost use Rattle.rules.specs.Numbers.{most-actions};
-ghost use Rattle.order_line.specs.Line.{LowerAlone, ZeroFrom, Lined};
+ghost use Rattle.order_line.specs.Line.{LowerAlone, Lined};
 
 // ---- by their numbers
 
@@ -27,37 +27,28 @@ pub fn lower_alone(masks: &[u64], n: usize) -> bool
     higher == 0
 }
 
-// The numbers below n in order, and then 0.
-pub fn numbers(n: usize) -> [u8; 64]
-    requires { ⌜ n ≤ most-actions ⌝ }
-    ensures { λ r. ⌜ ((k : ℕ) → k < n → getD r k 0 ≡ k) ⌝ }
-    ensures { λ r. ⌜ ZeroFrom n r ⌝ }
+// Puts the numbers below n in order, and keeps what comes after them.
+pub fn number(n: usize, at: &mut [u8; 64])
+    requires { ⌜ (n ≤ most-actions) × (length (now at) ≡ most-actions) ⌝ }
+    ensures { λ _. ⌜ ((k : ℕ) → k < n → getD (now (at .exit)) k 0 ≡ k) ⌝ }
+    ensures { λ _. ⌜ ((k : ℕ) → n ≤ k → getD (now (at .exit)) k 0 ≡ getD (now (at .entry)) k 0) ⌝ }
 {
-    let mut order = [0u8; 64];
     let mut k: usize = 0;
     while k < n {
-        order[k] = k as u8;
+        at[k] = k as u8;
         k += 1;
     }
-    order
 }
 
 // ---- by walks back
 
-// The action at each place of the line, unless there is a loop.
-pub struct Line {
-    pub looped: bool,
-    pub at: [u8; 64],
-}
-
 // A walk goes back, from an action to one of its predecessors that has no place yet. Where all have one, the action takes the next place
 // and the walk returns to where it came from; back at its beginning, the next walk begins at the lowest action that is left. So each
-// action is come to once. A walk of more than n actions comes twice to one of them, and goes round a loop.
-fn walk_back(masks: &[u64], n: usize) -> Line
-    requires { ⌜ (n ≤ most-actions) × (n ≤ length (now masks)) ⌝ }
-    ensures { λ r. ⌜ Lined n (now (masks .entry)) (r .looped) (r .at) ⌝ }
+// action is come to once. A walk of more than n actions comes twice to one of them, and goes round a loop. Answers whether one does.
+fn walk_back(masks: &[u64], n: usize, at: &mut [u8; 64]) -> bool
+    requires { ⌜ (n ≤ most-actions) × (n ≤ length (now masks)) × (length (now at) ≡ most-actions) ⌝ }
+    ensures { λ r. ⌜ Lined n (now (masks .entry)) r (now (at .exit)) ⌝ }
 {
-    let mut at = [0u8; 64];
     let mut path = [0u8; 64];
     let mut left = all_below(n);
     let mut depth: usize = 0;
@@ -69,7 +60,7 @@ fn walk_back(masks: &[u64], n: usize) -> Line
             a = lowest(before);
             depth += 1;
             if depth == n {
-                return Line { looped: true, at };
+                return true;
             }
             path[depth] = a as u8;
         } else {
@@ -87,17 +78,18 @@ fn walk_back(masks: &[u64], n: usize) -> Line
             }
         }
     }
-    Line { looped: false, at }
+    false
 }
 
-// Where each mask names lower numbers alone no walk goes back, and the line is that of the numbers.
-pub fn line_up(masks: &[u64], n: usize) -> Line
-    requires { ⌜ (n ≤ most-actions) × (n ≤ length (now masks)) ⌝ }
-    ensures { λ r. ⌜ Lined n (now (masks .entry)) (r .looped) (r .at) ⌝ }
+// The action at each place of the line, and whether there is a loop; then what stands there is of no use. Where each mask names lower
+// numbers alone no walk goes back, and the line is that of the numbers.
+pub fn line_up(masks: &[u64], n: usize, at: &mut [u8; 64]) -> bool
+    requires { ⌜ (n ≤ most-actions) × (n ≤ length (now masks)) × (length (now at) ≡ most-actions) ⌝ }
+    ensures { λ r. ⌜ Lined n (now (masks .entry)) r (now (at .exit)) ⌝ }
 {
     if lower_alone(masks, n) {
-        let at = numbers(n);
-        return Line { looped: false, at };
+        number(n, at);
+        return false;
     }
-    walk_back(masks, n)
+    walk_back(masks, n, at)
 }

@@ -30,18 +30,16 @@ pub fn due(deadline: u32, cycle: u32) -> u32
 }
 
 // The deadline of each action.
-fn dues(deadlines: &[u32], cycle: u32, n: usize) -> [u32; 64]
-    requires { ⌜ (n ≤ most-actions) × (n ≤ length (now deadlines)) ⌝ }
-    ensures long { λ r. ⌜ length r ≡ most-actions ⌝ }
-    ensures each { λ r. ⌜ ((a : ℕ) → a < n → getD r a 0 ≡ due (lent-profile n cycle [] (now (deadlines .entry)) [] 0) a) ⌝ }
+fn dues(deadlines: &[u32], cycle: u32, n: usize, u: &mut [u32; 64])
+    requires { ⌜ (n ≤ most-actions) × (n ≤ length (now deadlines)) × (length (now u) ≡ most-actions) ⌝ }
+    ensures long { λ _. ⌜ length (now (u .exit)) ≡ most-actions ⌝ }
+    ensures each { λ _. ⌜ ((a : ℕ) → a < n → getD (now (u .exit)) a 0 ≡ due (lent-profile n cycle [] (now (deadlines .entry)) [] 0) a) ⌝ }
 {
-    let mut u = [0u32; 64];
     let mut a: usize = 0;
     while a < n {
         u[a] = due(deadlines[a], cycle);
         a += 1;
     }
-    u
 }
 
 // Whether all deadlines are one.
@@ -181,29 +179,23 @@ fn least_first(masks: &[u64], n: usize, u: &mut [u32; 64])
     }
 }
 
-// The urgency of each action, and whether the masks contain a loop.
-pub struct Pass {
-    pub looped: bool,
-    pub urgency: [u32; 64],
-}
-
-// Each action has its turn once, unless all deadlines are one: then that is the urgency of all.
-pub fn urgencies(masks: &[u64], deadlines: &[u32], cycle: u32, n: usize) -> Pass
-    requires { ⌜ (n ≤ most-actions) × (n ≤ length (now masks)) × (n ≤ length (now deadlines)) ⌝ }
-    ensures looped { λ r. ⌜ (r .looped ≡ true) ↔ Loop n (comes-before (now (masks .entry))) ⌝ }
-    ensures urgent { λ r. ⌜ Urgent (lent-profile n cycle (now (masks .entry)) (now (deadlines .entry)) [] 0) (r .urgency) ⌝ }
+// The urgency of each action, and whether the masks contain a loop. Each action has its turn once, unless all deadlines are one: then that
+// is the urgency of all.
+pub fn urgencies(masks: &[u64], deadlines: &[u32], cycle: u32, n: usize, u: &mut [u32; 64]) -> bool
+    requires { ⌜ (n ≤ most-actions) × (n ≤ length (now masks)) × (n ≤ length (now deadlines)) × (length (now u) ≡ most-actions) ⌝ }
+    ensures looped { λ r. ⌜ (r ≡ true) ↔ Loop n (comes-before (now (masks .entry))) ⌝ }
+    ensures urgent { λ _. ⌜ Urgent (lent-profile n cycle (now (masks .entry)) (now (deadlines .entry)) [] 0) (now (u .exit)) ⌝ }
 {
-    let line = line_up(masks, n);
-    let mut urgency = dues(deadlines, cycle, n);
-    let looped = line.looped;
+    dues(deadlines, cycle, n, u);
+    let mut at = [0u8; 64];
+    let looped = line_up(masks, n, &mut at);
     if one_deadline(deadlines, cycle, n) {
-        return Pass { looped, urgency };
+        return looped;
     }
     if looped {
-        least_first(masks, n, &mut urgency);
+        least_first(masks, n, u);
     } else {
-        let order = line.at;
-        last_first(masks, &order, n, &mut urgency);
+        last_first(masks, &at, n, u);
     }
-    Pass { looped, urgency }
+    looped
 }

@@ -4,7 +4,9 @@ use Rattle.order_line.proofs.line_up.Statement.{statement}
 use Rattle.order_line.proofs.line_up.Tie as tie
 
 returns : tie.Need-returns
-returns c = lined-numbers (c .before .before .lower-alone .ensures .0 (c .before .if1 .taken)) (c .numbers .ensures .0)
+returns c =
+    let at = c .before .before in
+    lined-numbers (at .before .lower-alone .ensures .0 (at .if1 .taken)) (c .number .ensures .0)
 
 pub line-up-spec : {M : Type 1} → statement M
 line-up-spec =
@@ -14,4 +16,4 @@ line-up-spec =
     (λ c κs. search needs)
     returns
     (λ c κs. search needs)
-    (λ c. c .walk-back .ensures))
+    (λ c. search needs))

@@ -74,7 +74,7 @@ all-below-requires c κs = c .before .pre .0
 loop-holds : tie.Need-loop-holds Inv-loop μ-loop
 loop-holds c =
     let all = c .all-below .ensures in (
-      Walking.lining-start _ _ (c .before .before .pre .0) refl all,
+      Walking.lining-start _ _ (c .before .before .pre .0) (c .before .before .pre .2) all,
       refl,
       λ some. let more : 0 < c .before .before .args .n = some-action (all .is) some in
           Walking.walk-begins _ _ more refl (all .each 0 ∙ lt-ltb 0 _ more),
@@ -122,8 +122,8 @@ without-requires c κs = let turn = c .before .before in omega (arith, present t
 cast-at : tie.Need-cast-at Inv-loop μ-loop
 cast-at c = let turn = c .before .before .before in record { fits = omega (arith, present turn, few turn) }
 
-array-write-at : tie.Need-array-write-at Inv-loop μ-loop
-array-write-at c = place c
+element-write-at : tie.Need-element-write-at Inv-loop μ-loop
+element-write-at c = place c
 
 add-k : tie.Need-add-k Inv-loop μ-loop
 add-k c = record { fits = omega (arith, place c) }
@@ -199,7 +199,7 @@ walk-back-spec =
     loop-again
     without-requires
     cast-at
-    array-write-at
+    element-write-at
     add-k
     (λ c. search needs)
     array-read-a

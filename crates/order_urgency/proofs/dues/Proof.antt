@@ -1,4 +1,4 @@
-use mathlib.Core.Path.{_≡_, refl}
+use mathlib.Core.Path.{_≡_}
 use mathlib.Core.List.{[]}
 use Prim.Native.Nat.{_-_, _≤_}
 use native.Mathlib.Omega.{arith}
@@ -17,7 +17,7 @@ abbrev μ-loop : tie.MeasureT-loop
 μ-loop deadlines cycle n u₀ a₀ u a = n - a
 
 loop-holds : tie.Need-loop-holds Inv-loop μ-loop
-loop-holds c = (search needs, refl, λ j l. absurd (omega arith))
+loop-holds c = (omega arith, c .before .pre .2, λ j l. absurd (omega arith))
 
 mul-due : tie.Need-mul-due Inv-loop μ-loop
 mul-due c = record { fits = omega arith }
