@@ -17,6 +17,8 @@ HEAD = re.compile(r"^((?:pub |abbrev |unfoldable )*)(record|data)\s+(?:pub )?(" 
 MEMBER = re.compile(r"^\s+(?:pub )?(" + ID + r")\s+:(?:\s|$)")
 DEFINED = re.compile(r"^\s*((?:pub |abbrev |unfoldable )*)(" + ID + r")\s+(?:[({].*\s)?:(?:\s|$)")
 # made by Rattle, or answers by the name of a goal
+# spelled as those of the library, which the same files have
+AS_THE_LIBRARY = {"and-true", "or-true", "or-false", "not-true", "not-false"}
 MADE = {"invariant-loop", "decreases-loop", "Inv-loop", "μ-coast", "μ-decide", "μ-loop", "loop-check"}
 # words of the library that a lemma's name may join
 LIBRARY = set(
@@ -101,7 +103,7 @@ def table():
     for name in lemmas:
         if "-" in name.strip("-") and name not in turned and name not in MADE and name[0] != "-":
             turned[name] = dashed(name, known)
-    return {a: b for a, b in turned.items() if a != b}
+    return {a: b for a, b in turned.items() if a != b and a not in AS_THE_LIBRARY}
 
 
 def clashes(turned, texts):

@@ -11,7 +11,7 @@ use Rattle.rules.specs.Words.{cat}
 use Rattle.rules.specs.Image.{header, actions, levels, cycle, record_bytes, record_at, image_bytes, mask_of, deadline_of, average_of, worst_of, of_tables, header_of, level_image, record_image, image}
 use Rattle.rules.specs.Refusals.{First}
 use Rattle.rules.proofs.Differences.{not-above}
-use Rattle.rules.proofs.Tests.{pass, and_true}
+use Rattle.rules.proofs.Tests.{pass, and-true}
 use Rattle.fields.proofs.Bytes.{Bytes}
 use Rattle.fields.proofs.Holds.{whole}
 use Rattle.image_write.specs.Writing.{writing}
@@ -28,8 +28,8 @@ all_bytes (x ∷ xs) = ltb x 256 && all_bytes xs
 each_byte : (s : List ℕ) → all_bytes s ≡ true → Bytes s
 unfolding all_bytes
 each_byte [] h k = omega arith
-each_byte (x ∷ xs) h zero = ltb→lt x 256 (pass _ ((and_true (ltb x 256) (all_bytes xs)).0 h).0)
-each_byte (x ∷ xs) h (suc k) = each_byte xs ((and_true (ltb x 256) (all_bytes xs)).0 h).1 k
+each_byte (x ∷ xs) h zero = ltb→lt x 256 (pass _ ((and-true (ltb x 256) (all_bytes xs)).0 h).0)
+each_byte (x ∷ xs) h (suc k) = each_byte xs ((and-true (ltb x 256) (all_bytes xs)).0 h).1 k
 
 -- reading its image gives the tables back
 read : ReadFrom (image encoder) encoder_tables

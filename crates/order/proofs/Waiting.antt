@@ -8,9 +8,9 @@ use native.Mathlib.Omega.{arith}
 use lib.Bits.{bit_and}
 use lib.ListN.{get_or, set, length-set, replicate, length-replicate}
 use lib.Seq.{get_or-set_same, get_or-set_other}
-use borrow.Author.Tests.{ltb-true, lt-ltb, not_true, not_false}
+use borrow.Author.Tests.{ltb-true, lt-ltb, not-true, not-false}
 use Rattle.rules.specs.Image.{has}
-use Rattle.rules.proofs.Tests.{true_or_false, not-both, and_true}
+use Rattle.rules.proofs.Tests.{true_or_false, not-both, and-true}
 use Rattle.sets.specs.Sets.{Subset, AllBelow, Lowest, With, Without}
 use Rattle.sets.proofs.Bits.{has-empty}
 use Rattle.sets.proofs.Laws.{has-minus, added, stays, others, either, was, kept, apart, or-gone}
@@ -28,11 +28,11 @@ module _ {mask done : ℕ} (m : mask < 2 ^ 64) (d : done < 2 ^ 64) where
       all_done : bit_and mask ((2 ^ 64 - 1) - done) ≡ 0 → Subset mask done
       all_done e j p =
           let none : has (bit_and mask ((2 ^ 64 - 1) - done)) j ≡ false = ap (λ (s : ℕ). has s j) e ∙ has-empty j in
-          not_false (has done j) (sym (ap (λ (x : Bool). x && not (has done j)) p) ∙ sym (has-minus mask done j m d) ∙ none)
+          not-false (has done j) (sym (ap (λ (x : Bool). x && not (has done j)) p) ∙ sym (has-minus mask done j m d) ∙ none)
 
   -- one of them
   pub one_left : (b : ℕ) → has (bit_and mask ((2 ^ 64 - 1) - done)) b ≡ true → (has mask b ≡ true) × (has done b ≡ false)
-  one_left b h = let both = (and_true _ _).0 (sym (has-minus mask done b m d) ∙ h) in (both.0, not_true (has done b) both.1)
+  one_left b h = let both = (and-true _ _).0 (sym (has-minus mask done b m d) ∙ h) in (both.0, not-true (has done b) both.1)
 
 -- ---- at first all are to be looked at
 

@@ -12,7 +12,7 @@ use lib.ListN.{length, get_or, set, length-set}
 use borrow.Author.Tests.{lt-ltb, le-ltb, ltb-true}
 use Rattle.rules.specs.Image.{has}
 use Rattle.rules.specs.Order.{Loop}
-use Rattle.rules.proofs.Tests.{true_or_false, not-both, and_true}
+use Rattle.rules.proofs.Tests.{true_or_false, not-both, and-true}
 use Rattle.rules.proofs.Sums.{below_suc}
 use Rattle.rules.proofs.Order.Best.{ready_permitted}
 use Rattle.rules.proofs.Order.Loops.{no_loop, round_loop}
@@ -30,12 +30,12 @@ use Rattle.order_line.proofs.Growing.{Among, past, among_set, here, among_more}
 module _ (mask left : ℕ) where
   pub none_left : bit_and mask left ≡ 0 → (b : ℕ) → has mask b ≡ true → has left b ≡ false
   none_left e b m = elim (true_or_false (has left b)) [
-    | inl p ↦ absurd (not-both (has-and mask left b ∙ (and_true (has mask b) (has left b)).1 (m, p)) (ap (λ (s : ℕ). has s b) e ∙ has-empty b))
+    | inl p ↦ absurd (not-both (has-and mask left b ∙ (and-true (has mask b) (has left b)).1 (m, p)) (ap (λ (s : ℕ). has s b) e ∙ has-empty b))
     | inr p ↦ p
   ]
 
   pub one_left : {b : ℕ} → Lowest (bit_and mask left) b → (has mask b ≡ true) × (has left b ≡ true)
-  one_left {b} low = (and_true (has mask b) (has left b)).0 (sym (has-and mask left b) ∙ low.member)
+  one_left {b} low = (and-true (has mask b) (has left b)).0 (sym (has-and mask left b) ∙ low.member)
 
 module _ (n : ℕ) (masks : List ℕ) where
   -- an action that has its place

@@ -13,7 +13,7 @@ use lib.ListN.{length, get_or, set, length-set}
 use lib.Seq.{get_or-set_same, get_or-set_other}
 use Rattle.rules.specs.Image.{has}
 use Rattle.rules.specs.Order.{MustFollow}
-use Rattle.rules.proofs.Tests.{not-both, or_true}
+use Rattle.rules.proofs.Tests.{not-both, or-true}
 use Rattle.sets.specs.Sets.{comes_before}
 use Rattle.sets.proofs.Bits.{has-or}
 use Rattle.sets.proofs.Cases.{eq-or_ne}
@@ -54,11 +54,11 @@ module _ (masks : List ℕ) where
 
   row_in : {k b near far : ℕ} → Row masks k b near → Row masks k k far → has near k ≡ true → Row masks (suc k) b (bit_or near far)
   row_in {k} {b} {near} {far} r v h = record {
-    only = λ a p. elim ((or_true (has near a) (has far a)).0 (sym (has-or near far a) ∙ p)) [
+    only = λ a p. elim ((or-true (has near a) (has far a)).0 (sym (has-or near far a) ∙ p)) [
       | inl e ↦ more (r.only a e)
       | inr e ↦ via k (omega arith) (more (v.only a e)) (more (r.only k h))
     ];
-    each = λ a p. has-or near far a ∙ (or_true (has near a) (has far a)).1 (⊎_map (r.each a) (λ x. v.each a x.0) (split p));
+    each = λ a p. has-or near far a ∙ (or-true (has near a) (has far a)).1 (⊎_map (r.each a) (λ x. v.each a x.0) (split p));
   }
 
   row_out : {k b near : ℕ} → Row masks k b near → has near k ≡ false → Row masks (suc k) b near

@@ -11,7 +11,7 @@ use lib.Bits.{bit_and, and_le_l}
 use lib.ListN.{length, get_or, set, length-set}
 use lib.Seq.{get_or-set_same, get_or-set_other}
 use Rattle.rules.specs.Image.{has}
-use Rattle.rules.proofs.Tests.{true_or_false, not-both, and_true}
+use Rattle.rules.proofs.Tests.{true_or_false, not-both, and-true}
 use Rattle.sets.specs.Sets.{Without, comes_before}
 use Rattle.sets.proofs.Bits.{has-empty}
 use Rattle.sets.proofs.Laws.{has-minus, or-gone, was, gone}
@@ -59,13 +59,13 @@ module _ (masks : List ℕ) (to x : ℕ) where
       (g : Given masks t b x v w r) where
     -- what is left is of t
     of_t : (j : ℕ) → has r j ≡ true → has t j ≡ true
-    of_t j p = ((and_true _ _).0 (sym (has-minus t (get_or masks b 0) j full mask) ∙ was g.rest j p)).0
+    of_t j p = ((and-true _ _).0 (sym (has-minus t (get_or masks b 0) j full mask) ∙ was g.rest j p)).0
 
     -- what is gone is b, or comes before it
     done : (j : ℕ) → has t j ≡ true → has r j ≡ false → (b ≡ j) ⊎ comes_before masks j b
     done j p e = elim (true_or_false (has (get_or masks b 0) j)) [
       | inl q ↦ inr q
-      | inr q ↦ elim (or-gone g.rest j (has-minus t (get_or masks b 0) j full mask ∙ (and_true _ _).1 (p, ap not q))) [
+      | inr q ↦ elim (or-gone g.rest j (has-minus t (get_or masks b 0) j full mask ∙ (and-true _ _).1 (p, ap not q))) [
         | inl i ↦ inl i
         | inr i ↦ absurd (not-both i e)
       ]

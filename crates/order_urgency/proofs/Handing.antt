@@ -1,6 +1,6 @@
 -- An urgency handed on to each member of a set, lowest first.
 use mathlib.Core.Path.{◌≡◌, refl, sym, ap, subst, ◌∙◌}
-use mathlib.Core.Bool.{Bool, true, false, not, ◌&&◌, and_true, and-false, and-not_self}
+use mathlib.Core.Bool.{Bool, true, false, not, ◌&&◌, and-true, and-false, and-not_self}
 use mathlib.Core.Logic.{◌⊎◌, inl, inr}
 use mathlib.Core.List.{List}
 use Prim.Native.Nat.{ℕ, ◌^◌, ◌≤◌, ◌<◌, min}
@@ -37,7 +37,7 @@ handing_end {mask} {x} {u} {v} h = record {
 }
   where
     all : (j : ℕ) → got mask 0 j ≡ has mask j
-    all j = ap (λ (y : Bool). has mask j && not y) (has-empty j) ∙ and_true (has mask j)
+    all j = ap (λ (y : Bool). has mask j && not y) (has-empty j) ∙ and-true (has mask j)
 
 module _ {mask x t b t' : ℕ} {u v : List ℕ} (h : Handing mask x u v t) (low : Lowest t b) (w : Without t b t') where
   before_b : get_or v b 0 ≡ get_or u b 0
@@ -53,7 +53,7 @@ module _ {mask x t b t' : ℕ} {u v : List ℕ} (h : Handing mask x u v t) (low 
   }
     where
       here : got mask t' b ≡ true
-      here = ap (λ (y : Bool). has mask b && not y) (gone w) ∙ and_true (has mask b) ∙ h.part b low.member
+      here = ap (λ (y : Bool). has mask b && not y) (gone w) ∙ and-true (has mask b) ∙ h.part b low.member
 
       each : (j : ℕ) → j < 64 → (b ≡ j) ⊎ (b ≡ j → ⊥) → get_or v' j 0 ≡ lowered (got mask t' j) x (get_or u j 0)
       each j l (inl e) = subst (λ (i : ℕ). get_or v' i 0 ≡ lowered (got mask t' i) x (get_or u i 0)) e

@@ -11,7 +11,7 @@ use lib.Bits.{bit_and, bit_or}
 use lib.ListN.{length, get_or}
 use Rattle.rules.specs.Image.{has, due}
 use Rattle.rules.specs.Order.{Order, Permitted, MustFollow}
-use Rattle.rules.proofs.Tests.{true_or_false, not-both, and_true, or_true}
+use Rattle.rules.proofs.Tests.{true_or_false, not-both, and-true, or-true}
 use Rattle.rules.proofs.Order.Alike.{urgency-alike}
 use Rattle.rules.proofs.Order.Loops.{settled}
 use Rattle.sets.specs.Sets.{Below, AllBelow, Without, comes_before}
@@ -24,7 +24,7 @@ use Rattle.order_urgency.proofs.Handing.{lowered-less, lowered-above, less, abov
 
 -- a member of two sets, `p & q`
 pub both_in : (p q b : ℕ) → has (bit_and p q) b ≡ true → (has p b ≡ true) × (has q b ≡ true)
-both_in p q b h = (and_true (has p b) (has q b)).0 (sym (has-and p q b) ∙ h)
+both_in p q b h = (and-true (has p b) (has q b)).0 (sym (has-and p q b) ∙ h)
 
 module _ (n : ℕ) (masks : List ℕ) (D : ℕ → ℕ) where
   -- x is the deadline of a or of an action that must follow it
@@ -143,7 +143,7 @@ module _ (n : ℕ) (masks : List ℕ) (D : ℕ → ℕ) where
       (λ b m l ne. elim (lt-or-le (o.pos b) p) [ inl h ↦ h | inr h ↦ absurd (ne (e ∙ same b (omega arith) ∙ o.at_pos b m)) ])
       (λ b c m k h l. absurd (omega (arith, permitted a b present m h, place)))
       (λ b h. let q = both_in (get_or masks a 0) all b h in let m = ltb-true b n (sym (every.each b) ∙ q.1) in (m, q.0, omega (arith, permitted b a m present q.0, place)))
-      (λ b m h l. has-and (get_or masks a 0) all b ∙ (and_true _ _).1 (h, every.each b ∙ lt-ltb b n m))
+      (λ b m h l. has-and (get_or masks a 0) all b ∙ (and-true _ _).1 (h, every.each b ∙ lt-ltb b n m))
       x
     where
       present : a < n
@@ -161,15 +161,15 @@ module _ (n : ℕ) (masks : List ℕ) (D : ℕ → ℕ) where
   turn_of-least few {left} {left'} {a} below least out x turns = turns_more few (below _ least.0) turns least.0
       (λ b p. (was out b p, apart out b p)) (λ b m p ne. kept out b ne ∙ p) (λ b c m k h p q. least.1 c q)
       (λ b h. let q = both_in (get_or masks a 0) left' b h in (below b (was out b q.1), q.0, q.1))
-      (λ b m h l. has-and (get_or masks a 0) left' b ∙ (and_true _ _).1 (h, l)) x
+      (λ b m h l. has-and (get_or masks a 0) left' b ∙ (and-true _ _).1 (h, l)) x
 
 -- Of those that are left the ones before it are among the least urgent then, and so are those that were.
 module _ (mask : ℕ) {left left' a : ℕ} {u v : List ℕ} (small : Below left 64) (least : Foremost u left a) (out : Without left a left')
     (x : HandedEach (has (bit_and mask left')) (get_or u a 0) u v) (front : ℕ) (all : (b : ℕ) → has front b ≡ true → Foremost u left b) where
   as_urgent : (b : ℕ) → has left' b ≡ true → has (bit_or front mask) b ≡ true → get_or v b 0 ≤ get_or u a 0
-  as_urgent b l p = elim ((or_true (has front b) (has mask b)).0 (sym (has-or front mask b) ∙ p)) [
+  as_urgent b l p = elim ((or-true (has front b) (has mask b)).0 (sym (has-or front mask b) ∙ p)) [
     | inl f ↦ omega (arith, x.each b here, lowered-less (has (bit_and mask left') b) (get_or u a 0) (get_or u b 0), (all b f).1 a least.0)
-    | inr f ↦ let e = has-and mask left' b ∙ (and_true (has mask b) (has left' b)).1 (f, l) in
+    | inr f ↦ let e = has-and mask left' b ∙ (and-true (has mask b) (has left' b)).1 (f, l) in
         omega (arith, x.each b here ∙ ap (λ (y : Bool). lowered y (get_or u a 0) (get_or u b 0)) e)
   ]
     where

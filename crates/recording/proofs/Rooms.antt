@@ -1,7 +1,7 @@
 -- 17 by the lengths of the tables and of the frame. Assumes nothing.
 use Prim.Native.Nat.{ℕ, ◌*◌, ◌≤◌, ◌<◌}
 use mathlib.Core.Path.{◌≡◌, sym, ◌∙◌}
-use mathlib.Core.Bool.{Bool, true, false, ◌||◌, or_assoc, or_false}
+use mathlib.Core.Bool.{Bool, true, false, ◌||◌, or_assoc, or-false}
 use mathlib.Core.List.{List}
 use mathlib.Core.Logic.{inl, inr}
 use native.Mathlib.Omega.{arith}
@@ -28,7 +28,7 @@ module _ (n L : ℕ) (T : LentTables) (frame : List ℕ) where
       (ltb (length frame) (n * L * duration_bytes))
     where
       four : (a b c d : Bool) → a || b || c || d ≡ a || (b || (c || (d || false)))
-      four a b c d = simp (or_assoc, or_false)
+      four a b c d = simp (or_assoc, or-false)
 
   pub tested_tight : tested ≡ true → Tight (recorded_rooms n L T frame)
   tested_tight h = is_tight _ (sym tested-is ∙ h)

@@ -1,7 +1,7 @@
 -- Room for a frame, test by test. Assumes nothing.
 use Prim.Native.Nat.{ℕ, ◌*◌, ◌≤◌}
 use mathlib.Core.Path.{◌≡◌, sym, ◌∙◌}
-use mathlib.Core.Bool.{Bool, true, false, ◌||◌, or_assoc, or_false}
+use mathlib.Core.Bool.{Bool, true, false, ◌||◌, or_assoc, or-false}
 use mathlib.Core.List.{List}
 use mathlib.Core.Logic.{inl, inr}
 use lib.Dec.{ltb}
@@ -28,7 +28,7 @@ module _ (n L N : ℕ) (durations : List ℕ) (lists : FrameLists) where
   tested-is = four (ltb (length durations) (N * n * L)) (ltb (length lists.order) n) (ltb (length lists.levels) (N * n)) (ltb (length lists.decided) (N * n))
     where
       four : (a b c d : Bool) → a || b || c || d ≡ a || (b || (c || (d || false)))
-      four a b c d = simp (or_assoc, or_false)
+      four a b c d = simp (or_assoc, or-false)
 
   pub tested_tight : tested ≡ true → Tight (body_frame_rooms n L N durations lists)
   tested_tight h = is_tight _ (sym tested-is ∙ h)

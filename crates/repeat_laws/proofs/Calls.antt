@@ -16,7 +16,7 @@ use Rattle.rules.specs.Run.{Run, begun, decides, given, fits, in_cycle, Answer, 
 use Rattle.rules.specs.Dry.{before, cell}
 use Rattle.rules.specs.Repeat.{unrolled, LentBody, positions, lent_plan, worst_lent, PlannedBody, body_tests, body_in_range, action_at, body_ask_refusal, body_ask, body_report_refusal, body_report}
 use Rattle.rules.specs.declared.Body.{Body}
-use Rattle.rules.proofs.Tests.{and_true}
+use Rattle.rules.proofs.Tests.{and-true}
 use Rattle.rules.proofs.Calls.{InCycle, facts_in_cycle, ask_row-none, report_row-none, Called, Accepting, steps_called}
 use Rattle.rules.proofs.Demand.Alike.{given-alike, fits-alike}
 use Rattle.repeat_laws.proofs.Lent.{lent_alike, lent-action, some_level}
@@ -37,7 +37,7 @@ pub record Lends (b : Body) (T : LentBody) : Type 0 where
 module _ {b : Body} {T : LentBody} (l : Lends b T) where
   in_range : (r : Run) → InCycle r → body_in_range b r ≡ true
   unfolding body_in_range
-  in_range r C = (and_true (eqb (first (body_tests b)) 0) (every (in_cycle r))).1 (eq-eqb _ _ l.counts, facts_in_cycle r C)
+  in_range r C = (and-true (eqb (first (body_tests b)) 0) (every (in_cycle r))).1 (eq-eqb _ _ l.counts, facts_in_cycle r C)
 
   accepting : Accepting (lent_plan b T) (worst_lent b T) (body_ask b T) (body_report b T.worst)
   unfolding lent_plan body_ask body_report body_ask_refusal body_report_refusal

@@ -17,7 +17,7 @@ use Rattle.rules.specs.Dry.{cell}
 use Rattle.rules.specs.Repeat.{LentBody, positions, stretch_at, rest_lent, mix_from, limit_from, ends_mix, by_ends, lent_each, lent_plan}
 use Rattle.rules.specs.declared.Body.{Body}
 use Rattle.rules.proofs.Differences.{not-above}
-use Rattle.rules.proofs.Tests.{pass, passed, not-both, and_true}
+use Rattle.rules.proofs.Tests.{pass, passed, not-both, and-true}
 use Rattle.rules.proofs.Limits.Signed.{AtMost, at-most-max, at-most-less, time_at-most, time-less, least_all, all_least}
 use Rattle.rules.proofs.Demand.Asked.{left_granted_grants, grants_one}
 
@@ -122,7 +122,7 @@ module _ (b : Body) (T : LentBody) (t i q : ℕ) where
 
   ends-said : (r : ℕ) → by_ends b i q r ≡ true → (b.levels ≤ suc q) × (r ≡ min longest_coast (positions b - i))
   ends-said r e =
-      let both = (and_true (leb b.levels (suc q)) (eqb r (min longest_coast (positions b - i)))).0 e in
+      let both = (and-true (leb b.levels (suc q)) (eqb r (min longest_coast (positions b - i)))).0 e in
       (leb-true _ _ both.0, eqb-true _ _ both.1)
 
   -- a time is at most the greater bound if it is at most either
@@ -163,7 +163,7 @@ module _ (b : Body) (T : LentBody) (t i q : ℕ) where
       omega (arith, same)
     where
       read : by_ends b i q (suc x) ≡ true
-      read = (and_true (leb b.levels (suc q)) (eqb (suc x) (min longest_coast (positions b - i)))).1 (le-leb _ _ e.top, eq-eqb _ _ e.longest)
+      read = (and-true (leb b.levels (suc q)) (eqb (suc x) (min longest_coast (positions b - i)))).1 (le-leb _ _ e.top, eq-eqb _ _ e.longest)
 
       most : ℕ
       most = ends_mix b (rest_lent b T) i q (suc x)

@@ -17,7 +17,7 @@ use Rattle.rules.specs.Repeat.{LentBody, positions, stretch_at, rest_lent, mix_f
 use Rattle.rules.specs.declared.Body.{Body}
 use Rattle.rules.proofs.Sums.{sum_longer}
 use Rattle.rules.proofs.Differences.{take-both}
-use Rattle.rules.proofs.Tests.{failed, not-both, and_true, or_true, neither}
+use Rattle.rules.proofs.Tests.{failed, not-both, and-true, or-true, neither}
 use Rattle.rules.proofs.Limits.Signed.{AtMost, at-most-max, at-most-less, settled, least_all, all_least}
 use Rattle.repeat_laws.specs.Standing.{Standing}
 use Rattle.repeat_laws.proofs.Mixed.{each-greatest, greatest-under}
@@ -124,7 +124,7 @@ module _ (b : Body) (T : LentBody) (i q r each : ℕ) (is : pos b.cycle -ℤ pos
       untold (inl top) = rw (lt-leb b.levels (suc q) top)
       untold (inr short) = failed _ (λ e. omega (
         arith,
-        eqb-true r _ ((and_true (leb b.levels (suc q)) (eqb r (min longest_coast (positions b - i)))).0 e).1,
+        eqb-true r _ ((and-true (leb b.levels (suc q)) (eqb r (min longest_coast (positions b - i)))).0 e).1,
         short.0,
         short.1,
       ))
@@ -144,8 +144,8 @@ module _ (levels q r left : ℕ) where
   pub untold : (ltb (q + 1) levels || (ltb r longest_coast && ltb r left)) ≡ true → (suc q < levels) ⊎ ((r < longest_coast) × (r < left))
   untold e = ⊎_map
       (λ h. let l = ltb-true (q + 1) levels h in omega arith)
-      (λ h. let two = (and_true (ltb r longest_coast) (ltb r left)).0 h in (ltb-true r longest_coast two.0, ltb-true r left two.1))
-      ((or_true (ltb (q + 1) levels) (ltb r longest_coast && ltb r left)).0 e)
+      (λ h. let two = (and-true (ltb r longest_coast) (ltb r left)).0 h in (ltb-true r longest_coast two.0, ltb-true r left two.1))
+      ((or-true (ltb (q + 1) levels) (ltb r longest_coast && ltb r left)).0 e)
 
   pub told : (ltb (q + 1) levels || (ltb r longest_coast && ltb r left)) ≡ false → r ≤ longest_coast → r ≤ left
       → (levels ≤ suc q) × (r ≡ min longest_coast left)
@@ -155,7 +155,7 @@ module _ (levels q r left : ℕ) where
       both = neither (ltb (q + 1) levels) (ltb r longest_coast && ltb r left) e
 
       by : Dec (r < longest_coast) → Dec (r < left) → r ≡ min longest_coast left
-      by (yes u) (yes v) = absurd (not-both ((and_true (ltb r longest_coast) (ltb r left)).1 (lt-ltb _ _ u, lt-ltb _ _ v)) both.1)
+      by (yes u) (yes v) = absurd (not-both ((and-true (ltb r longest_coast) (ltb r left)).1 (lt-ltb _ _ u, lt-ltb _ _ v)) both.1)
       by (yes u) (no v) = omega arith
       by (no u) v = omega arith
 

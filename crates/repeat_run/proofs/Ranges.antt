@@ -7,14 +7,14 @@ use native.Mathlib.Nat.{mul-le-mul_right}
 use native.Mathlib.Omega.{arith}
 use lib.Dec.{eqb, ltb, lit<}
 use lib.ListN.{length}
-use borrow.Author.Tests.{eqb-true, eq-eqb, ltb-false, eqb-false, not_false}
+use borrow.Author.Tests.{eqb-true, eq-eqb, ltb-false, eqb-false, not-false}
 use Rattle.rules.specs.Numbers.{summary_numbers}
 use Rattle.rules.specs.Words.{every, one_if}
 use Rattle.rules.specs.Refusals.{first}
 use Rattle.rules.specs.Run.{Run, in_cycle}
 use Rattle.rules.specs.Repeat.{LentBody, positions, body_tests, body_in_range, body_ask_refusal, body_report_refusal}
 use Rattle.rules.specs.declared.Body.{Body}
-use Rattle.rules.proofs.Tests.{failed, and_true, neither}
+use Rattle.rules.proofs.Tests.{failed, and-true, neither}
 use Rattle.rules.proofs.Calls.{InCycle, in_cycle_facts, facts_in_cycle}
 use Rattle.repeat_laws.proofs.Places.{place-lt}
 use Rattle.repeat_limits.specs.Limits.{CountsIn}
@@ -32,14 +32,14 @@ pub record Ranged (b : Body) (r : Run) : Type 0 where
 pub ranged : (b : Body) (r : Run) → body_in_range b r ≡ true → Ranged b r
 unfolding body_in_range
 ranged b r h =
-    let both = (and_true (eqb (first (body_tests b)) 0) (every (in_cycle r))).0 h in
+    let both = (and-true (eqb (first (body_tests b)) 0) (every (in_cycle r))).0 h in
     let none = eqb-true _ _ both.0 in
     let counts = counts_in b (sym none) in
     record { none = none; counts = counts; products = products counts; cycle = in_cycle_facts r both.1 }
 
 pub is-ranged : (b : Body) (r : Run) → first (body_tests b) ≡ 0 → InCycle r → true ≡ body_in_range b r
 unfolding body_in_range
-is-ranged b r none C = sym ((and_true (eqb (first (body_tests b)) 0) (every (in_cycle r))).1 (eq-eqb _ _ none, facts_in_cycle r C))
+is-ranged b r none C = sym ((and-true (eqb (first (body_tests b)) 0) (every (in_cycle r))).1 (eq-eqb _ _ none, facts_in_cycle r C))
 
 pub not-ranged : (b : Body) (r : Run) → (first (body_tests b) ≡ 0 → InCycle r → ⊥) → false ≡ body_in_range b r
 not-ranged b r out = sym (failed _ (λ h. let is = ranged b r h in out is.none is.cycle))
@@ -61,7 +61,7 @@ module _ (b : Body) (T : LentBody) (r : Run) where
   unfolding body_ask_refusal first
   askable e n =
       let a = clear (not (body_in_range b r)) 11 _ (lit< tt) e in
-      let is = ranged b r (not_false _ a.0) in
+      let is = ranged b r (not-false _ a.0) in
       let cells = b.n * b.levels in
       let room = clear (ltb (length T.order) b.n || ltb (length T.summaries) (cells * summary_numbers) || ltb (length T.worst) cells) 17 _ (lit< tt) a.1 in
       let two = neither _ (ltb (length T.worst) cells) room.0 in
@@ -92,14 +92,14 @@ module _ (b : Body) (worst : List ℕ) (t : ℕ) (r : Run) where
   unfolding body_report_refusal first
   reportable e =
       let a = clear (not (body_in_range b r)) 11 _ (lit< tt) e in
-      let is = ranged b r (not_false _ a.0) in
+      let is = ranged b r (not-false _ a.0) in
       let room = clear (ltb (length worst) (b.n * b.levels)) 17 _ (lit< tt) a.1 in
       let runs = clear (not r.running) 11 _ (lit< tt) room.1 in
       let back = clear (ltb t r.clock) 12 _ (lit< tt) runs.1 in
       record {
         ranged = is;
         timed = ltb-false _ _ room.0;
-        more = omega (arith, is.cycle.running, ap one_if (not_false r.running runs.0));
+        more = omega (arith, is.cycle.running, ap one_if (not-false r.running runs.0));
         onward = ltb-false _ _ back.0;
       }
 

@@ -1,7 +1,7 @@
 -- What a decision makes of a record, and what it needs of it. Assumes nothing.
 use Prim.Native.Nat.{ℕ, ◌+◌, ◌-◌}
 use mathlib.Core.Path.{◌≡◌, sym, ap, ◌∙◌}
-use mathlib.Core.Bool.{Bool, true, false, cond, ◌||◌, or_true, or_false}
+use mathlib.Core.Bool.{Bool, true, false, cond, ◌||◌, or-true, or-false}
 use native.Mathlib.Numerals.{add-one}
 use lib.Dec.{ltb}
 use Rattle.rules.specs.Numbers.{longest_coast}
@@ -48,11 +48,11 @@ decided-is P r c C = rw (C.left, C.late, C.level, add-one)
 -- an end by its worst time w: cut short above it
 pub ends-over : (w t : ℕ) (r : Run) → ltb w (t - r.clock) ≡ true → cut_short (passed_by t r) ≡ ended w t r
 unfolding ended
-ends-over w t r e = rw (e, or_true r.overrun)
+ends-over w t r e = rw (e, or-true r.overrun)
 
 pub ends-within : (w t : ℕ) (r : Run) → ltb w (t - r.clock) ≡ false → passed_by t r ≡ ended w t r
 unfolding ended
-ends-within w t r e = rw (e, or_false r.overrun)
+ends-within w t r e = rw (e, or-false r.overrun)
 
 -- and of the record that is left, one of two
 pub left_ended : (self run cut : BodyRun) (w t : ℕ) (over : Bool) → over ≡ ltb w (t - self.clock) → steps_of run ≡ passed_by t (steps_of self)

@@ -17,7 +17,7 @@ use Rattle.rules.specs.Limits.{LentTables, Plan}
 use Rattle.rules.specs.Refusals.{first}
 use Rattle.rules.specs.Run.{Run, in_cycle, in_range, begun, decide, coast, fits, decides, given, ended, qualifies, left_granted, level_given, lent, Next, Answer, ask_row, ask_refusal, ask, report_row, report_refusal, report}
 use Rattle.rules.specs.Dry.{step, before, cell}
-use Rattle.rules.proofs.Tests.{pass, passed, and_true, last_is}
+use Rattle.rules.proofs.Tests.{pass, passed, and-true, last_is}
 use Rattle.rules.proofs.Demand.Record.{Same, given-same, n_is, levels-is, position-is, clock_rises}
 
 -- ---- the ranges, as facts
@@ -46,7 +46,7 @@ pub record InRange (r : Run) : Type 0 where
   pub decisions : r.decisions ≤ r.position + one_if r.running
 
 split : (b : Bool) (x : Bool) → b && x ≡ true → (b ≡ true) × (x ≡ true)
-split b x h = (and_true b x).0 h
+split b x h = (and-true b x).0 h
 
 pub in_cycle_facts : (r : Run) → every (in_cycle r) ≡ true → InCycle r
 unfolding every
@@ -118,7 +118,7 @@ in_range_facts r h =
     }
 
 join : (b x : Bool) → b ≡ true → x ≡ true → b && x ≡ true
-join b x p q = (and_true b x).1 (p, q)
+join b x p q = (and-true b x).1 (p, q)
 
 within : (m n : ℕ) → m ≤ n → leb m n ≡ true
 within m n h = passed _ (le→leb m n h)

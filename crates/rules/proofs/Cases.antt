@@ -25,7 +25,7 @@ use Rattle.rules.specs.Recording.{frame_bytes, frames, lowest_of, lowest_given, 
 use Rattle.rules.specs.Repeat.{unrolled}
 use Rattle.rules.specs.Speed.{quotient, room, reading_by, reading}
 use Rattle.rules.specs.Cases.{three, eight, falling, around, cases, AllHold, AroundRefused}
-use Rattle.rules.proofs.Tests.{pass, passed, failed, and_true, or_true, not_true, all_pass-each}
+use Rattle.rules.proofs.Tests.{pass, passed, failed, and-true, or-true, not-true, all_pass-each}
 use Rattle.rules.proofs.Refusals.{refuses_blamed}
 use Rattle.rules.proofs.Order.Loops.{no_loop}
 use Rattle.rules.proofs.Order.OfProfile.{action_at, as_computed, order_loopless}
@@ -49,18 +49,18 @@ module _ (F : Profile) (f : ℕ → ℕ) (ok : all_pass (placed F f) F.n ≡ tru
   pub place : (k : ℕ) → k < F.n → Placed k
   unfolding placed
   place k l =
-      let a = (and_true (ltb (f k) F.n) _).0 (all_pass-each (placed F f) F.n ok k l) in
-      let b = (and_true (eqb (f (f k)) k) _).0 a.1 in
-      let c = (and_true (eqb (f k) (action_at F k)) _).0 b.1 in
+      let a = (and-true (ltb (f k) F.n) _).0 (all_pass-each (placed F f) F.n ok k l) in
+      let b = (and-true (eqb (f (f k)) k) _).0 a.1 in
+      let c = (and-true (eqb (f k) (action_at F k)) _).0 b.1 in
       record {
         present = ltb→lt _ _ (pass _ a.0);
         undone = eqb-true _ _ b.0;
         computed = eqb-true _ _ c.0;
-        after = λ x m h. earlier x h ((or_true (not (has (F.mask k) x)) (ltb (f x) (f k))).0 (all_pass-each _ F.n c.1 x m));
+        after = λ x m h. earlier x h ((or-true (not (has (F.mask k) x)) (ltb (f x) (f k))).0 (all_pass-each _ F.n c.1 x m));
       }
     where
       earlier : (x : ℕ) → has (F.mask k) x ≡ true → (not (has (F.mask k) x) ≡ true) ⊎ (ltb (f x) (f k) ≡ true) → f x < f k
-      earlier x h (inl e) = absurd ((not_true (has (F.mask k) x)).0 e h)
+      earlier x h (inl e) = absurd ((not-true (has (F.mask k) x)).0 e h)
       earlier x h (inr e) = ltb→lt _ _ (pass _ e)
 
   abbrev pub named : Order F.n
@@ -127,11 +127,11 @@ module _ (s : List ℕ) (ok : plain s ≡ true) where
   unfolding orderly
   orderly-is a h =
       let F = profile s in
-      let u = (and_true (eqb (spare_of s a) 0) _).0 h in
-      let v = (and_true (leb (F.deadline a) F.cycle) _).0 u.1 in
-      let w = (and_true (ltb (F.mask a) (2 ^ F.n)) _).0 v.1 in
-      let x = (and_true (all_pass (λ q. leb (F.average a q) (F.worst a q)) F.levels) _).0 w.1 in
-      let y = (and_true (all_pass (λ q. leb (F.average a q) (F.average a (suc q))) (F.levels - 1)) (all_pass (λ q. leb (F.worst a q) (F.worst a (suc q))) (F.levels - 1))).0 x.1 in
+      let u = (and-true (eqb (spare_of s a) 0) _).0 h in
+      let v = (and-true (leb (F.deadline a) F.cycle) _).0 u.1 in
+      let w = (and-true (ltb (F.mask a) (2 ^ F.n)) _).0 v.1 in
+      let x = (and-true (all_pass (λ q. leb (F.average a q) (F.worst a q)) F.levels) _).0 w.1 in
+      let y = (and-true (all_pass (λ q. leb (F.average a q) (F.average a (suc q))) (F.levels - 1)) (all_pass (λ q. leb (F.worst a q) (F.worst a (suc q))) (F.levels - 1))).0 x.1 in
       record {
         spare = eqb-true _ _ u.0;
         deadline = within _ _ v.0;
@@ -153,17 +153,17 @@ module _ (s : List ℕ) (ok : plain s ≡ true) where
   unfolding plain
   plain-is =
       let F = profile s in
-      let a = (and_true (leb 6 (length s)) _).0 ok in
-      let b = (and_true (eqb (version s) 1) _).0 a.1 in
-      let c = (and_true (leb 1 F.n && leb F.n 64) _).0 b.1 in
-      let d = (and_true (leb 1 F.levels && leb F.levels 8) _).0 c.1 in
-      let e = (and_true (leb 1 F.cycle && leb F.cycle last_clock) _).0 d.1 in
-      let f = (and_true (eqb (length s) (image_bytes F.n F.levels)) _).0 e.1 in
-      let g = (and_true (eqb (header_spare s) 0) (all_pass (orderly s) F.n)).0 f.1 in
+      let a = (and-true (leb 6 (length s)) _).0 ok in
+      let b = (and-true (eqb (version s) 1) _).0 a.1 in
+      let c = (and-true (leb 1 F.n && leb F.n 64) _).0 b.1 in
+      let d = (and-true (leb 1 F.levels && leb F.levels 8) _).0 c.1 in
+      let e = (and-true (leb 1 F.cycle && leb F.cycle last_clock) _).0 d.1 in
+      let f = (and-true (eqb (length s) (image_bytes F.n F.levels)) _).0 e.1 in
+      let g = (and-true (eqb (header_spare s) 0) (all_pass (orderly s) F.n)).0 f.1 in
       record {
         short = within _ _ a.0;
         version-is = λ ne. ne (eqb-true _ _ b.0);
-        count = counts ((and_true _ _).0 c.0) ((and_true _ _).0 d.0) ((and_true _ _).0 e.0);
+        count = counts ((and-true _ _).0 c.0) ((and-true _ _).0 d.0) ((and-true _ _).0 e.0);
         size = λ ne. ne (eqb-true _ _ f.0);
         header = eqb-true _ _ g.0;
         each = λ x l. orderly-is x (all_pass-each (orderly s) F.n g.1 x l);
@@ -211,7 +211,7 @@ given_is P t i q late some e f =
     (subst (Gives P t i) e (level_given-gives P t i some), ((λ h. (fits-exact P t i some).0 (no_fit (f ∙ h))), (λ h. sym f ∙ ap not ((fits-exact P t i some).1 h))))
   where
     no_fit : not (fits P t i) ≡ true → fits P t i ≡ false
-    no_fit h = failed (fits P t i) ((not_true (fits P t i)).0 h)
+    no_fit h = failed (fits P t i) ((not-true (fits P t i)).0 h)
 
 -- 0, 1, 2 and 0, 2, 1
 abbrev chain : ℕ → ℕ

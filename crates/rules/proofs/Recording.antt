@@ -21,7 +21,7 @@ use Rattle.rules.specs.Run.{Run, begun, decide, coast, decides, given, ended, le
 use Rattle.rules.specs.Dry.{step, before, level_of, cell, decided, dry_end, LongEntry}
 use Rattle.rules.specs.Demand.{DemandThree}
 use Rattle.rules.specs.Recording.{frame_bytes, durations, frame_at, frames, lowest_of, lowest_given, ran_of, short, long_entry, Line, refused, ran, line_of, lines, Totals, no_totals, with_frame, with_line, totals_from, totals, together, totals_fit, frames_run, sum_over, sums, NotFrames}
-use Rattle.rules.proofs.Tests.{and_true, all_pass-each, one-fails}
+use Rattle.rules.proofs.Tests.{and-true, all_pass-each, one-fails}
 use Rattle.rules.proofs.Refusals.{accepted-sound}
 use Rattle.rules.proofs.Accepted.{sound_policy, accepted-demand}
 use Rattle.rules.proofs.Demand.Record.{decisions_are}
@@ -240,21 +240,21 @@ pub in_range-exact : (T : Totals) → (totals_fit T ≡ true) ↔ InRange T
 unfolding totals_fit every
 in_range-exact T = (
   (λ h.
-      let a = (and_true _ _).0 h in
-      let b = (and_true _ _).0 a.1 in
-      let c = (and_true _ _).0 b.1 in
+      let a = (and-true _ _).0 h in
+      let b = (and-true _ _).0 a.1 in
+      let c = (and-true _ _).0 b.1 in
       record {
         frames = leb-true _ _ a.0;
         decisions = leb-true _ _ b.0;
         overruns = leb-true _ _ c.0;
-        lates = leb-true _ _ ((and_true _ _).0 c.1).0;
+        lates = leb-true _ _ ((and-true _ _).0 c.1).0;
       }),
   (λ h.
-      (and_true _ _).1 (
+      (and-true _ _).1 (
         le-leb _ _ h.frames,
-        (and_true _ _).1 (
+        (and-true _ _).1 (
           le-leb _ _ h.decisions,
-          (and_true _ _).1 (le-leb _ _ h.overruns, (and_true _ _).1 (le-leb _ _ h.lates, refl)),
+          (and-true _ _).1 (le-leb _ _ h.overruns, (and-true _ _).1 (le-leb _ _ h.lates, refl)),
         ),
       )),
 )

@@ -18,7 +18,7 @@ use Rattle.rules.specs.Refusals.{Ground, ◌when◌, First, Count, Range, Table,
 use Rattle.rules.specs.Refresh.{records, open_of, action_of, level_of, duration_of, measures, counted, summed, unmeasured, measured, raised, new_average, refreshed, Trace, Name, Duration, Fault, FirstFault, refresh_call}
 use Rattle.rules.proofs.Differences.{not-above}
 use Rattle.rules.proofs.Terms.{sum-within}
-use Rattle.rules.proofs.Tests.{pass, failed, and_true}
+use Rattle.rules.proofs.Tests.{pass, failed, and-true}
 use Rattle.rules.proofs.Refusals.{None, first-none, Sound, accepted_parts}
 use Rattle.rules.proofs.Faults.{TimeOut}
 
@@ -98,16 +98,16 @@ module _ (trace : List ℕ) (a q : ℕ) where
   pub measures-only : (r : ℕ) → measures trace a q r ≡ true → (open_of trace r ≡ true) × (action_of trace r ≡ a) × (level_of trace r ≡ q)
   unfolding measures
   measures-only r h =
-      let (o, rest) = (and_true (open_of trace r) _).0 h in
-      let (e, f) = (and_true (eqb (action_of trace r) a) _).0 ((and_true (ltb 0 (duration_of trace r)) _).0 rest).1 in
+      let (o, rest) = (and-true (open_of trace r) _).0 h in
+      let (e, f) = (and-true (eqb (action_of trace r) a) _).0 ((and-true (ltb 0 (duration_of trace r)) _).0 rest).1 in
       (o, eqb-true (action_of trace r) a e, eqb-true (level_of trace r) q f)
 
   -- Its duration is above 0.
   pub measures-above : (r : ℕ) → measures trace a q r ≡ true → 0 < duration_of trace r
   unfolding measures
   measures-above r h =
-      let (_, rest) = (and_true (open_of trace r) _).0 h in
-      ltb→lt 0 (duration_of trace r) (pass _ ((and_true (ltb 0 (duration_of trace r)) _).0 rest).0)
+      let (_, rest) = (and-true (open_of trace r) _).0 h in
+      ltb→lt 0 (duration_of trace r) (pass _ ((and-true (ltb 0 (duration_of trace r)) _).0 rest).0)
 
   -- One record more.
   pub counted_step : (m : ℕ) → counted trace a q (suc m) ≡ counted trace a q m + cond (measures trace a q m) 1 0

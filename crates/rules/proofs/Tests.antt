@@ -33,17 +33,17 @@ failed false h = refl
 pub not-both : {b : Bool} → b ≡ true → b ≡ false → ⊥
 not-both y n = true≢false (sym y ∙ n)
 
-pub not_true : (b : Bool) → (not b ≡ true) ↔ (b ≡ true → ⊥)
-not_true true = ((λ h e. false≢true h), (λ h. absurd (h refl)))
-not_true false = ((λ h e. false≢true e), (λ h. refl))
+pub not-true : (b : Bool) → (not b ≡ true) ↔ (b ≡ true → ⊥)
+not-true true = ((λ h e. false≢true h), (λ h. absurd (h refl)))
+not-true false = ((λ h e. false≢true e), (λ h. refl))
 
-pub and_true : (a b : Bool) → (a && b ≡ true) ↔ ((a ≡ true) × (b ≡ true))
-and_true true b = ((λ h. (refl, h)), (λ h. h.1))
-and_true false b = ((λ h. absurd (false≢true h)), (λ h. h.0))
+pub and-true : (a b : Bool) → (a && b ≡ true) ↔ ((a ≡ true) × (b ≡ true))
+and-true true b = ((λ h. (refl, h)), (λ h. h.1))
+and-true false b = ((λ h. absurd (false≢true h)), (λ h. h.0))
 
-pub or_true : (a b : Bool) → (a || b ≡ true) ↔ ((a ≡ true) ⊎ (b ≡ true))
-or_true true b = ((λ h. inl refl), (λ h. refl))
-or_true false b = ((λ h. inr h), (elim [ inl h ↦ absurd (false≢true h) | inr h ↦ h ]))
+pub or-true : (a b : Bool) → (a || b ≡ true) ↔ ((a ≡ true) ⊎ (b ≡ true))
+or-true true b = ((λ h. inl refl), (λ h. refl))
+or-true false b = ((λ h. inr h), (elim [ inl h ↦ absurd (false≢true h) | inr h ↦ h ]))
 
 pub neither : (a b : Bool) → a || b ≡ false → (a ≡ false) × (b ≡ false)
 neither true b h = absurd (true≢false h)
@@ -106,7 +106,7 @@ last_is test (suc m) = go (test m) refl (last_is test m)
 pub all_pass-each : (test : ℕ → Bool) (m : ℕ) → all_pass test m ≡ true → (j : ℕ) → j < m → test j ≡ true
 unfolding all_pass
 all_pass-each test zero h j l = absurd (not-suc-le-zero l)
-all_pass-each test (suc m) h j l = at ((and_true (all_pass test m) (test m)).0 h) (dec_lt j m) (λ k. all_pass-each test m ((and_true (all_pass test m) (test m)).0 h).0 j k)
+all_pass-each test (suc m) h j l = at ((and-true (all_pass test m) (test m)).0 h) (dec_lt j m) (λ k. all_pass-each test m ((and-true (all_pass test m) (test m)).0 h).0 j k)
   where
     at : (all_pass test m ≡ true) × (test m ≡ true) → Dec (j < m) → (j < m → test j ≡ true) → test j ≡ true
     at p (yes k) ih = ih k
@@ -126,4 +126,4 @@ one-fails test (suc m) h = by (all_pass test m) (test m) refl refl h (one-fails 
 pub each-all_pass : (test : ℕ → Bool) (m : ℕ) → ((j : ℕ) → j < m → test j ≡ true) → all_pass test m ≡ true
 unfolding all_pass
 each-all_pass test zero h = refl
-each-all_pass test (suc m) h = (and_true (all_pass test m) (test m)).1 (each-all_pass test m (λ j l. h j (omega arith)), h m (le_refl _))
+each-all_pass test (suc m) h = (and-true (all_pass test m) (test m)).1 (each-all_pass test m (λ j l. h j (omega arith)), h m (le_refl _))

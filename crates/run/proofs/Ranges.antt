@@ -7,7 +7,7 @@ use lib.Dec.{leb, ltb, eqb}
 use borrow.Author.Tests.{ltb-true, ltb-false, leb-true, le-leb, lt-leb}
 use Rattle.rules.specs.Refusals.{first}
 use Rattle.rules.specs.Run.{Run, in_range, start_refusal}
-use Rattle.rules.proofs.Tests.{failed, not-both, and_true}
+use Rattle.rules.proofs.Tests.{failed, not-both, and-true}
 use Rattle.rules.proofs.Calls.{InRange, in_range_facts}
 
 -- ---- n and L
@@ -60,9 +60,9 @@ pub record Counts (n L : ℕ) : Type 0 where
 
 pub fit_counts : (n L : ℕ) → true ≡ eqb (start_refusal n L) 0 → Counts n L
 fit_counts n L e =
-    let a = (and_true (leb 1 n) _).0 (sym (e ∙ counts_are n L)) in
-    let b = (and_true (leb n 64) _).0 a.1 in
-    let c = (and_true (leb 1 L) (leb L 8)).0 b.1 in
+    let a = (and-true (leb 1 n) _).0 (sym (e ∙ counts_are n L)) in
+    let b = (and-true (leb n 64) _).0 a.1 in
+    let c = (and-true (leb 1 L) (leb L 8)).0 b.1 in
     record { some_action = leb-true _ _ a.0; few = leb-true _ _ b.0; some_level = leb-true _ _ c.0; few_levels = leb-true _ _ c.1 }
 
 pub unfit-counts : (n L : ℕ) → false ≡ eqb (start_refusal n L) 0 → Counts n L → ⊥

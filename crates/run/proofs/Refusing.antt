@@ -8,7 +8,7 @@ use native.Mathlib.Nat.{mul-le-mul, mul-le-mul_right}
 use native.Mathlib.Omega.{arith}
 use lib.Dec.{ltb, eqb, lit<}
 use lib.ListN.{length}
-use borrow.Author.Tests.{ltb-false, eqb-false, not_false}
+use borrow.Author.Tests.{ltb-false, eqb-false, not-false}
 use Rattle.rules.specs.Numbers.{last_clock}
 use Rattle.rules.specs.Words.{one_if}
 use Rattle.rules.specs.Limits.{LentTables}
@@ -49,7 +49,7 @@ module _ (T : LentTables) (r : Run) where
       let d = clear (eqb r.position r.n) 10 0 (lit< tt) c.1 in
       let p = neither (ordered || limited) _ b.0 in
       let q = neither ordered limited p.0 in
-      let h = not_false (in_range r) a.0 in
+      let h = not-false (in_range r) a.0 in
       let ne : (r.position ≢ r.n) = eqb-false r.position r.n d.0 in
       record {
         is_open = record {
@@ -83,8 +83,8 @@ module _ (worst : List ℕ) (t : ℕ) (r : Run) where
       let c = clear (not r.running) 11 _ (lit< tt) b.1 in
       let d = clear (ltb t r.clock) 12 _ (lit< tt) c.1 in
       let g = clear (ltb last_clock t) 13 0 (lit< tt) d.1 in
-      let f = in_range_facts r (not_false (in_range r) a.0) in
-      let runs = not_false r.running c.0 in
+      let f = in_range_facts r (not-false (in_range r) a.0) in
+      let runs = not-false r.running c.0 in
       let more : r.position < r.n = omega (arith, f.running, ap one_if runs) in
       record {
         ranged = f;

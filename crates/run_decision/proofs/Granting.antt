@@ -2,7 +2,7 @@
 -- from below. Assumes nothing.
 use Prim.Native.Nat.{ℕ, zero, suc, ◌+◌, ◌-◌, ◌*◌, ◌≤◌, ◌<◌, min}
 use mathlib.Core.Path.{◌≡◌, refl, sym, ap, ◌∙◌}
-use mathlib.Core.Bool.{Bool, true, false, not, cond, ◌&&◌, ◌||◌, true≢false, and_true as and_one}
+use mathlib.Core.Bool.{Bool, true, false, not, cond, ◌&&◌, ◌||◌, true≢false, and-true as and_one}
 use mathlib.Core.Logic.{inr, ⊎_elim}
 use native.Mathlib.Nat.{eq-or-lt_of_le, add-zero}
 use native.Mathlib.Numerals.{add-one}
@@ -15,7 +15,7 @@ use borrow.Author.Tests.{le-leb, lt-leb}
 use Rattle.rules.specs.Words.{last_passing, all_pass}
 use Rattle.rules.specs.Limits.{LentTables}
 use Rattle.rules.specs.Run.{qualifies, left_granted, lent}
-use Rattle.rules.proofs.Tests.{failed, and_true, or_true, not_true, last-past, all_pass-each}
+use Rattle.rules.proofs.Tests.{failed, and-true, or-true, not-true, last-past, all_pass-each}
 
 -- ---- the greatest number that passes
 
@@ -92,7 +92,7 @@ module _ (n L : ℕ) (T : LentTables) (t i q : ℕ) where
   unfolding held all_pass last_passing
   going-one low = record {
     found = none (passes 0);
-    holds = held_more 0 ((or_true (leb L (suc q)) true).1 (inr refl)) (rw add-zero low);
+    holds = held_more 0 ((or-true (leb L (suc q)) true).1 (inr refl)) (rw add-zero low);
   }
     where
       none : (b : Bool) → ◌≡◌ {A = ℕ} 0 (cond b 0 0)
@@ -110,12 +110,12 @@ module _ (n L : ℕ) (T : LentTables) (t i q : ℕ) where
   too_long : (x y : ℕ) → suc q < L → Rises x ≡ true → x ≤ y → passes y ≡ true → ⊥
   unfolding passes qualifies lent
   too_long x y below rise l p =
-      (not_true (Rises x)).0 (all_pass-each (λ j. not (Rises j)) (suc y) all x (omega arith)) rise
+      (not-true (Rises x)).0 (all_pass-each (λ j. not (Rises j)) (suc y) all x (omega arith)) rise
     where
       all : all_pass (λ j. not (Rises j)) (suc y) ≡ true
       all =
           ap (λ (b : Bool). b || all_pass (λ j. not (Rises j)) (suc y)) (sym (lt-leb L (suc q) below))
-          ∙ ((and_true (le_z (pos t) (get_or T.bounds ((i * L + q) * 16 + (suc y - 1)) (pos 0))) (leb L (suc q) || all_pass (λ j. not (Rises j)) (suc y))).0 p).1
+          ∙ ((and-true (le_z (pos t) (get_or T.bounds ((i * L + q) * 16 + (suc y - 1)) (pos 0))) (leb L (suc q) || all_pass (λ j. not (Rises j)) (suc y))).0 p).1
 
   pub going-stops : (x left m : ℕ) → Going x left → suc q < L → Rises x ≡ true → x ≤ m → left ≡ last_passing passes m
   going-stops x left m g below r l = g.found ∙ sym (last-below passes x m l (λ y h. failed (passes y) (too_long x y below r h)))

@@ -1,6 +1,6 @@
 -- The lowest member of a set, the highest, and those above the lowest.
 use mathlib.Core.Path.{◌≡◌, refl, sym, ap, ap₂, subst, ◌∙◌}
-use mathlib.Core.Bool.{Bool, true, false, not, ◌&&◌, and_true, and_self}
+use mathlib.Core.Bool.{Bool, true, false, not, ◌&&◌, and-true, and_self}
 use Prim.Native.Nat.{ℕ, zero, suc, ◌+◌, ◌-◌, ◌*◌, ◌/◌, ◌%◌, ◌^◌, ◌≤◌, ◌<◌}
 use native.Mathlib.Nat.{pow-suc}
 use native.Mathlib.Omega.{arith}
@@ -70,7 +70,7 @@ one_less zero s p none zero =
 one_less zero s p none (suc j) =
     let half : (s - 1) / 2 ≡ s / 2 = omega (arith, low_digit s, ap one_if p) in
     ap (λ (x : Bool). has s (suc j) && x) (has-suc (s - 1) j ∙ ap (λ (x : ℕ). has x j) half ∙ sym (has-suc s j))
-    ∙ and_self (has s (suc j)) ∙ sym (and_true (has s (suc j))) ∙ ap (λ (x : Bool). has s (suc j) && not x) (sym (eqb-zero-suc j))
+    ∙ and_self (has s (suc j)) ∙ sym (and-true (has s (suc j))) ∙ ap (λ (x : Bool). has s (suc j) && not x) (sym (eqb-zero-suc j))
 one_less (suc b) s p none zero =
     let absent = none 0 (omega arith) in
     ap (λ (x : Bool). x && has (s - 1) 0) absent ∙ sym (ap (λ (x : Bool). x && not (eqb (suc b) 0)) absent)

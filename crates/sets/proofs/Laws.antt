@@ -1,6 +1,6 @@
 -- The laws of 64-bit sets.
 use mathlib.Core.Path.{◌≡◌, refl, sym, ap, ◌∙◌}
-use mathlib.Core.Bool.{Bool, true, false, not, ◌&&◌, ◌||◌, and_true, and-false, or_true, or_false}
+use mathlib.Core.Bool.{Bool, true, false, not, ◌&&◌, ◌||◌, and-true, and-false, or-true, or-false}
 use mathlib.Core.Logic.{◌⊎◌, inl, inr, ⊎_map, ◌↔◌}
 use Prim.Native.Nat.{ℕ, ◌-◌, ◌^◌, ◌≤◌, ◌<◌}
 use native.Mathlib.Nat.{lt_of_le_of_lt}
@@ -13,7 +13,7 @@ use lib.Bits.{bit_and, and_le_l, and_le_r}
 use borrow.Author.Tests.{eq-eqb, ne_eqb, eqb-true, lt-ltb}
 use Rattle.rules.specs.Image.{has}
 use Rattle.rules.proofs.Sums.{find, both}
-use Rattle.rules.proofs.Tests.{is_true?, not-both, and_true as both_true, or_true as either_true}
+use Rattle.rules.proofs.Tests.{is_true?, not-both, and-true as both_true, or-true as either_true}
 use Rattle.sets.specs.Sets.{Subset, Below, Lowest, Highest, With, Without, plus}
 use Rattle.sets.proofs.Cases.{lt-or-le, eq-or_ne}
 use Rattle.sets.proofs.Bits.{has_above, has-or, has-and, has-not, has-pow, has_ones, ext}
@@ -95,7 +95,7 @@ module _ {s b r : ℕ} (w : Without s b r) where
   gone = w.each b ∙ ap (λ (x : Bool). has s b && not x) (eq-eqb b b refl) ∙ and-false (has s b)
 
   pub kept : (j : ℕ) → (b ≡ j → ⊥) → has r j ≡ has s j
-  kept j n = w.each j ∙ ap (λ (x : Bool). has s j && not x) (ne_eqb b j n) ∙ and_true (has s j)
+  kept j n = w.each j ∙ ap (λ (x : Bool). has s j && not x) (ne_eqb b j n) ∙ and-true (has s j)
 
   pub was : (j : ℕ) → has r j ≡ true → has s j ≡ true
   was j p = ((both_true (has s j) (not (eqb b j))).0 (sym (w.each j) ∙ p)).0
@@ -124,13 +124,13 @@ plus_with s b = record { is = refl; each = λ j. has-or s (2 ^ b) j ∙ ap (λ (
 -- r is s with b
 module _ {s b r : ℕ} (w : With s b r) where
   pub added : has r b ≡ true
-  added = w.each b ∙ ap (λ (x : Bool). has s b || x) (eq-eqb b b refl) ∙ or_true (has s b)
+  added = w.each b ∙ ap (λ (x : Bool). has s b || x) (eq-eqb b b refl) ∙ or-true (has s b)
 
   pub stays : (j : ℕ) → has s j ≡ true → has r j ≡ true
   stays j p = w.each j ∙ ap (λ (x : Bool). x || eqb b j) p
 
   pub others : (j : ℕ) → (b ≡ j → ⊥) → has r j ≡ has s j
-  others j n = w.each j ∙ ap (λ (x : Bool). has s j || x) (ne_eqb b j n) ∙ or_false (has s j)
+  others j n = w.each j ∙ ap (λ (x : Bool). has s j || x) (ne_eqb b j n) ∙ or-false (has s j)
 
   -- a member of r is one of s or b
   pub either : (j : ℕ) → has r j ≡ true → (has s j ≡ true) ⊎ (b ≡ j)

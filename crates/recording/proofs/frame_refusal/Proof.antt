@@ -6,7 +6,7 @@ use mathlib.Core.Logic.{inl, inr}
 use native.Mathlib.Omega.{arith}
 use lib.ListN.{length}
 use borrow.Author.Rules.{rules}
-use borrow.Author.Tests.{not_true, not_false}
+use borrow.Author.Tests.{not-true, not-false}
 use Rattle.rules.specs.Numbers.{duration_bytes}
 use Rattle.rules.specs.Words.{all_pass}
 use Rattle.rules.specs.Limits.{LentTables}
@@ -32,7 +32,7 @@ abbrev frame : tie.Else1 → List ℕ
 frame c = (start c).args.frame.now
 
 with_frame : (c : tie.Else1) → Counts (start c).args.n (start c).args.levels
-with_frame c = fit_counts _ _ (sym (not_false _ c.if1.false) ∙ c.before.counts_fit.ensures)
+with_frame c = fit_counts _ _ (sym (not-false _ c.if1.false) ∙ c.before.counts_fit.ensures)
 
 -- after the second, room
 roomy : (c : tie.Else2) → let d = c.before in Tight (recorded_rooms (start d).args.n (start d).args.levels (lent d) (frame d)) → ⊥
@@ -49,7 +49,7 @@ told c =
     all_clear (frame d) (λ k. (d.before.before.shared-slice-known2.given k).fits) _ (omega (arith, fits c, few-cells (with_frame d)))
 
 returns : tie.Need-returns
-returns c = inl (unfit-counts-out _ _ (sym (not_true _ c.if1.true) ∙ c.before.counts_fit.ensures), refl)
+returns c = inl (unfit-counts-out _ _ (sym (not-true _ c.if1.true) ∙ c.before.counts_fit.ensures), refl)
 
 mul-cells : tie.Need-overflow-mul-cells
 mul-cells c = omega (arith, few-cells (with_frame c))

@@ -3,7 +3,7 @@ use mathlib.Core.Path.{subst}
 use mathlib.Core.Bool.{true}
 use native.Mathlib.Omega.{arith}
 use borrow.Author.Rules.{rules}
-use borrow.Author.Tests.{not_true, not_false}
+use borrow.Author.Tests.{not-true, not-false}
 use Rattle.recording.specs.Recording.{LengthFits}
 use Rattle.recording.proofs.Opening.{length-refused, plan-refused, few-cells, some_bytes, opened}
 use Rattle.recording.proofs.open.Statement.{statement}
@@ -16,7 +16,7 @@ start c = c.before.before.before.before.before.before.before.before.before.befor
 fitting : (c : tie.After-plan) → LengthFits (start c).args.image.now (start c).args.bytes true
 fitting c =
     let at = c.before.before.before.before.before in
-    subst (LengthFits (start c).args.image.now (start c).args.bytes) (not_false _ at.if1.false) at.before.whole-frames.ensures
+    subst (LengthFits (start c).args.image.now (start c).args.bytes) (not-false _ at.if1.false) at.before.whole-frames.ensures
 
 -- it is not refused
 abbrev planned : tie.Else2 → tie.After-plan
@@ -25,7 +25,7 @@ planned c = c.before.before.before.before.before.before.before.before.before
 returns : tie.Need-returns
 returns c =
     let at = c.before.before in
-    length-refused _ _ _ _ (subst (LengthFits _ _) (not_true _ at.if1.true) at.before.whole-frames.ensures) c.before.length-refusal.ensures
+    length-refused _ _ _ _ (subst (LengthFits _ _) (not-true _ at.if1.true) at.before.whole-frames.ensures) c.before.length-refusal.ensures
     c.unopened.ensures
 
 returns-2 : tie.Need-returns-2

@@ -4,7 +4,7 @@ use mathlib.Core.Bool.{true}
 use mathlib.Core.Logic.{inl, inr}
 use native.Mathlib.Omega.{arith}
 use borrow.Author.Rules.{rules}
-use borrow.Author.Tests.{not_true, not_false}
+use borrow.Author.Tests.{not-true, not-false}
 use Rattle.rules.specs.Recording.{totals_fit}
 use Rattle.rules.proofs.Tests.{not-both}
 use Rattle.recording.specs.Recording.{totals_of}
@@ -12,11 +12,11 @@ use Rattle.recording.proofs.totals_refusal.Statement.{statement}
 use Rattle.recording.proofs.totals_refusal.Tie as tie
 
 returns : tie.Need-returns
-returns c = inl ((λ fits. not-both (c.before.«in_range».ensures ∙ fits) (not_true _ c.if1.true)), refl)
+returns c = inl ((λ fits. not-both (c.before.«in_range».ensures ∙ fits) (not-true _ c.if1.true)), refl)
 
 -- what is known after the first test
 fitting : (c : tie.Else1) → totals_fit (totals_of c.before.before.args.totals) ≡ true
-fitting c = sym c.before.«in_range».ensures ∙ not_false _ c.if1.false
+fitting c = sym c.before.«in_range».ensures ∙ not-false _ c.if1.false
 
 returns-2 : tie.Need-returns-2
 returns-2 c = inr ((λ out. out (fitting c.before.before)), inl (c.if2.true, refl))

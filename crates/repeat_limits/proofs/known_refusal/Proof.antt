@@ -1,7 +1,7 @@
 -- The body's own tests, then that of its policy. Assumes nothing.
 use mathlib.Core.Path.{◌≡◌, sym, ◌∙◌}
 use borrow.Author.Rules.{rules}
-use borrow.Author.Tests.{not_true, not_false, eqb-true, eqb-false}
+use borrow.Author.Tests.{not-true, not-false, eqb-true, eqb-false}
 use Rattle.rules.specs.Refusals.{first}
 use Rattle.rules.specs.Repeat.{body_tests}
 use Rattle.repeat_limits.proofs.Refusing.{own_first, own_passed, own_out}
@@ -12,11 +12,11 @@ returns : tie.Need-returns
 returns c =
     let own = c.body-refusal.ensures in
     let e = c.before in
-    own_first e.before.before.args.body own (λ none. eqb-false _ 0 (sym e.before.body-in.ensures ∙ not_true _ e.if1.true) (sym own ∙ none))
+    own_first e.before.before.args.body own (λ none. eqb-false _ 0 (sym e.before.body-in.ensures ∙ not-true _ e.if1.true) (sym own ∙ none))
 
 -- after the test
 none : (c : tie.Else1) → 0 ≡ first (body_tests c.before.before.args.body)
-none c = sym (eqb-true _ 0 (sym c.before.body-in.ensures ∙ not_false _ c.if1.false))
+none c = sym (eqb-true _ 0 (sym c.before.body-in.ensures ∙ not-false _ c.if1.false))
 
 returns-2 : tie.Need-returns-2
 returns-2 c = own_out c.before.before.before.args.body (none c.before) c.if2.true

@@ -12,7 +12,7 @@ use lib.Signed.{le_z, ◌≤ℤ◌}
 use Rattle.rules.specs.Words.{last_passing, all_pass}
 use Rattle.rules.specs.Limits.{Plan, Gives, Late}
 use Rattle.rules.specs.Run.{Qualifies, Grants, level_given, fits, qualifies, left_granted}
-use Rattle.rules.proofs.Tests.{pass, passed, failed, not-both, not_true, and_true, or_true, Last, last_is, all_pass-each, each-all_pass}
+use Rattle.rules.proofs.Tests.{pass, passed, failed, not-both, not-true, and-true, or-true, Last, last_is, all_pass-each, each-all_pass}
 
 module _ (P : Plan) where
   test_fits : (t i q : ℕ) → (le_z (pos t) (P.limit i q) ≡ true) ↔ (pos t ≤ℤ P.limit i q)
@@ -87,8 +87,8 @@ module _ (P : Plan) where
     qualifies-is : (r : ℕ) → (qualifies P t i q r ≡ true) ↔ ((le_z (pos t) (P.bound i q r) ≡ true) × ((leb P.levels (suc q) ≡ true) ⊎ (all_pass clear r ≡ true)))
     unfolding qualifies clear
     qualifies-is r =
-        let B = and_true (le_z (pos t) (P.bound i q r)) (leb P.levels (suc q) || all_pass clear r) in
-        let O = or_true (leb P.levels (suc q)) (all_pass clear r) in
+        let B = and-true (le_z (pos t) (P.bound i q r)) (leb P.levels (suc q) || all_pass clear r) in
+        let O = or-true (leb P.levels (suc q)) (all_pass clear r) in
         ((λ h. ((B.0 h).0, O.0 (B.0 h).1)), (λ h. B.1 (h.0, O.1 h.1)))
 
     qualifies-passes : (r : ℕ) → qualifies P t i q r ≡ true → Passes r
@@ -99,14 +99,14 @@ module _ (P : Plan) where
         higher (inl top) l j a b f = let no_such : ⊥ = omega (arith, leb→le P.levels (suc q) (pass _ top)) in no_such
         higher (inr all) l j a b f =
             let e : i + (j - i) ≡ j = omega arith in
-            (not_true _).0 (subst (λ (y : ℕ). not (le_z (pos t) (P.limit y (suc q))) ≡ true) e (all_pass-each clear r all (j - i) (omega arith))) ((test_fits t j (suc q)).1 f)
+            (not-true _).0 (subst (λ (y : ℕ). not (le_z (pos t) (P.limit y (suc q))) ≡ true) e (all_pass-each clear r all (j - i) (omega arith))) ((test_fits t j (suc q)).1 f)
 
     passes-qualifies : (r : ℕ) → Passes r → qualifies P t i q r ≡ true
     unfolding clear
     passes-qualifies r p = (qualifies-is r).1 (passed _ p.0.le, higher (dec_lt (suc q) P.levels))
       where
         higher : Dec (suc q < P.levels) → (leb P.levels (suc q) ≡ true) ⊎ (all_pass clear r ≡ true)
-        higher (yes l) = inr (each-all_pass clear r (λ j h. (not_true _).1 (λ e. p.1 l (i + j) (omega arith) (omega arith) ((test_fits t (i + j) (suc q)).0 e))))
+        higher (yes l) = inr (each-all_pass clear r (λ j h. (not-true _).1 (λ e. p.1 l (i + j) (omega arith) (omega arith) ((test_fits t (i + j) (suc q)).0 e))))
         higher (no l) = inl (passed _ (le→leb P.levels (suc q) (omega arith)))
 
     -- The computed coast is what a decision grants.

@@ -19,9 +19,9 @@ use Rattle.rules.proofs.Demand.Coast.{gives_fits}
 use Rattle.rules.proofs.Demand.Fewest.{safe_on, cycle-kept}
 use Rattle.rules.proofs.Demand.Steps.{Steps, steps-cycle}
 
-or_false : (b : Bool) → b || false ≡ b
-or_false true = refl
-or_false false = refl
+or-false : (b : Bool) → b || false ≡ b
+or-false true = refl
+or-false false = refl
 
 -- ---- one step, by fields, over any tables
 
@@ -139,7 +139,7 @@ module _ (cap : ℕ) (P : Plan) where
       where
         by : (b : Bool) → (cond b (decide cap P r) (coast r)).late ≡ r.late || (b && not (fits P r.clock r.position))
         by true = refl
-        by false = sym (or_false r.late)
+        by false = sym (or-false r.late)
 
     pub late_is : (i : ℕ) → (before cap P w d t (suc i)).late
         ≡ (before cap P w d t i).late || (decided cap P w d t i && not (fits P (clock t (took cap P w d t) i) i))
@@ -176,7 +176,7 @@ module _ {S : Tables} (cap : ℕ) (some-coast : 0 < cap) (some_level : 0 < S.lev
   unfolding at before step ended
   next-overrun i l =
       ap (λ (b : Bool). (given cap (plan_of P) (at i)).overrun || b) (none_over i l)
-      ∙ or_false (given cap (plan_of P) (at i)).overrun
+      ∙ or-false (given cap (plan_of P) (at i)).overrun
       ∙ (given-same cap (plan_of P) (at i)).overrun
 
   pub no_overrun : (i : ℕ) → i ≤ S.n → (before cap (plan_of P) S.worst d t i).overrun ≡ false
@@ -279,7 +279,7 @@ module _ {S : Tables} (cap : ℕ) (some-coast : 0 < cap) (some_level : 0 < S.lev
     next-late i l = by (decides (at i))
       where
         by : (b : Bool) → (cond b (decide cap (plan_of P) (at i)) (coast (at i))).late ≡ (at i).late
-        by true = ap (λ (f : Bool). (at i).late || not f) (level-fits i l) ∙ or_false (at i).late
+        by true = ap (λ (f : Bool). (at i).late || not f) (level-fits i l) ∙ or-false (at i).late
         by false = refl
 
     never_late : (i : ℕ) → i ≤ S.n → (at i).late ≡ false

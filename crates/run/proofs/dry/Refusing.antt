@@ -1,7 +1,7 @@
 -- The row of refusals of the dry run, and what is known where none is given. Assumes nothing.
 use Prim.Native.Nat.{ℕ, ◌+◌, ◌*◌, ◌≤◌, ◌<◌}
 use mathlib.Core.Path.{◌≡◌, refl, sym, ◌∙◌}
-use mathlib.Core.Bool.{Bool, true, false, cond, ◌&&◌, ◌||◌, false≢true, or_assoc, or_false}
+use mathlib.Core.Bool.{Bool, true, false, cond, ◌&&◌, ◌||◌, false≢true, or_assoc, or-false}
 use mathlib.Core.List.{List, [], ◌∷◌}
 use mathlib.Core.Logic.{inl, inr, ⊎_elim}
 use native.Mathlib.Nat.{mul-le-mul}
@@ -18,7 +18,7 @@ use Rattle.rules.specs.Refusals.{first, First, CountsOut, Tight}
 use Rattle.rules.specs.Run.{begun, start_refusal}
 use Rattle.rules.specs.Dry.{dry_call}
 use Rattle.rules.specs.Recording.{short}
-use Rattle.rules.proofs.Tests.{neither, or_true}
+use Rattle.rules.proofs.Tests.{neither, or-true}
 use Rattle.rules.proofs.Refusals.{None, first-none}
 use Rattle.rules.proofs.Calls.{facts_in_range, begun-in_range}
 use Rattle.run.proofs.Ranges.{Counts}
@@ -63,7 +63,7 @@ short_of (r ∷ rest) = ltb r.0 r.1 || short_of rest
 pub is_tight : (rooms : List (ℕ × ℕ)) → short_of rooms ≡ true → Tight rooms
 unfolding short_of
 is_tight [] h = absurd (false≢true h)
-is_tight (r ∷ rest) h = ⊎_elim (λ e. inl (ltb-true r.0 r.1 e)) (λ e. inr (is_tight rest e)) ((or_true _ _).0 h)
+is_tight (r ∷ rest) h = ⊎_elim (λ e. inl (ltb-true r.0 r.1 e)) (λ e. inr (is_tight rest e)) ((or-true _ _).0 h)
 
 pub not_tight : (rooms : List (ℕ × ℕ)) → short_of rooms ≡ false → Tight rooms → ⊥
 unfolding short_of
@@ -94,7 +94,7 @@ module _ (n L : ℕ) (T : LentTables) (durations : List ℕ) (lists : DryLists) 
       (ltb (length durations) (n * L)) (ltb (length lists.levels) n) (ltb (length lists.decided) n)
     where
       six : (a b c d e f : Bool) → a || b || c || d || e || f ≡ a || (b || (c || (d || (e || (f || false)))))
-      six a b c d e f = simp (or_assoc, or_false)
+      six a b c d e f = simp (or_assoc, or-false)
 
   pub tested_tight : tested ≡ true → Tight (dry_rooms n L T durations lists)
   tested_tight h = is_tight _ (sym tested-is ∙ h)

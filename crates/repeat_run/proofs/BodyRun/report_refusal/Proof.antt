@@ -3,7 +3,7 @@ use mathlib.Core.Path.{◌≡◌, sym, ◌∙◌}
 use mathlib.Core.Bool.{true}
 use native.Mathlib.Omega.{arith}
 use borrow.Author.Rules.{rules}
-use borrow.Author.Tests.{not_false, lt-ltb, le-ltb}
+use borrow.Author.Tests.{not-false, lt-ltb, le-ltb}
 use Rattle.rules.specs.Refusals.{first}
 use Rattle.rules.specs.Repeat.{body_in_range, body_report_refusal}
 use Rattle.repeat_run.specs.Calls.{steps_of}
@@ -13,7 +13,7 @@ use Rattle.repeat_run.proofs.BodyRun.report_refusal.Tie as tie
 
 -- after the first test
 in_range : (c : tie.Else1) → let r = c.before.before.before.args.self in body_in_range r.body (steps_of r) ≡ true
-in_range c = sym c.before.in_range.ensures ∙ not_false _ c.if1.false
+in_range c = sym c.before.in_range.ensures ∙ not-false _ c.if1.false
 
 returns : tie.Need-returns
 unfolding body_report_refusal first

@@ -2,7 +2,7 @@
 use mathlib.Core.Path.{sym, ◌∙◌}
 use native.Mathlib.Omega.{arith}
 use borrow.Author.Rules.{rules}
-use borrow.Author.Tests.{not_true, not_false}
+use borrow.Author.Tests.{not-true, not-false}
 use Rattle.rules.proofs.Calls.{facts_in_range}
 use Rattle.run.proofs.Ranges.{Counts, fit_counts, unfit-counts, out_of_range}
 use Rattle.run.proofs.Run.in_range.Statement.{statement}
@@ -10,10 +10,10 @@ use Rattle.run.proofs.Run.in_range.Tie as tie
 
 -- after the first test
 counted : (c : tie.Else1) → let r = c.before.before.args.self in Counts r.n r.levels
-counted c = fit_counts _ _ (sym (not_false _ c.if1.false) ∙ c.before.counts_fit.ensures)
+counted c = fit_counts _ _ (sym (not-false _ c.if1.false) ∙ c.before.counts_fit.ensures)
 
 returns : tie.Need-returns
-returns c = out_of_range _ (λ f. unfit-counts _ _ (sym (not_true _ c.if1.true) ∙ c.before.counts_fit.ensures) (record {
+returns c = out_of_range _ (λ f. unfit-counts _ _ (sym (not-true _ c.if1.true) ∙ c.before.counts_fit.ensures) (record {
   some_action = f.some_action;
   few = f.few;
   some_level = f.some_level;

@@ -3,7 +3,7 @@ use mathlib.Core.Path.{◌≡◌, sym, ◌∙◌}
 use mathlib.Core.Bool.{true}
 use native.Mathlib.Omega.{arith}
 use borrow.Author.Rules.{rules}
-use borrow.Author.Tests.{not_false, lt-ltb, le-ltb}
+use borrow.Author.Tests.{not-false, lt-ltb, le-ltb}
 use Rattle.rules.specs.Refusals.{first}
 use Rattle.rules.specs.Run.{in_range, report_refusal}
 use Rattle.run.specs.Calls.{run_of}
@@ -13,7 +13,7 @@ use Rattle.run.proofs.Run.report_refusal.Tie as tie
 
 -- after the first test
 ranged : (c : tie.Else1) → in_range (run_of c.before.before.before.args.self) ≡ true
-ranged c = sym c.before.in_range.ensures ∙ not_false _ c.if1.false
+ranged c = sym c.before.in_range.ensures ∙ not-false _ c.if1.false
 
 returns : tie.Need-returns
 unfolding report_refusal first

@@ -5,7 +5,7 @@ use mathlib.Core.List.{List, []}
 use mathlib.Core.Logic.{inl, inr}
 use native.Mathlib.Omega.{arith}
 use borrow.Author.Rules.{rules}
-use borrow.Author.Tests.{not_true, not_false}
+use borrow.Author.Tests.{not-true, not-false}
 use Rattle.rules.specs.Limits.{LentTables}
 use Rattle.rules.specs.Refusals.{Tight}
 use Rattle.run.proofs.Ranges.{Counts, fit_counts}
@@ -29,14 +29,14 @@ abbrev durations : tie.Else1 → List ℕ
 durations c = (start c).args.durations.now
 
 counted : (c : tie.Else1) → Counts (start c).args.n (start c).args.levels
-counted c = fit_counts _ _ (sym (not_false _ c.if1.false) ∙ c.before.counts_fit.ensures)
+counted c = fit_counts _ _ (sym (not-false _ c.if1.false) ∙ c.before.counts_fit.ensures)
 
 -- after the second, room
 roomy : (c : tie.Else2) → let d = c.before in Tight (dry_rooms (start d).args.n (start d).args.levels (lent d) (durations d) (lists d)) → ⊥
 roomy c = let d = c.before in tested_roomy _ _ (lent d) (durations d) (lists d) c.if2.false
 
 returns : tie.Need-returns
-returns c = inl (unfit-counts-out _ _ (sym (not_true _ c.if1.true) ∙ c.before.counts_fit.ensures), refl)
+returns c = inl (unfit-counts-out _ _ (sym (not-true _ c.if1.true) ∙ c.before.counts_fit.ensures), refl)
 
 mul-cells : tie.Need-overflow-mul-cells
 mul-cells c = omega (arith, few-cells (counted c))
