@@ -1,4 +1,6 @@
 // What a program's arguments say of the policy: its year, 2008 where they say none.
+#![tactic(auto)]
+
 ghost use Rattle.std.specs.Prelude.{◌≡◌, length};
 ghost use Rattle.arguments.specs.Year.{year_of, understood};
 

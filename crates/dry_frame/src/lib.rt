@@ -1,4 +1,6 @@
 // A frame run dry: an image is planned by a policy and its cycle run over given durations, in one call. Demand 3 is its promise.
+#![tactic(auto)]
+
 ghost use Rattle.std.specs.Prelude.{◌≡◌, false};
 ghost use Rattle.rules.specs.Numbers.{most_actions};
 ghost use Rattle.dry_frame.specs.Frame.{Frames};

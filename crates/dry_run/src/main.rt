@@ -1,5 +1,7 @@
 // The dry-run program: an image from the file `profile` and durations, four bytes each, high byte first, from `durations`. Its one argument is the
 // policy's year, 2008 without it.
+#![tactic(auto)]
+
 use files::read_file;
 
 fn main() {

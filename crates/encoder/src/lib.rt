@@ -1,5 +1,7 @@
 // The encoder's times (source 001, figure 5) as a fixed table, nine actions by eight levels, and its profile: the chain in the listed order,
 // deadlines 0, cycle 320,000.
+#![tactic(auto)]
+
 ghost use Rattle.std.specs.Prelude.{◌<◌, ◌≡◌};
 ghost use Rattle.image_write.specs.Writing.{Writes};
 ghost use Rattle.encoder.specs.Times.{times, column, encoder_tables};

@@ -1,4 +1,6 @@
 // The plan of the encoder's profile by the 2008 policy, as the plan program prints it.
+#![tactic(auto)]
+
 fn main() {
     let mut image = [0u8; 546];
     encoder::write_image(&mut image);

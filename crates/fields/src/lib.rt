@@ -1,4 +1,6 @@
 // Big-endian numbers of a slice of bytes, read and written; bytes copied.
+#![tactic(auto)]
+
 ghost use Rattle.std.specs.Prelude.{◌≡◌, ◌+◌, ◌≤◌, ◌<◌, ◌^◌, length, get_or};
 ghost use Rattle.rules.specs.Words.{tab};
 ghost use Rattle.rules.specs.Image.{be, bytes};

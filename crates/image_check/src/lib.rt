@@ -1,4 +1,6 @@
 // The check of a profile image, refusals 1 to 9.
+#![tactic(auto)]
+
 use rules::Fault;
 
 pub mod whole;

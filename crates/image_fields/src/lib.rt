@@ -1,4 +1,6 @@
 // The header and the records of an image: their fields, and the faults of its actions.
+#![tactic(auto)]
+
 pub mod column;
 pub mod read;
 pub mod scan;

@@ -1,4 +1,6 @@
 // The bytes of an image: the header, then the records, action 0 first.
+#![tactic(auto)]
+
 ghost use Rattle.std.specs.Prelude.{◌≡◌, [], ◌++◌, ℕ, ◌+◌, ◌*◌, ◌^◌, ◌≤◌, ◌<◌, length, get_or};
 ghost use Rattle.rules.specs.Words.{cat};
 ghost use Rattle.rules.specs.Numbers.{most_actions, most_levels, header_bytes};

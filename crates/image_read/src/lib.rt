@@ -1,4 +1,6 @@
 // Reading: the tables of an image, unpacked into lent slices.
+#![tactic(auto)]
+
 ghost use Rattle.std.specs.Prelude.{◌≡◌, [], ◌∷◌, ◌+◌, ◌*◌, ◌≤◌, ◌<◌, length};
 ghost use Rattle.rules.specs.Words.{tab, rows};
 ghost use Rattle.rules.specs.Image.{mask_of, deadline_of, average_of, worst_of};

@@ -1,4 +1,5 @@
 // Writing: n, L, cycle and lent slices of masks, deadlines, averages and worst times, packed into a lent image.
+#![tactic(auto)]
 
 ghost use Rattle.rules.specs.Refusals.{Refuses};
 ghost use Rattle.image_write.specs.Writing.{writing, Writes};

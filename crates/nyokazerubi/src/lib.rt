@@ -1,5 +1,7 @@
 // The boundary for hosts in C and Rust: every public call under a name of its own, on numbers, slices and `#[repr(C)]` records. Each contract is
 // that of the call behind it. include/nyokazerubi.h declares the functions for C.
+#![tactic(auto)]
+
 ghost use Rattle.std.specs.Prelude.{◌≡◌, []};
 ghost use Rattle.rules.specs.Refusals.{Refuses, image_checks, lookup_call};
 ghost use Rattle.image_write.specs.Writing.{Writes};

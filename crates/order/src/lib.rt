@@ -1,5 +1,6 @@
 // The order of actions on lent slices: the masks and deadlines by action, the level 0 worst time of action a at a * stride.
 // A deadline of 0 stands for the cycle.
+#![tactic(auto)]
 
 ghost use Rattle.std.specs.Prelude.{◌≡◌, true, ◌↔◌, List, [], ℕ, ◌≤◌, ◌<◌, length, get_or};
 ghost use Rattle.rules.specs.Numbers.{most_actions};

@@ -1,4 +1,5 @@
 // The actions in a line in which each comes after its predecessors, from lent masks. Where no such line can be, the masks contain a loop.
+#![tactic(auto)]
 
 ghost use Rattle.std.specs.Prelude.{◌≡◌, true, ◌↔◌, ℕ, ◌≤◌, ◌<◌, length, get_or};
 ghost use Rattle.rules.specs.Numbers.{most_actions};

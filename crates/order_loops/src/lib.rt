@@ -1,4 +1,5 @@
 // The actions on a loop of lent masks, from the sets of all that comes before each action.
+#![tactic(auto)]
 
 ghost use Rattle.std.specs.Prelude.{◌≡◌, true, ◌↔◌, List, ℕ, ◌+◌, ◌≤◌, ◌<◌, length, get_or};
 ghost use Rattle.rules.specs.Numbers.{most_actions};

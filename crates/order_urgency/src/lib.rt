@@ -1,5 +1,6 @@
 // The urgency of each action, from lent masks and deadlines by action, in one pass from the last action to the first: at its turn an
 // action has got the urgencies of all that must follow it, and hands its own on to its predecessors. A deadline of 0 stands for the cycle.
+#![tactic(auto)]
 
 ghost use Rattle.std.specs.Prelude.{◌≡◌, cond, true, ◌↔◌, [], ℕ, ◌≤◌, ◌<◌, eqb, length, get_or};
 ghost use Rattle.rules.specs.Numbers.{most_actions};

@@ -1,5 +1,7 @@
 // The plan program: an image on standard input, and as its one argument the policy's year, 2008 without it; actions, levels, cycle, then position,
 // action and limits by level.
+#![tactic(auto)]
+
 fn main() {
     let chosen = arguments::year(1);
     if !chosen.understood {

@@ -1,4 +1,6 @@
 // A limit from the limits after it, and coast bounds from those after them.
+#![tactic(auto)]
+
 ghost use Rattle.std.specs.Prelude.{◌≡◌, cond, ℕ, ◌+◌, ◌-◌, ◌*◌, ◌≤◌, ◌<◌, pos, ◌-ℤ◌, length, get_or};
 ghost use Rattle.std.specs.Int.Signed.{mag, lt_z};
 ghost use Rattle.rules.specs.Numbers.{most_levels, last_clock, longest_coast};

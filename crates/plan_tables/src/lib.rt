@@ -1,4 +1,6 @@
 // The tables of an accepted image: the order, the limits, the worst times by position and the coast bounds, written to lent slices.
+#![tactic(auto)]
+
 ghost use Rattle.std.specs.Prelude.{◌*◌, ◌≤◌, [], length};
 ghost use Rattle.rules.specs.Image.{profile};
 ghost use Rattle.rules.specs.Order.{Order};

@@ -1,4 +1,6 @@
 // Planning: the order, the limits, the worst times by position and the coast bounds of an image, written to lent tables.
+#![tactic(auto)]
+
 ghost use Rattle.std.specs.Prelude.{◌≡◌, [], ◌∷◌, ◌≤◌};
 ghost use Rattle.rules.specs.Numbers.{most_actions, most_levels, refused_room, refused_policy};
 ghost use Rattle.rules.specs.Refusals.{◌when◌, First, Tight, UnknownPolicy, kept};

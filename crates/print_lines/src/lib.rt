@@ -1,4 +1,6 @@
 // The lines that the programs share, and those of a recording. Each is put into a lent buffer from an index on; the answer is where it ends.
+#![tactic(auto)]
+
 pub mod rehearse;
 
 ghost use Rattle.std.specs.Prelude.{[], ◌∷◌, ◌++◌};

@@ -1,4 +1,6 @@
 // The public calls on a profile image: check, read, look an action up, write.
+#![tactic(auto)]
+
 ghost use Rattle.std.specs.Prelude.{◌≡◌};
 ghost use Rattle.rules.specs.Refusals.{Refuses, image_checks, lookup_call};
 ghost use Rattle.image_write.specs.Writing.{Writes};

@@ -2,6 +2,8 @@
 //
 // A recording is frames one after another, and nothing else. A frame is n by L durations, by position, then level, four bytes each, high byte
 // first. No call takes more of a recording than its length and one frame.
+#![tactic(auto)]
+
 ghost use Rattle.std.specs.Prelude.{◌+◌, ◌-◌, ◌*◌, ◌/◌, ◌%◌, ◌≤◌, ◌<◌, min, ◌≡◌, true, false, [], ◌∷◌, ◌++◌, ◌≢◌};
 ghost use Rattle.rules.specs.Numbers.{most_actions, most_frames, refused_turn, refused_trace, refused_policy};
 ghost use Rattle.rules.specs.Refusals.{◌when◌, First, Refuses, UnknownPolicy, image_checks};

@@ -1,4 +1,6 @@
 // Refreshing averages: the new image of an image and a trace, which differs in averages only.
+#![tactic(auto)]
+
 ghost use Rattle.std.specs.Prelude.{◌≡◌, ◌+◌, ◌*◌, ◌≤◌, length};
 ghost use Rattle.rules.specs.Numbers.{most_levels};
 ghost use Rattle.rules.specs.Words.{tab};

@@ -1,5 +1,7 @@
 // A recording tried against a profile: what the rehearse program does. Frames are read one at a time into one buffer, and the text leaves whenever
 // the lent buffer is full, so that nothing grows with the recording.
+#![tactic(auto)]
+
 ghost use Rattle.std.specs.Prelude.{◌≤◌, length};
 ghost use Rattle.io.specs.Counts.{IsPrefixLen};
 

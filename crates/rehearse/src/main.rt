@@ -1,5 +1,7 @@
 // The rehearse program: an image from the file `profile` and a recording, which is frames one after another, from `recording`. Its one argument is
 // the policy's year, 2008 without it. A line for each frame, and one of totals after them.
+#![tactic(auto)]
+
 use files::read_file;
 
 fn main() {

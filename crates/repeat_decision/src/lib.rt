@@ -1,5 +1,7 @@
 // A decision of a body repeated, read of the lent summaries, whoever wrote them: the level given, the coast granted, and whether it is late. A
 // position is told by its place in its body and by the whole bodies after that one.
+#![tactic(auto)]
+
 ghost use Rattle.std.specs.Prelude.{◌≡◌, [], ℕ, suc, ◌+◌, ◌-◌, ◌*◌, ◌≤◌, ◌<◌, min};
 ghost use Rattle.rules.specs.Numbers.{most_actions, most_levels, most_repeats, longest_coast};
 ghost use Rattle.rules.specs.Run.{left_granted};

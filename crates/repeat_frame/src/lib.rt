@@ -1,5 +1,7 @@
 // A frame of a body repeated, run dry: the image is planned and the frame run over given durations, in one call. Demands 2 and 3 over the unrolled
 // positions are its promise.
+#![tactic(auto)]
+
 ghost use Rattle.std.specs.Prelude.{◌≡◌, false, [], ◌+◌, ◌%◌};
 ghost use Rattle.rules.specs.Numbers.{longest_coast};
 ghost use Rattle.rules.specs.Refusals.{First};

@@ -1,5 +1,7 @@
 // Limits and coast bounds of a body repeated, worked out one at a time from the summaries of the rest of the body, whoever wrote these: a limit
 // costs the same at every position, however often the body is repeated.
+#![tactic(auto)]
+
 ghost use Rattle.std.specs.Prelude.{◌≡◌, [], ◌≢◌, ℕ, suc, ◌+◌, ◌-◌, ◌*◌, ◌≤◌, ◌<◌, max, min, eqb, pos, ◌+ℤ◌, ◌-ℤ◌, length, get_or};
 ghost use Rattle.std.specs.Int.Signed.{mag};
 ghost use Rattle.rules.specs.Numbers.{most_repeats, longest_coast, summary_numbers};

@@ -1,6 +1,8 @@
 // The repeat_plan program: a body's image on standard input, and as its arguments how often it is done and the policy's year, 2008 without it; n, L,
 // cycle and N, then for each unrolled position its number, its action and its limits by level. A first argument that is no number is 0, which is out of
 // the range of N.
+#![tactic(auto)]
+
 fn main() {
     let chosen = arguments::year(2);
     if !chosen.understood {

@@ -1,5 +1,7 @@
 // Planning a body repeated: its order, the summaries of the rest of the body and the worst times, written to lent tables. Nothing is stored for a
 // repeat, so that planning costs the same however often the body is repeated.
+#![tactic(auto)]
+
 ghost use Rattle.std.specs.Prelude.{◌*◌, ◌≤◌, ◌<◌, ◌≡◌, true, [], ◌∷◌, ◌↔◌};
 ghost use Rattle.rules.specs.Numbers.{most_actions, most_levels, refused_unfit, refused_room, refused_repeats};
 ghost use Rattle.rules.specs.Words.{sum};

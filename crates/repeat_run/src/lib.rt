@@ -1,5 +1,7 @@
 // The run record of a body repeated and its calls: start, ask and report, by the steps of a plain cycle. Each call takes the record and hands the
 // next one back. What a turn is made of is public too, for `repeat_frame`, which runs a whole frame.
+#![tactic(auto)]
+
 ghost use Rattle.std.specs.Prelude.{◌≡◌, ◌+◌, ◌*◌, ◌<◌, ◌≤◌};
 ghost use Rattle.rules.specs.Numbers.{most_positions, longest_coast};
 ghost use Rattle.rules.specs.Limits.{Plan};

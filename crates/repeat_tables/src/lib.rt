@@ -1,5 +1,7 @@
 // The tables of a body: the order, the summaries of the rest of the body and the worst times, by position and level, written to lent slices;
 // and what of the image decides on repeating it.
+#![tactic(auto)]
+
 ghost use Rattle.std.specs.Prelude.{◌+◌, ◌*◌, ◌≤◌, max, ◌≡◌, true, cond, [], ◌∷◌, ◌↔◌, eqb, length};
 ghost use Rattle.rules.specs.Numbers.{policy_2005, summary_numbers};
 ghost use Rattle.rules.specs.Words.{sum, Some};

@@ -1,5 +1,7 @@
 // A body repeated as text: what the repeat_plan program does. Each line is worked out as it is put, and the text leaves whenever the lent buffer has
 // no room for a line, so that nothing grows with the repeats.
+#![tactic(auto)]
+
 ghost use Rattle.std.specs.Prelude.{◌≡◌, ◌+◌, ◌≤◌, ◌<◌, [], ◌∷◌, length};
 ghost use Rattle.io.specs.Counts.{IsPrefixLen};
 ghost use Rattle.rules.specs.Numbers.{most_positions};

@@ -1,5 +1,6 @@
 // The numbers of the rules, each once, for every crate; specs/Numbers has what the definitions need of them, under the same names. The rules
 // themselves are mathematics: see specs/ for the definitions and proofs/ for their laws.
+#![tactic(auto)]
 
 // ---- ranges
 

@@ -1,5 +1,7 @@
 // The run record and its calls: start, ask and report. Each call takes the record and hands the next one back. `dry` runs a whole cycle. What a
 // turn is made of is public too, for `recording`, which runs a cycle where a frame's bytes lie.
+#![tactic(auto)]
+
 ghost use Rattle.std.specs.Prelude.{◌≡◌, not, [], ◌+◌, ◌*◌, ◌<◌, ◌≤◌, eqb};
 ghost use Rattle.rules.specs.Numbers.{most_actions, longest_coast};
 ghost use Rattle.rules.specs.Words.{one_if};

@@ -1,4 +1,6 @@
 // What a decision reads of the lent tables, whoever wrote them: the level given and the coast granted.
+#![tactic(auto)]
+
 ghost use Rattle.std.specs.Prelude.{◌≡◌, false, [], suc, ◌+◌, ◌*◌, ◌<◌, ◌≤◌, min, pos, length, get_or};
 ghost use Rattle.std.specs.Int.Signed.{le_z};
 ghost use Rattle.rules.specs.Numbers.{longest_coast};

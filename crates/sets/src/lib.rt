@@ -1,4 +1,5 @@
 // 64-bit sets of actions: the bit worth 2^b says that the set has action b.
+#![tactic(auto)]
 
 ghost use Rattle.std.specs.Prelude.{◌≡◌, true, false, ◌↔◌, ℕ, ◌<◌, ◌≤◌};
 ghost use Rattle.rules.specs.Numbers.{most_actions};

@@ -1,4 +1,6 @@
 // The speed reading of an image: how fast positions in a row must run at a level to end in time.
+#![tactic(auto)]
+
 ghost use Rattle.std.specs.Prelude.{◌≡◌, true, ◌↔◌};
 ghost use Rattle.rules.specs.Refusals.{First};
 ghost use Rattle.speed_stretch.specs.Stretch.{StretchOf, SmallStretch};

@@ -1,4 +1,6 @@
 // The speed reading's arithmetic: average and margin of a stretch of positions, and the ratio of average and room.
+#![tactic(auto)]
+
 ghost use Rattle.std.specs.Prelude.{◌≡◌, ◌+◌, ◌≤◌, ◌<◌, pos, ◌-ℤ◌};
 ghost use Rattle.rules.specs.Numbers.{longest_time};
 ghost use Rattle.rules.specs.Speed.{quotient, reading_by, at_most_one};

@@ -2,6 +2,8 @@
 // what the dry-run program prints for both. 000 to 070 come with the rules, the first three of them cases 1 to 3 of its worked values: Three with the
 // durations 6, 8, 4, then 0, 8, 8, then 8, 4, 8, each at both levels. Those from 071 on are written by the independent program of host/.
 // Last, what the programs print where a file is not there: it is empty, so an image is refused as short and durations are too few.
+#![tactic(auto)]
+
 ghost use Rattle.io.specs.Counts.{IsPrefixLen};
 
 use test_kit::{read_case, sum_up, tell};

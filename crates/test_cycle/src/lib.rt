@@ -1,5 +1,7 @@
 // Whole cycles, each asked and reported action by action and by the dry run: Three, a long coast with an overrun in it, a late cycle, tables of
 // others; then what the dry run refuses. A case is told again with what came of it.
+#![tactic(auto)]
+
 use run::{Answer, Run};
 use test_kit::{count, part, say_number};
 

@@ -1,5 +1,7 @@
 // Runs each call at its edges: a case is a line of a file, told again with what came of it, to be read beside the rules. What begins with # is a
 // heading.
+#![tactic(auto)]
+
 fn main() {
     tell_file(b"profile.txt");
     tell_file(b"run.txt");

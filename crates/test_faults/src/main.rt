@@ -2,6 +2,8 @@
 // prints too where the image is refused. wNN.tables is what is given to writing, as text in five lines: n, L, cycle and the bytes of the lent image;
 // masks; deadlines; averages; worst times. Each slice is as long as its line. Then either wNN.written is the image or wNN.refused the line of the
 // refusal; an absent file reads as an empty one. They come with the request that a refusal names the action at fault.
+#![tactic(auto)]
+
 ghost use Rattle.std.specs.Prelude.{◌≤◌, ◌≡◌, length};
 ghost use Rattle.io.specs.Counts.{IsPrefixLen};
 

@@ -1,6 +1,8 @@
 // What the programs that run under the gate share: sample images, the files and the numbers of a case, and lines on standard output. A case is
 // files of one number, or a line of text, told again with what came of it. No contract of `io` can say which bytes a write takes, so what only
 // writes promises only that it ends: what a program wrote is compared with its file `stdout`.
+#![tactic(auto)]
+
 ghost use Rattle.std.specs.Prelude.{ℕ, ◌+◌, ◌≤◌, ◌<◌, min, ◌≡◌, cond, eqb, length, get_or};
 ghost use Rattle.io.specs.Counts.{IsPrefixLen};
 ghost use Rattle.rules.specs.Numbers.{policy_2008};

@@ -2,6 +2,8 @@
 // is a line of cases.txt: `start`, n and levels; `ask`, and how much of the order is lent; `report`, the clock, and how much of the worst times is
 // lent. It is told again with the answer, the number of a refusal first, and then the lent record: position, clock, running, decisions. Where the
 // two differ it says so instead.
+#![tactic(auto)]
+
 ghost use Rattle.std.specs.Prelude.{◌≤◌};
 
 use nyokazerubi::runs;

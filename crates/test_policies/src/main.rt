@@ -1,6 +1,8 @@
 // Outside cases of the policies. NNN.profile is an image, NNN.durations its durations and NNN.policy a year; NNN.plan is what the plan program prints
 // with that year as its argument, NNN.dry what the dry-run program prints. They come with the request to keep the 2005 policy beside the 2008 one.
 // Last, the durations of some cases as recordings of one frame: what the rehearse program prints with the year of the case.
+#![tactic(auto)]
+
 use check::same;
 use test_kit::{read_case, sum_up, tell};
 

@@ -1,5 +1,7 @@
 // The calls on a profile at their edges: each refusal with a neighbour that is accepted, Three read and written back, and writings one step apart.
 // A case is told again with what came of it.
+#![tactic(auto)]
+
 use profile::Unpacked;
 use test_kit::{count, part, say, say_fault};
 

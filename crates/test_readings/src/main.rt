@@ -1,5 +1,7 @@
 // Outside readings: each line of readings.txt has an image in hexadecimal, the first position, the last, the level, the time, and the
 // reading as the programs print it.
+#![tactic(auto)]
+
 use files::read_file;
 use print::put_reading;
 use test_kit::{sum_up, tell};

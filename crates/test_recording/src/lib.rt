@@ -1,5 +1,7 @@
 // Recordings at their edges: opened by their length, and frames on totals at each edge, over tables and frames of odd lengths. A case is told again
 // with what came of it.
+#![tactic(auto)]
+
 ghost use Rattle.std.specs.Prelude.{◌<◌, ◌≡◌, length};
 
 use recording::{Counted, Opened, Totals};

@@ -1,6 +1,8 @@
 // Outside recordings, by the 2008 policy: NNN.profile is an image, NNN.recording a recording and NNN.rehearse what the rehearse program prints for both. They come with
 // the request for recordings. Last, what it prints where a file is not there: it is empty, so that an image is refused as short, and a recording
 // has no frames.
+#![tactic(auto)]
+
 ghost use Rattle.io.specs.Counts.{IsPrefixLen};
 
 use test_kit::{read_case, sum_up, tell};

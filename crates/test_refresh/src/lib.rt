@@ -1,5 +1,7 @@
 // The refresh at its edges: new and raised averages, each refusal of a trace, as many records as can be and one more, little room, and damaged
 // images. A case is told again with what came of it.
+#![tactic(auto)]
+
 ghost use Rattle.std.specs.Prelude.{◌≡◌, length};
 
 use test_kit::part;

@@ -1,5 +1,7 @@
 // A body repeated at its edges: planned over tables of odd lengths, and limits and coast bounds of any body over summaries that planning wrote. A
 // case is told again with what came of it.
+#![tactic(auto)]
+
 use repeat_limits::Limited;
 use repeat_planner::BodyPlanned;
 use rules::Body;

@@ -2,6 +2,8 @@
 // NNN.limits the lines of all positions, or of some where there are more than 200; with a refusal that line alone. NNN.bounds has coast bounds at
 // some positions; NNN.durations a frame's durations and NNN.dry what its dry run comes to, where one is listed. They come with the request for
 // bodies repeated.
+#![tactic(auto)]
+
 ghost use Rattle.std.specs.Prelude.{◌≡◌, ◌≤◌, ◌<◌, length};
 ghost use Rattle.io.specs.Counts.{IsPrefixLen};
 ghost use Rattle.rules.specs.Repeat.{positions as Repeat·positions};

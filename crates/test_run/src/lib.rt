@@ -1,5 +1,7 @@
 // The calls on a run record at their edges: starts, records at each edge of each field, tables of odd lengths, calls out of turn, and clocks. A case
 // is told again with the numbers that the calls answer: 0 for none, 99 for a refusal that changed the record.
+#![tactic(auto)]
+
 use run::{Answer, Asked, Reported, Run};
 use test_kit::{part, say, say_number};
 

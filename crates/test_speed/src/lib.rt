@@ -1,5 +1,7 @@
 // The speed reading at its edges: case 6 and the times around it, the room at 1, at 0 and below, and each refusal. A case is told again with the
 // reading: its bits are the exact value, and for a reader it is told in thousandths too.
+#![tactic(auto)]
+
 use print::put_reading;
 use speed_stretch::Reading;
 use test_kit::count;

@@ -1,5 +1,7 @@
 // Outside traces: NAME.profile is an image, NAME.trace a trace, and then either NAME.refreshed is the new image or NAME.refused the line of the
 // refusal. An absent file reads as an empty one. t00 to t23 come with the rules, e1/000 to e1/031 with the request that skipped actions do not count.
+#![tactic(auto)]
+
 ghost use Rattle.io.specs.Counts.{IsPrefixLen};
 
 use files::read_file;

@@ -1,4 +1,6 @@
 // Text as bytes: numbers, signs and lines put into a lent buffer, and the words of a line read from one.
+#![tactic(auto)]
+
 pub mod put;
 pub mod words;
 

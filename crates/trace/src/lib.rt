@@ -1,5 +1,7 @@
 // The trace of a refresh: its records checked, the measurements among them counted and summed, and new averages made of that. A table
 // has a cell for each action and level, as many as a profile can have: the levels of action 0, then those of action 1, and so on.
+#![tactic(auto)]
+
 ghost use Rattle.std.specs.Prelude.{◌≡◌, [], ◌∷◌, ◌+◌, ◌*◌, ◌≤◌, ◌<◌, max, length};
 ghost use Rattle.rules.specs.Numbers.{most_records, entry_bytes, refused_trace};
 ghost use Rattle.rules.specs.Refusals.{◌when◌, First};

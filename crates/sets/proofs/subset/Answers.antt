@@ -1,13 +1,9 @@
 use borrow.Author.Tests.{eq-eqb, eqb-true}
 use Rattle.sets.proofs.Laws.{and_subset, subset_and}
-use Rattle.sets.proofs.subset.Statement.{statement}
-use Rattle.sets.proofs.subset.Tie as tie
+use Rattle.sets.proofs.subset.Goals as goal
 
-returns : tie.Need-returns
+pub returns : goal.returns
 returns c = (
   λ e. and_subset c.args.a c.args.b (eqb-true _ _ e),
   λ h. eq-eqb _ _ (subset_and c.args.a c.args.b c.ranges.a.fits h),
 )
-
-pub subset-spec : {M : Type 1} → statement M
-subset-spec = tie.close (tie.spec returns)
