@@ -52,7 +52,8 @@ be-bytes (suc w) v =
     let tail : be (b ∷ bytes w v) 1 w ≡ be (bytes w v) 0 w =
     be_ext (b ∷ bytes w v) (bytes w v) 1 0 w (λ k l. get_or-append-add (b ∷ []) (bytes w v) k 0 ∙ rw zero-add) in
     let digit : v % (256 * 256 ^ w) ≡ b * 256 ^ w + v % 256 ^ w = mod-mul v (lit< tt) (one-le-pow w 256 (lit≤ tt)) in
-    rw (bytes-suc w v, pow-succ' 256 w) (omega (arith, be-front (b ∷ bytes w v) 0 w, tail, be-bytes w v, digit))
+    ap (λ (l : List ℕ). be l 0 (suc w)) (bytes-suc w v)
+    ∙ rw (pow-succ' 256 w) (omega (arith, be-front (b ∷ bytes w v) 0 w, tail, be-bytes w v, digit))
 
 -- ---- what is written of what was read
 

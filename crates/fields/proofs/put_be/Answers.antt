@@ -10,8 +10,7 @@ use Rattle.rules.specs.Image.{bytes}
 use Rattle.fields.specs.Fields.{splice}
 use Rattle.fields.proofs.Bytes.{bytes-suc}
 use Rattle.fields.proofs.Splice.{splice-nil, splice_front, set-splice}
-use Rattle.fields.proofs.put_be.Statement.{statement}
-use Rattle.fields.proofs.put_be.Tie as tie
+use Rattle.fields.proofs.put_be.Goals as goal
 
 -- before the loop
 none : (out : List ℕ) (at w v : ℕ) → out ≡ splice out (at + w) (bytes (w - w) v)
@@ -39,50 +38,15 @@ byte_more out₀ {out} at w v i j {rest} e h room b was is =
 left-more : (w v i j : ℕ) {rest : ℕ} → j ≡ i + 1 → j ≤ w → rest ≡ v / 256 ^ (w - j) → rest / 256 ≡ v / 256 ^ (w - i)
 left-more w v i j e h is = rw (is, one_more w i j e h, pow-suc 256 (w - j)) (div-div-eq-div-mul v (256 ^ (w - j)) 256)
 
--- after the loop
-done : (out₀ : List ℕ) {out : List ℕ} (at w v j : ℕ) → j ≡ 0 → out ≡ splice out₀ (at + j) (bytes (w - j) v) → out ≡ splice out₀ at (bytes w v)
-done out₀ at w v j e was =
-    let s : at + j ≡ at = omega arith in
-    let r : w - j ≡ w = omega arith in
-    was ∙ rw (s, r)
+pub loop-j-init : goal.loop-j-init
+loop-j-init c = (search rules, search rules, none _ _ c.args.w c.args.v, all_left c.args.w _)
 
-abbrev invariant-loop : tie.invariant-loop
-invariant-loop out₀ at v w rest₀ j₀ out rest j =
-    (j ≤ w) × (length out ≡ length out₀) × (out ≡ splice out₀ (at + j) (bytes (w - j) v)) × (rest ≡ v / 256 ^ (w - j))
-
-abbrev decreases-loop : tie.decreases-loop
-decreases-loop out₀ at v w rest₀ j₀ out rest j = j
-
-loop-holds : tie.Need-loop-init invariant-loop decreases-loop
-loop-holds c = (search rules, search rules, none _ _ c.args.w c.args.v, all_left c.args.w _)
-
-loop-again : tie.Need-loop-preserved invariant-loop decreases-loop
-loop-again c =
-    let x = c.before.before.args in
-    let t = c.before.loop in (
+pub loop-j-preserved : goal.loop-j-preserved
+loop-j-preserved c =
+    let x = c.args in
+    let t = c.loop-j in (
       search rules,
       simp length-set (omega arith),
       byte_more _ _ x.w x.v (t.j - 1) t.j (omega arith) (omega arith) (omega arith) (omega arith) t.invariant.2 t.invariant.3,
       omega (arith, left-more x.w x.v (t.j - 1) t.j (omega arith) (omega arith) t.invariant.3),
     )
-
-returns : tie.Need-returns invariant-loop decreases-loop
-returns c =
-    let x = c.before.before.args in
-    done _ _ x.w x.v c.before.loop.j (omega arith) c.before.loop.invariant.2
-
-pub put-be-spec : {M : Type 1} → statement M
-put-be-spec =
-    tie.close
-    (tie.spec
-    invariant-loop
-    decreases-loop
-    loop-holds
-    (λ c. search rules)
-    (λ c. search rules)
-    (λ c. search rules)
-    (λ c. search rules)
-    (λ c. search rules)
-    loop-again
-    (λ c. search rules)
-    returns)
