@@ -200,7 +200,7 @@ pub fn has_room(summaries: &[u32], x: usize, room: Room) -> bool
 // ---- walking along the positions
 
 // Where a position stands: its place in its body, and the whole bodies after that one.
-#[derive(Drop)]
+#[derive(Clone, Copy)]
 pub struct Spot {
     pub place: usize,
     pub after: u32,
