@@ -34,8 +34,7 @@ fn body_lent(numbers: &[u32; BODY_NUMBERS]) -> Body
 
 // ---- the plan, and what it comes to
 
-#[unsafe(no_mangle)]
-pub extern "C" fn nyokazerubi_plan_body(
+pub fn nyokazerubi_plan_body(
     image: &[u8],
     repeats: u32,
     policy: u32,
@@ -50,8 +49,7 @@ pub extern "C" fn nyokazerubi_plan_body(
     repeat_planner::plan(image, repeats, policy, order, summaries, worst_by_position)
 }
 
-#[unsafe(no_mangle)]
-pub extern "C" fn nyokazerubi_body_limit(
+pub fn nyokazerubi_body_limit(
     body: &[u32; BODY_NUMBERS],
     summaries: &[u32],
     position: usize,
@@ -63,8 +61,7 @@ pub extern "C" fn nyokazerubi_body_limit(
     repeat_limits::limit(lent, summaries, position, level)
 }
 
-#[unsafe(no_mangle)]
-pub extern "C" fn nyokazerubi_body_bound(
+pub fn nyokazerubi_body_bound(
     body: &[u32; BODY_NUMBERS],
     summaries: &[u32],
     worst_by_position: &[u32],
@@ -122,8 +119,7 @@ pub fn ask_flat(run: BodyRun, order: &[u8], summaries: &[u32], worst: &[u32]) ->
 
 // ---- over the lent record, which takes the next one whole; only a start sets its body
 
-#[unsafe(no_mangle)]
-pub extern "C" fn nyokazerubi_body_start(run: &mut BodyRun, body: &[u32; BODY_NUMBERS]) -> Refusal
+pub fn nyokazerubi_body_start(run: &mut BodyRun, body: &[u32; BODY_NUMBERS]) -> Refusal
     ensures { (run.new.body, next_flat (steps_of run.new) result) ≡ body_start (body_lent body.now) }
 {
     let out = begins(body);
@@ -134,8 +130,7 @@ pub extern "C" fn nyokazerubi_body_start(run: &mut BodyRun, body: &[u32; BODY_NU
     out.refusal
 }
 
-#[unsafe(no_mangle)]
-pub extern "C" fn nyokazerubi_body_ask(
+pub fn nyokazerubi_body_ask(
     run: &mut BodyRun,
     order: &[u8],
     summaries: &[u32],
@@ -157,8 +152,7 @@ pub extern "C" fn nyokazerubi_body_ask(
     out.given
 }
 
-#[unsafe(no_mangle)]
-pub extern "C" fn nyokazerubi_body_report(
+pub fn nyokazerubi_body_report(
     run: &mut BodyRun,
     clock: u32,
     worst_by_position: &[u32],
@@ -177,8 +171,7 @@ pub extern "C" fn nyokazerubi_body_report(
 
 // ---- a frame run dry, from an image
 
-#[unsafe(no_mangle)]
-pub extern "C" fn nyokazerubi_body_dry_frame(
+pub fn nyokazerubi_body_dry_frame(
     image: &[u8],
     repeats: u32,
     policy: u32,

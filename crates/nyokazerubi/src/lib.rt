@@ -29,8 +29,7 @@ pub mod runs;
 // The version of this boundary: of its calls, their parameters and the layout of its records. It goes up by 1 when one of them changes.
 pub const BOUNDARY: u32 = 6;
 
-#[unsafe(no_mangle)]
-pub extern "C" fn nyokazerubi_boundary() -> u32
+pub fn nyokazerubi_boundary() -> u32
     ensures { result ≡ boundary }
 {
     BOUNDARY
@@ -38,15 +37,13 @@ pub extern "C" fn nyokazerubi_boundary() -> u32
 
 // ---- the profile
 
-#[unsafe(no_mangle)]
-pub extern "C" fn nyokazerubi_check(image: &[u8]) -> Fault
+pub fn nyokazerubi_check(image: &[u8]) -> Fault
     ensures { Refuses (image_checks image.now) result }
 {
     profile::check(image)
 }
 
-#[unsafe(no_mangle)]
-pub extern "C" fn nyokazerubi_read(
+pub fn nyokazerubi_read(
     image: &[u8],
     masks: &mut [u64],
     deadlines: &mut [u32],
@@ -60,8 +57,7 @@ pub extern "C" fn nyokazerubi_read(
     profile::read(image, masks, deadlines, averages, worst_by_action)
 }
 
-#[unsafe(no_mangle)]
-pub extern "C" fn nyokazerubi_write(
+pub fn nyokazerubi_write(
     n: usize,
     levels: usize,
     cycle: u32,
@@ -87,23 +83,20 @@ pub extern "C" fn nyokazerubi_write(
     )
 }
 
-#[unsafe(no_mangle)]
-pub extern "C" fn nyokazerubi_write_encoder(image: &mut [u8]) -> Written
+pub fn nyokazerubi_write_encoder(image: &mut [u8]) -> Written
     ensures { Writes 9 8 320000 encoder_tables image.old image.new result.refusal result.bytes }
 {
     encoder::write_image(image)
 }
 
 // No slice can be handed back to C: the host takes the part that lies at the place.
-#[unsafe(no_mangle)]
-pub extern "C" fn nyokazerubi_lookup(image: &[u8], action: usize) -> Place
+pub fn nyokazerubi_lookup(image: &[u8], action: usize) -> Place
     ensures { Places image.now action result }
 {
     profile::lookup_place(image, action)
 }
 
-#[unsafe(no_mangle)]
-pub extern "C" fn nyokazerubi_lookup_refusal(image: &[u8], action: usize) -> Fault
+pub fn nyokazerubi_lookup_refusal(image: &[u8], action: usize) -> Fault
     ensures { Refuses (lookup_call image.now action) result }
 {
     profile::lookup_refusal(image, action)
@@ -111,8 +104,7 @@ pub extern "C" fn nyokazerubi_lookup_refusal(image: &[u8], action: usize) -> Fau
 
 // ---- the plan and the dry run
 
-#[unsafe(no_mangle)]
-pub extern "C" fn nyokazerubi_plan(
+pub fn nyokazerubi_plan(
     image: &[u8],
     policy: u32,
     order: &mut [u8],
@@ -127,8 +119,7 @@ pub extern "C" fn nyokazerubi_plan(
     planner::plan(image, policy, order, limits, worst_by_position, bounds)
 }
 
-#[unsafe(no_mangle)]
-pub extern "C" fn nyokazerubi_dry_run(
+pub fn nyokazerubi_dry_run(
     n: usize,
     levels: usize,
     limits: &[i32],
@@ -156,8 +147,7 @@ pub extern "C" fn nyokazerubi_dry_run(
 }
 
 // A frame run dry, from an image.
-#[unsafe(no_mangle)]
-pub extern "C" fn nyokazerubi_dry_frame(
+pub fn nyokazerubi_dry_frame(
     image: &[u8],
     policy: u32,
     durations: &[u32],
@@ -174,8 +164,7 @@ pub extern "C" fn nyokazerubi_dry_frame(
 
 // ---- the refresh
 
-#[unsafe(no_mangle)]
-pub extern "C" fn nyokazerubi_refresh(image: &[u8], trace: &[u8], out: &mut [u8]) -> Refreshed
+pub fn nyokazerubi_refresh(image: &[u8], trace: &[u8], out: &mut [u8]) -> Refreshed
     ensures { Refreshes image.now trace.now out.old out.new result.refusal result.bytes }
 {
     refresh::refresh(image, trace, out)

@@ -42,8 +42,7 @@ fn flat(reading: Reading) -> Read
     }
 }
 
-#[unsafe(no_mangle)]
-pub extern "C" fn nyokazerubi_speed_reading(
+pub fn nyokazerubi_speed_reading(
     image: &[u8],
     first: usize,
     last: usize,
@@ -55,8 +54,7 @@ pub extern "C" fn nyokazerubi_speed_reading(
     flat(speed::speed_reading(image, first, last, level, t))
 }
 
-#[unsafe(no_mangle)]
-pub extern "C" fn nyokazerubi_on_time(
+pub fn nyokazerubi_on_time(
     image: &[u8],
     first: usize,
     last: usize,

@@ -4,8 +4,7 @@ ghost use Rattle.recording.specs.Recording.{Opens, totals_of, Rehearses};
 
 use recording::{Line, Opened, Totals};
 
-#[unsafe(no_mangle)]
-pub extern "C" fn nyokazerubi_open_recording(
+pub fn nyokazerubi_open_recording(
     image: &[u8],
     policy: u32,
     bytes: usize,
@@ -29,8 +28,7 @@ pub extern "C" fn nyokazerubi_open_recording(
     )
 }
 
-#[unsafe(no_mangle)]
-pub extern "C" fn nyokazerubi_rehearse(
+pub fn nyokazerubi_rehearse(
     totals: &mut Totals,
     n: usize,
     levels: usize,

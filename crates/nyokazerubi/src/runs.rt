@@ -69,8 +69,7 @@ pub fn ask_flat(run: Run, order: &[u8], limits: &[i32], bounds: &[i32]) -> Asked
 
 // ---- over the lent record, which takes the next one whole
 
-#[unsafe(no_mangle)]
-pub extern "C" fn nyokazerubi_start(run: &mut Run, n: usize, levels: usize) -> Refusal
+pub fn nyokazerubi_start(run: &mut Run, n: usize, levels: usize) -> Refusal
     ensures { next_flat (run_of run.new) result ≡ start n levels }
 {
     let out = Run::start(n, levels);
@@ -78,8 +77,7 @@ pub extern "C" fn nyokazerubi_start(run: &mut Run, n: usize, levels: usize) -> R
     out.refusal
 }
 
-#[unsafe(no_mangle)]
-pub extern "C" fn nyokazerubi_ask(
+pub fn nyokazerubi_ask(
     run: &mut Run,
     order: &[u8],
     limits: &[i32],
@@ -93,8 +91,7 @@ pub extern "C" fn nyokazerubi_ask(
     out.given
 }
 
-#[unsafe(no_mangle)]
-pub extern "C" fn nyokazerubi_report(
+pub fn nyokazerubi_report(
     run: &mut Run,
     clock: u32,
     worst_by_position: &[u32],

@@ -1,0 +1,152 @@
+// What firmware in C and Rust links: the exported functions of include/nyokazerubi.h, each the call of its name in `nyokazerubi`, with its contract.
+#![tactic(auto)]
+
+ghost use Rattle.std.specs.Prelude.{◌≡◌, []};
+ghost use Rattle.rules.specs.Refusals.{Refuses, image_checks, lookup_call};
+ghost use Rattle.image_write.specs.Writing.{Writes};
+ghost use Rattle.profile.specs.Calls.{ReadsImage, Places};
+ghost use Rattle.planner.specs.Planning.{Plans};
+ghost use Rattle.encoder.specs.Times.{encoder_tables};
+ghost use Rattle.run.specs.Dry.{Dries};
+ghost use Rattle.dry_frame.specs.Frame.{Frames};
+ghost use Rattle.refresh.specs.Refresh.{Refreshes};
+ghost use Rattle.nyokazerubi.specs.Flat.{boundary};
+
+use dry_frame::Framed;
+use image_write::Written;
+use planner::Planned;
+use profile::{Place, Unpacked};
+use refresh::Refreshed;
+use rules::Fault;
+use run::dry::Dried;
+
+mod bodies;
+mod readings;
+mod recordings;
+mod runs;
+
+#[unsafe(no_mangle)]
+pub extern "C" fn nyokazerubi_boundary() -> u32
+    ensures { result ≡ boundary }
+{
+    nyokazerubi::nyokazerubi_boundary()
+}
+
+#[unsafe(no_mangle)]
+pub extern "C" fn nyokazerubi_check(image: &[u8]) -> Fault
+    ensures { Refuses (image_checks image.now) result }
+{
+    nyokazerubi::nyokazerubi_check(image)
+}
+
+#[unsafe(no_mangle)]
+pub extern "C" fn nyokazerubi_read(
+    image: &[u8],
+    masks: &mut [u64],
+    deadlines: &mut [u32],
+    averages: &mut [u32],
+    worst_by_action: &mut [u32],
+) -> Unpacked
+    ensures { ReadsImage image.now
+        (record { masks = masks.entry.now; deadlines = deadlines.old; averages = averages.old; worst = worst_by_action.old })
+        (record { masks = masks.exit.now; deadlines = deadlines.new; averages = averages.new; worst = worst_by_action.new }) result }
+{
+    nyokazerubi::nyokazerubi_read(image, masks, deadlines, averages, worst_by_action)
+}
+
+#[unsafe(no_mangle)]
+pub extern "C" fn nyokazerubi_write(
+    n: usize,
+    levels: usize,
+    cycle: u32,
+    masks: &[u64],
+    deadlines: &[u32],
+    averages: &[u32],
+    worst_by_action: &[u32],
+    image: &mut [u8],
+) -> Written
+    ensures { Writes n levels cycle
+        (record { masks = masks.entry.now; deadlines = deadlines.now; averages = averages.now; worst = worst_by_action.now })
+        image.old image.new result.refusal result.bytes }
+{
+    nyokazerubi::nyokazerubi_write(n, levels, cycle, masks, deadlines, averages, worst_by_action, image)
+}
+
+#[unsafe(no_mangle)]
+pub extern "C" fn nyokazerubi_write_encoder(image: &mut [u8]) -> Written
+    ensures { Writes 9 8 320000 encoder_tables image.old image.new result.refusal result.bytes }
+{
+    nyokazerubi::nyokazerubi_write_encoder(image)
+}
+
+#[unsafe(no_mangle)]
+pub extern "C" fn nyokazerubi_lookup(image: &[u8], action: usize) -> Place
+    ensures { Places image.now action result }
+{
+    nyokazerubi::nyokazerubi_lookup(image, action)
+}
+
+#[unsafe(no_mangle)]
+pub extern "C" fn nyokazerubi_lookup_refusal(image: &[u8], action: usize) -> Fault
+    ensures { Refuses (lookup_call image.now action) result }
+{
+    nyokazerubi::nyokazerubi_lookup_refusal(image, action)
+}
+
+#[unsafe(no_mangle)]
+pub extern "C" fn nyokazerubi_plan(
+    image: &[u8],
+    policy: u32,
+    order: &mut [u8],
+    limits: &mut [i32],
+    worst_by_position: &mut [u32],
+    bounds: &mut [i32],
+) -> Planned
+    ensures { Plans image.now policy
+        (record { order = order.entry.now; limits = limits.old; worst = worst_by_position.old; bounds = bounds.old })
+        (record { order = order.exit.now; limits = limits.new; worst = worst_by_position.new; bounds = bounds.new }) result }
+{
+    nyokazerubi::nyokazerubi_plan(image, policy, order, limits, worst_by_position, bounds)
+}
+
+#[unsafe(no_mangle)]
+pub extern "C" fn nyokazerubi_dry_run(
+    n: usize,
+    levels: usize,
+    limits: &[i32],
+    worst_by_position: &[u32],
+    bounds: &[i32],
+    durations: &[u32],
+    given: &mut [u8],
+    marks: &mut [u8],
+) -> Dried
+    ensures { Dries n levels
+        (record { order = []; limits = limits.now; worst = worst_by_position.now; bounds = bounds.now })
+        durations.now (record { levels = given.old; decided = marks.old })
+        (record { levels = given.new; decided = marks.new }) result }
+{
+    nyokazerubi::nyokazerubi_dry_run(n, levels, limits, worst_by_position, bounds, durations, given, marks)
+}
+
+#[unsafe(no_mangle)]
+pub extern "C" fn nyokazerubi_dry_frame(
+    image: &[u8],
+    policy: u32,
+    durations: &[u32],
+    order: &mut [u8],
+    given: &mut [u8],
+    marks: &mut [u8],
+) -> Framed
+    ensures { Frames image.now policy durations.now
+        (record { order = order.entry.now; levels = given.old; decided = marks.old })
+        (record { order = order.exit.now; levels = given.new; decided = marks.new }) result }
+{
+    nyokazerubi::nyokazerubi_dry_frame(image, policy, durations, order, given, marks)
+}
+
+#[unsafe(no_mangle)]
+pub extern "C" fn nyokazerubi_refresh(image: &[u8], trace: &[u8], out: &mut [u8]) -> Refreshed
+    ensures { Refreshes image.now trace.now out.old out.new result.refusal result.bytes }
+{
+    nyokazerubi::nyokazerubi_refresh(image, trace, out)
+}

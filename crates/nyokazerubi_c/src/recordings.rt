@@ -1,0 +1,39 @@
+// Recordings.
+ghost use Rattle.std.specs.Prelude.{[]};
+ghost use Rattle.recording.specs.Recording.{Opens, totals_of, Rehearses};
+
+use recording::{Line, Opened, Totals};
+
+#[unsafe(no_mangle)]
+pub extern "C" fn nyokazerubi_open_recording(
+    image: &[u8],
+    policy: u32,
+    bytes: usize,
+    order: &mut [u8],
+    limits: &mut [i32],
+    worst_by_position: &mut [u32],
+    bounds: &mut [i32],
+) -> Opened
+    ensures { Opens image.now policy bytes
+        (record { order = order.entry.now; limits = limits.old; worst = worst_by_position.old; bounds = bounds.old })
+        (record { order = order.exit.now; limits = limits.new; worst = worst_by_position.new; bounds = bounds.new }) result }
+{
+    nyokazerubi::recordings::nyokazerubi_open_recording(image, policy, bytes, order, limits, worst_by_position, bounds)
+}
+
+#[unsafe(no_mangle)]
+pub extern "C" fn nyokazerubi_rehearse(
+    totals: &mut Totals,
+    n: usize,
+    levels: usize,
+    limits: &[i32],
+    worst_by_position: &[u32],
+    bounds: &[i32],
+    frame: &[u8],
+) -> Line
+    ensures { Rehearses n levels
+        (record { order = []; limits = limits.now; worst = worst_by_position.now; bounds = bounds.now })
+        frame.now (totals_of totals.entry.now) (record { totals = totals.exit.now; line = result }) }
+{
+    nyokazerubi::recordings::nyokazerubi_rehearse(totals, n, levels, limits, worst_by_position, bounds, frame)
+}
