@@ -27,7 +27,7 @@ pub fn lower_alone(masks: &[u64], n: usize) -> bool
 pub fn number(n: usize, at: &mut [u8; 64])
     requires { (n ≤ most_actions) × (length at.old ≡ most_actions) }
     ensures by_index { (k : ℕ) → k < n → get_or at.new k 0 ≡ k }
-    ensures by_index_2 { (k : ℕ) → n ≤ k → get_or at.new k 0 ≡ get_or at.old k 0 }
+    ensures rest { (k : ℕ) → n ≤ k → get_or at.new k 0 ≡ get_or at.old k 0 }
 {
     let mut k: usize = 0;
     while k < n {
