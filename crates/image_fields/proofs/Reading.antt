@@ -10,7 +10,7 @@ use lib.ListN.{length, get_or, set, length-set}
 use lib.Seq.{get_or-set_same, get_or-set_other}
 use borrow.Author.Count.{below_none, below_more}
 use Rattle.rules.specs.Numbers.{longest_time}
-use Rattle.rules.specs.Image.{levels, record_bytes, record_at, image_bytes, worst_of, profile}
+use Rattle.rules.specs.Image.{record_bytes, record_at, image_bytes, worst_of, profile}
 use Rattle.rules.specs.Refusals.{CountOut, Count, Length, Accepted}
 use Rattle.rules.proofs.Differences.{not-above}
 use Rattle.rules.proofs.Refusals.{accepted-sound}
