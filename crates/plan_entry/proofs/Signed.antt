@@ -1,6 +1,6 @@
 -- The lesser of two numbers and a difference: how large they can be, and where the first is the lesser. Assumes nothing.
 use Prim.Native.Nat.{ℕ, zero, suc, ◌+◌, ◌-◌, ◌≤◌, ◌<◌}
-use mathlib.Core.Path.{◌≡◌, refl, sym, ap, ◌∙◌}
+use mathlib.Core.Path.{◌≡◌, sym, ap, ◌∙◌}
 use mathlib.Core.Bool.{Bool, true, false, cond, true≢false}
 use native.Mathlib.Decide.{dec_lt}
 use native.Mathlib.Omega.{arith}
@@ -35,7 +35,7 @@ mag_less (negsuc n) (suc c) = omega arith
 
 -- a number in range is what its 32 bits say
 pub as_is : (z : ℤ) → mag z < 2147483648 → to_z w32 (of_z w32 z) ≡ z
-as_is z h = to_z-of_z (record { sfits = h })
+as_is z h = to_z-of_z {w = w32} (record { sfits = h })
 
 -- ---- which is the lesser
 
