@@ -15,7 +15,7 @@ use rules::Refusal;
 pub const CELLS: usize = rules::MOST_ACTIONS * rules::MOST_LEVELS;
 
 // A record of a trace, by the cell of its action and level.
-#[derive(Drop)]
+#[derive(Clone, Copy)]
 pub struct Entry {
     pub open: bool,
     pub cell: usize,
