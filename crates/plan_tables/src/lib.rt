@@ -96,12 +96,12 @@ pub fn fill(
     bounds: &mut [i32],
 )
     requires some_plan_input { SomePlanInput image.now n levels cycle actions.now }
-    requires n_in_bounds { (n ≤ length order.now)
-        × EntriesFit (n * levels) (record { order = order.now; limits = limits.old; worst = worst.old; bounds = bounds.old }) }
+    requires n_in_bounds { (n ≤ length order.old)
+        × EntriesFit (n * levels) (record { order = order.old; limits = limits.old; worst = worst.old; bounds = bounds.old }) }
     ensures { (o : Order (profile image.now).n) → PlanInput image.now n levels cycle actions.now o
         → AllFilled image.now policy
-        (record { order = order.entry.now; limits = limits.old; worst = worst.old; bounds = bounds.old })
-        (record { order = order.exit.now; limits = limits.new; worst = worst.new; bounds = bounds.new }) o }
+        (record { order = order.old; limits = limits.old; worst = worst.old; bounds = bounds.old })
+        (record { order = order.new; limits = limits.new; worst = worst.new; bounds = bounds.new }) o }
 {
     fields::copy_front(actions, n, order);
     work(
