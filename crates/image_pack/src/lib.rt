@@ -29,8 +29,8 @@ fn put_level(image: &mut [u8], at: usize, average: u32, worst: u32)
 
 // The levels of action a.
 fn put_levels(image: &mut [u8], at: usize, levels: usize, averages: &[u32], worst: &[u32], a: usize)
-    requires levels_in_bounds { at + levels * 6 ≤ length image.old }
-    requires levels_in_bounds_2 { (a * levels + levels ≤ length averages.now) × (a * levels + levels ≤ length worst.now) }
+    requires image_in_bounds { at + levels * 6 ≤ length image.old }
+    requires levels_in_bounds { (a * levels + levels ≤ length averages.now) × (a * levels + levels ≤ length worst.now) }
     ensures { image.new
         ≡ splice image.old at (cat (level_image (of_records levels
         (record { masks = []; deadlines = []; averages = averages.now; worst = worst.now })) a) levels) }
@@ -62,7 +62,7 @@ fn put_record(
     requires levels_in_bounds { (image_bytes (a + 1) levels ≤ length image.old) × (get_or deadlines.now a 0 < 2 ^ 30) }
     ensures { image.new ≡ splice image.old (record_at levels a)
         (record_image (of_records levels
-        (record { masks = masks.entry.now; deadlines = deadlines.now; averages = averages.now; worst = worst.now }))
+        (record { masks = masks.now; deadlines = deadlines.now; averages = averages.now; worst = worst.now }))
         a) }
 {
     let at = record_at(levels, a);
@@ -90,7 +90,7 @@ fn put_records(
     requires levels_in_bounds { (image_bytes n levels ≤ length image.old) × ((k : ℕ) → k < n → get_or deadlines.now k 0 < 2 ^ 30) }
     ensures { image.new ≡ splice image.old header_bytes
         (cat (record_image (of_records levels
-        (record { masks = masks.entry.now; deadlines = deadlines.now; averages = averages.now; worst = worst.now })))
+        (record { masks = masks.now; deadlines = deadlines.now; averages = averages.now; worst = worst.now })))
         n) }
 {
     let mut a = 0;
@@ -129,7 +129,7 @@ pub fn put_image(
     requires levels_in_bounds { (image_bytes n levels ≤ length image.old) × (cycle < 2 ^ 30) × ((k : ℕ) → k < n → get_or deadlines.now k 0 < 2 ^ 30) }
     ensures { image.new ≡ splice image.old 0
         (image-of (of_tables n levels cycle
-        (record { masks = masks.entry.now; deadlines = deadlines.now; averages = averages.now; worst = worst.now }))) }
+        (record { masks = masks.now; deadlines = deadlines.now; averages = averages.now; worst = worst.now }))) }
 {
     put_header(image, n, levels, cycle);
     put_records(image, n, levels, masks, deadlines, averages, worst);

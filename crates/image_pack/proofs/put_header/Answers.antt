@@ -1,0 +1,7 @@
+-- Assumes nothing.
+use Rattle.rules.specs.Image.{of_tables, header_of}
+use Rattle.image_pack.proofs.put_header.Goals as goal
+
+pub returns : goal.returns
+unfolding of_tables header_of
+returns c = c.put48.ensures
