@@ -192,9 +192,11 @@ module _ (s : List ℕ) (ok : plain s ≡ true) where
   table (a, l, inr (inr h)) = (plain-is.each a l).worst h
 
   -- With an order, all that is left is refusal 9, by limit (0, 0).
-  pub number : (o : Order (profile s).n) → TheOrder (profile s) o → (b : Bool) → le_z (pos 0) (limit (tables (profile s) o) 0 0) ≡ b → First (image_checks s) (cond b 0 9)
-  number o x b e =
-      inr (plain-is.short, inr (plain-is.version-is, inr (plain-is.count, inr (plain-is.size, inr (spares, inr (ranges, inr (table, inr (order_loopless x, last b e))))))))
+  pub number : (o : Order (profile s).n) → TheOrder (profile s) o → (b : Bool) → le_z (pos 0) (limit (tables (profile s) o) 0 0) ≡ b
+      → {k : ℕ} → cond b 0 9 ≡ k → First (image_checks s) k
+  number o x b e same =
+      subst (First (image_checks s)) same
+      (inr (plain-is.short, inr (plain-is.version-is, inr (plain-is.count, inr (plain-is.size, inr (spares, inr (ranges, inr (table, inr (order_loopless x, last b e)))))))))
     where
       fit : (pos 0 ≤ℤ limit (tables (profile s) o) 0 0) ↔ Fit (profile s)
       fit = fit_limit x (some_level (profile s) o plain-is.count) table policy_2008 (some_action (profile s) o plain-is.count) 0
@@ -251,15 +253,15 @@ every_case = (
                       (
                         (named (three 20) chain refl, named-is (three 20) chain refl, refl),
                         (
-                          (number (image (three 20)) refl (named (profile (image (three 20))) chain refl) (named-is (profile (image (three 20))) chain refl) true refl),
+                          (number (image (three 20)) refl (named (profile (image (three 20))) chain refl) (named-is (profile (image (three 20))) chain refl) true refl refl),
                           (
-                            (number (image (three 12)) refl (named (profile (image (three 12))) chain refl) (named-is (profile (image (three 12))) chain refl) true refl),
+                            (number (image (three 12)) refl (named (profile (image (three 12))) chain refl) (named-is (profile (image (three 12))) chain refl) true refl refl),
                             (
-                              (number (image (three 11)) refl (named (profile (image (three 11))) chain refl) (named-is (profile (image (three 11))) chain refl) false refl),
+                              (number (image (three 11)) refl (named (profile (image (three 11))) chain refl) (named-is (profile (image (three 11))) chain refl) false refl refl),
                               (
                                 (named eight swapped refl, named-is eight swapped refl, refl),
                                 (
-                                  (number (image eight) refl (named (profile (image eight)) swapped refl) (named-is (profile (image eight)) swapped refl) true refl),
+                                  (number (image eight) refl (named (profile (image eight)) swapped refl) (named-is (profile (image eight)) swapped refl) true refl refl),
                                   (
                                     (named (unrolled (three 40) 2) chain refl, named-is (unrolled (three 40) 2) chain refl, refl),
                                     (
