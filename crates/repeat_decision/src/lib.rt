@@ -24,7 +24,7 @@ pub struct Choice {
 // ---- the level
 
 // How many levels there are up to the greatest that fits at a time, with the room at that level; 0 where none does.
-#[derive(Drop)]
+#[derive(Clone, Copy)]
 struct Fit {
     levels: usize,
     own: Room,
@@ -72,7 +72,7 @@ fn room_above(body: Body, summaries: &[u32], level: usize, after: u32, t: u64) -
 // Where a coast has got to: the entry of its level that it looks at, how many of the longest coast are still to be looked at, the bodies after this
 // one, and the room: of the level from the time on at which the position begins at the latest, and of the level above, if there is one, from the
 // decision on.
-#[derive(Drop)]
+#[derive(Clone, Copy)]
 struct Reached {
     entry: usize,
     rest: usize,

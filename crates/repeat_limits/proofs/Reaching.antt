@@ -22,7 +22,7 @@ use Rattle.rules.proofs.Limits.Signed.{AtMost, at-most-max, at-most-less, settle
 use Rattle.repeat_laws.specs.Standing.{Standing}
 use Rattle.repeat_laws.proofs.Mixed.{each-greatest, greatest-under}
 use Rattle.repeat_laws.proofs.Places.{row_lt}
-use Rattle.repeat_laws.proofs.Standing.{stands, place_in, fewer, next-body, further, rest-left}
+use Rattle.repeat_laws.proofs.Standing.{stands, place_in, next-body, further, rest-left}
 use Rattle.rules.proofs.Limits.Alike.{least-same}
 use Rattle.repeat_limits.specs.Limits.{Stands, Summed, MoreAfter, Spans}
 use Rattle.repeat_limits.proofs.Sizes.{mix_of}

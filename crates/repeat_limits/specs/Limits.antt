@@ -6,7 +6,7 @@ use Rattle.rules.specs.Image.{Profile}
 use Rattle.rules.specs.Order.{Order, TheOrder}
 use Rattle.rules.specs.Limits.{tables, limit_by, planned}
 use Rattle.rules.specs.Refusals.{kept}
-use Rattle.rules.specs.Repeat.{unrolled, Sums, bodies, stretch_at, LentBody, positions, lent_plan, PlannedBody, body_limit_refusal, body_bound_refusal, bound_or_absent}
+use Rattle.rules.specs.Repeat.{unrolled, Sums, stretch_at, LentBody, positions, lent_plan, PlannedBody, body_limit_refusal, body_bound_refusal, bound_or_absent}
 use Rattle.rules.specs.declared.Body.{Body}
 use Rattle.repeat_limits.specs.declared.Limited.{Limited}
 use Rattle.repeat_limits.specs.declared.Later.{Later}

@@ -53,7 +53,7 @@ fn number_at(summaries: &[u32], x: usize, k: usize) -> u64
 
 // The whole bodies after one at a level, summed up: W and M of them all, in 2005 their averages for M; and whether the averages of the rest before them
 // count, which in 2008 they do where there is a body.
-#[derive(Drop)]
+#[derive(Clone, Copy)]
 struct Later {
     counts: bool,
     lowest: u64,
@@ -120,7 +120,7 @@ const AMPLE: u64 = 4_611_686_018_427_387_904;
 
 // What the rest of a body may come to: M (in 2005 the safe sum) at most `mix`, and the averages at most `average`, which is ample where they do not
 // count.
-#[derive(Drop)]
+#[derive(Clone, Copy)]
 pub struct Room {
     pub mix: i64,
     pub average: i64,
