@@ -14,7 +14,7 @@ pub mod dry;
 
 // The fields and their ranges are `in-range` of the rules. The three marks stand last, so that there is no gap between fields.
 #[repr(C)]
-#[derive(Drop)]
+#[derive(Clone, Copy)]
 pub struct Run {
     pub n: u32,
     pub levels: u32,

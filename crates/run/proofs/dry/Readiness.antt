@@ -60,6 +60,12 @@ pub record Going (T : LentTables) (durations : List ℕ) (lists₀ : DryLists) (
 pub going-none : {T : LentTables} {durations : List ℕ} {lists : DryLists} {r : Run} → Waiting T durations lists r → Going T durations lists r lists r
 going-none ready = record { ready = ready; same_levels = refl; same_marks = refl; fewer = omega arith; rest = λ rest. rest }
 
+-- At the head of a turn that decides, no coast is left, and an action remains.
+pub record Deciding (T : LentTables) (durations : List ℕ) (lists₀ : DryLists) (r₀ : Run) (lists : DryLists) (r : Run) : Type 0 where
+  pub going : Going T durations lists₀ r₀ lists r
+  pub none : r.left ≡ 0
+  pub more : r.position < r.n
+
 -- ---- a turn
 
 -- A turn at r: an action remains, `asked` is the record with it asked for, and `mark` its decided mark.
