@@ -1,4 +1,4 @@
-//! Links the product: libnyokazerubi.a of the folder NYOKAZERUBI_ARCHIVE, by default target/staticlib of the repository.
+//! Links the product: libnyokazerubi.a of the folder NYOKAZERUBI_ARCHIVE, by default target/staticlib of the repository, where `host/native target/staticlib` writes it.
 
 use std::env;
 use std::fs;

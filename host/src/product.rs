@@ -1,4 +1,4 @@
-//! The product's calls, of the archive that `rt staticlib nyokazerubi` writes, each in a safe function. The types are those of
+//! The product's calls, of the archive that `host/native` writes, each in a safe function. The types are those of
 //! [`boundary`](crate::boundary); a slice crosses as a pointer and a count.
 
 use crate::boundary::*;
