@@ -6,7 +6,7 @@ pub mod read;
 pub mod scan;
 
 // The fields of the header.
-#[derive(Drop)]
+#[derive(Clone, Copy)]
 pub struct Header {
     pub version: u32,
     pub n: usize,
