@@ -2,7 +2,11 @@
 #![tactic(auto)]
 
 ghost use Rattle.std.specs.Prelude.{◌≡◌, length};
+ghost use Rattle.io.specs.Counts.{IsPrefixLen};
 ghost use Rattle.arguments.specs.Year.{year_of, understood};
+
+use std::env::{Env, FillError};
+use std::io;
 
 // The policy by its year, known or not; and whether the arguments are a year and no more.
 #[derive(Drop)]
@@ -44,14 +48,34 @@ fn word_buffer() -> [u8; 131072]
     [0; 131072]
 }
 
+// How many arguments the program was started with, its own name among them.
+fn count<E: Env>(rt: &E) -> usize {
+    for at in 0..usize::MAX {
+        if let Err(FillError::NotPresent) = rt.arg(at, &mut []) {
+            return at;
+        }
+    }
+    usize::MAX
+}
+
+// The bytes of the program's argument `at` at the start of `out`, and how many there are: none where it is missing or longer than `out`.
+pub fn word<E: Env>(rt: &E, at: usize, out: &mut [u8]) -> usize
+    ensures { IsPrefixLen result out.new }
+{
+    match rt.arg(at, &mut *out) {
+        Ok(n) => n,
+        Err(_) => 0,
+    }
+}
+
 // The year of this program, which its argument `at` says and none follows.
-pub fn year(at: usize) -> Chosen {
-    let mut word = word_buffer();
-    let k = os::arg(at, &mut word);
-    said(os::arg_count(), at, &word[..k])
+pub fn year<E: Env>(rt: &E, at: usize) -> Chosen {
+    let mut bytes = word_buffer();
+    let k = word(rt, at, &mut bytes);
+    said(count(rt), at, &bytes[..k])
 }
 
 // How the program is called, told on standard error where its arguments are not understood.
-pub fn usage(line: &[u8]) {
-    io::write_all(libc::STDERR_FILENO, line);
+pub fn usage<P: Eprint>(rt: &P, line: &str) -> io::Result<()> {
+    rt.eprint(line)
 }
