@@ -77,6 +77,20 @@ pub fn file_length<S: Seek>(file: &mut Option<S>) -> usize
     }
 }
 
+// 4,096 zeros: an image has at most 3,846 bytes. The `ensures` gives the length, so that no caller counts it.
+pub fn buffer() -> [u8; 4096]
+    ensures { 4096 ≡ length result }
+{
+    [0; 4096]
+}
+
+// 65,536 zeros: room for what the programs print of an image.
+pub fn large_buffer() -> [u8; 65536]
+    ensures { 65536 ≡ length result }
+{
+    [0; 65536]
+}
+
 // 400,000 zeros: room for a trace of one record too many, which has 327,680 bytes. The `ensures` gives the length, so that no caller counts it.
 pub fn long_buffer() -> [u8; 400000]
     ensures { 400000 ≡ length result }

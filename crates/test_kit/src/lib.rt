@@ -1,14 +1,17 @@
 // What the programs that run under the gate share: sample images, the files and the numbers of a case, and lines on standard output. A case is
-// files of one number, or a line of text, told again with what came of it. No contract of `io` can say which bytes a write takes, so what only
+// files of one number, or a line of text, told again with what came of it. No contract can say which bytes standard output takes, so what only
 // writes promises only that it ends: what a program wrote is compared with its file `stdout`.
 #![tactic(auto)]
 
-ghost use Rattle.std.specs.Prelude.{ℕ, ◌+◌, ◌≤◌, ◌<◌, min, ◌≡◌, cond, eqb, length, get_or};
+ghost use Rattle.std.specs.Prelude.{ℕ, ◌+◌, ◌≤◌, ◌<◌, min, ◌≡◌, cond, eqb, length, get_or, IfOk};
+ghost use Rattle.std.specs.Io.{ReadsAtMost};
 ghost use Rattle.io.specs.Counts.{IsPrefixLen};
 ghost use Rattle.rules.specs.Numbers.{policy_2008};
 ghost use Rattle.text.specs.Words.{from_word, digits_say, capped};
 
 use rules::Fault;
+use std::io;
+use std::rt::Files;
 use text::put_bytes;
 
 pub mod samples;
@@ -26,12 +29,12 @@ pub fn case_name(case: usize, what: &[u8], out: &mut [u8]) -> usize
 }
 
 // How much of that file there is at the start of `out`.
-pub fn read_case(case: usize, what: &[u8], out: &mut [u8]) -> usize
-    ensures { IsPrefixLen result out.new }
+pub fn read_case<R: Files>(rt: &R, case: usize, what: &[u8], out: &mut [u8]) -> io::Result<usize>
+    ensures { ReadsAtMost result out.new }
 {
     let mut name = [0u8; 32];
     let end = case_name(case, what, &mut name);
-    files::read_file(&name[..end], out)
+    files::read_file(rt, &name[..end], out)
 }
 
 // ---- what a case says
@@ -109,65 +112,63 @@ fn put_damaged(out: &mut [u8], digit: u8) -> usize
 // ---- what is said of it
 
 // The words, with the numbers at the places that `_` marks.
-pub fn say(words: &[u8], row: &[u32]) {
+pub fn say<P: Print>(rt: &P, words: &[u8], row: &[u32]) -> io::Result<()> {
     let mut from = 0;
     let mut k = 0;
     while k < row.len() {
         let end = text::words::find(words, from, b'_');
-        say_number(&words[from..end], row[k]);
+        say_number(rt, &words[from..end], row[k])?;
         from = text::words::next(words, from, b'_');
         k += 1;
     }
-    io::write_all(1, &words[from..]);
+    rt.write_all(&words[from..])
 }
 
 // The words, and a number after them.
-pub fn say_number(words: &[u8], n: u32) {
-    io::write_all(1, words);
-    io::print_decimal(1, n as u64);
+pub fn say_number<P: Print>(rt: &P, words: &[u8], n: u32) -> io::Result<()> {
+    rt.write_all(words)?;
+    print!(rt; "{n}")
 }
 
 // The words, and the refusal of an image: its number, with 5 to 8 the action at fault too.
-pub fn say_fault(words: &[u8], fault: Fault) {
-    say_number(words, fault.number);
+pub fn say_fault<P: Print>(rt: &P, words: &[u8], fault: Fault) -> io::Result<()> {
+    say_number(rt, words, fault.number)?;
     if (rules::REFUSED_SPARE <= fault.number) & (fault.number <= rules::REFUSED_LOOP) {
-        say_number(b" ", fault.action);
+        say_number(rt, b" ", fault.action)?;
     }
+    Ok(())
 }
 
-pub fn say_count(words: &[u8], n: usize) {
-    io::write_all(1, words);
-    io::print_decimal(1, n as u64);
+pub fn say_count<P: Print>(rt: &P, words: &[u8], n: usize) -> io::Result<()> {
+    rt.write_all(words)?;
+    print!(rt; "{n}")
 }
 
 // Which of two it is.
-pub fn say_whether(yes: bool, words: &[u8], otherwise: &[u8]) {
+pub fn say_whether<P: Print>(rt: &P, yes: bool, words: &[u8], otherwise: &[u8]) -> io::Result<()> {
     if yes {
-        io::write_all(1, words);
+        rt.write_all(words)
     } else {
-        io::write_all(1, otherwise);
+        rt.write_all(otherwise)
     }
 }
 
 // Counts what agrees with its file, and names what does not.
-pub fn tell(agrees: bool, what: &[u8], number: usize) -> u64
-    ensures { result ≤ 1 }
+pub fn tell<P: Print>(rt: &P, agrees: bool, what: &[u8], number: usize) -> io::Result<u64>
+    ensures { IfOk result (λ n. n ≤ 1) }
 {
     if agrees {
-        return 1;
+        return Ok(1);
     }
-    io::write_all(1, what);
-    io::write_all(1, b" does not agree: ");
-    io::print_decimal(1, number as u64);
-    io::write_all(1, b"\n");
-    0
+    rt.write_all(what)?;
+    say_count(rt, b" does not agree: ", number)?;
+    rt.write_all(b"\n")?;
+    Ok(0)
 }
 
 // How many agree of how many.
-pub fn sum_up(agreed: u64, all: usize, what: &[u8]) {
-    io::print_decimal(1, agreed);
-    io::write_all(1, b" of ");
-    io::print_decimal(1, all as u64);
-    io::write_all(1, what);
-    io::write_all(1, b" agree\n");
+pub fn sum_up<P: Print>(rt: &P, agreed: u64, all: usize, what: &[u8]) -> io::Result<()> {
+    print!(rt; "{agreed} of {all}")?;
+    rt.write_all(what)?;
+    rt.write_all(b" agree\n")
 }
