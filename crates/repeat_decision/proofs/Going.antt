@@ -2,7 +2,7 @@
 use Prim.Native.Nat.{ℕ, zero, suc, ◌+◌, ◌-◌, ◌*◌, ◌%◌, ◌≤◌, ◌<◌, min}
 use mathlib.Core.Path.{◌≡◌, refl, ap, sym, ◌∙◌}
 use mathlib.Core.Bool.{Bool, true, false, not, ◌&&◌, ◌||◌}
-use mathlib.Core.List.{List}
+use mathlib.Core.List.{List, []}
 use mathlib.Core.Logic.{◌⊎◌, inl, inr, ◌≢◌, ⊎_elim}
 use native.Mathlib.Nat.{mul-le-mul, mul-le-mul_right, le_refl}
 use native.Mathlib.Decide.{dec_le}
@@ -28,6 +28,10 @@ use Rattle.repeat_limits.proofs.Reading.{limit-read}
 use Rattle.repeat_limits.proofs.Rooms.{later-room, room-is-limit}
 use Rattle.repeat_decision.specs.Decision.{most_cells, Summarised, stops_there, walked, Walks}
 use Rattle.repeat_decision.specs.declared.Reached.{Reached}
+
+-- whether a level fits at a time, by the summaries alone
+abbrev pub fit : Body → List ℕ → ℕ → ℕ → ℕ → Bool
+fit b s t x q = le_z (pos t) ((lent_plan b (record { order = []; summaries = s; worst = [] })).limit x q)
 
 -- ---- where a place stands
 
