@@ -1,5 +1,5 @@
 -- The worked cases hold. Each is computed from the definitions, the order by the tests below. Assumes nothing.
-use Prim.Native.Nat.{ℕ, suc, ◌-◌, ◌/◌, ◌%◌, ◌^◌, ◌≤◌, ◌<◌, zero-le}
+use Prim.Native.Nat.{ℕ, zero, suc, ◌-◌, ◌/◌, ◌%◌, ◌^◌, ◌≤◌, ◌<◌, zero-le}
 use mathlib.Core.Path.{◌≡◌, refl, ap, sym, subst, ◌∙◌}
 use mathlib.Core.Bool.{Bool, true, false, not, cond, ◌&&◌, ◌||◌, true≢false}
 use mathlib.Core.List.{List, [], ◌∷◌}
@@ -24,7 +24,7 @@ use Rattle.rules.specs.Dry.{step, before, dry_end}
 use Rattle.rules.specs.Recording.{frame_bytes, frames, lowest_of, lowest_given, ran_of, long_entry, line_of, with_frame, with_line, totals_from}
 use Rattle.rules.specs.Repeat.{unrolled}
 use Rattle.rules.specs.Speed.{quotient, room, reading_by, reading}
-use Rattle.rules.specs.Cases.{three, eight, falling, around, cases, AllHold, AroundRefused}
+use Rattle.rules.specs.Cases.{three, eight, falling, around, Case, cases, AllHold, AroundRefused}
 use Rattle.rules.proofs.Tests.{pass, passed, failed, and-true, or-true, not-true, all_pass-each}
 use Rattle.rules.proofs.Refusals.{refuses_blamed}
 use Rattle.rules.proofs.Order.Loops.{no_loop}
@@ -222,6 +222,90 @@ chain k = k
 abbrev swapped : ℕ → ℕ
 swapped k = get_or (0 ∷ 2 ∷ 1 ∷ []) k 0
 
+-- the cases but for the first so many
+abbrev past : ℕ → List Case → List Case
+past zero l = l
+past (suc k) [] = []
+past (suc k) (c ∷ l) = past k l
+
+-- Every listed case holds, a few at a time, so that one that does not is told by itself.
+past_20 : AllHold (past 20 cases)
+unfolding placed action_at all_pass has due plain orderly
+    cat image header_of record_image level_image profile header version actions levels cycle header_spare record_bytes record_at image_bytes mask_of deadline_of spare_of average_of worst_of
+    sum greatest_of least_of last_passing margin mixed limit limit_2005 coast_bound
+    level_given fits qualifies left_granted begun decides given ended step before frame_bytes frames long_entry line_of lowest_of lowest_given dry_end lent ran_of totals_from with_line with_frame quotient room reading reading_by div of_int round
+past_20 = (
+  (named falling chain refl, named-is falling chain refl, refl),
+  (
+    (named falling chain refl, named-is falling chain refl, (refl, (refl, refl))),
+    ((named falling chain refl, named-is falling chain refl, (refl, (refl, refl))), tt),
+  ),
+)
+
+past_16 : AllHold (past 16 cases)
+unfolding placed action_at all_pass has due plain orderly
+    cat image header_of record_image level_image profile header version actions levels cycle header_spare record_bytes record_at image_bytes mask_of deadline_of spare_of average_of worst_of
+    sum greatest_of least_of last_passing margin mixed limit limit_2005 coast_bound
+    level_given fits qualifies left_granted begun decides given ended step before frame_bytes frames long_entry line_of lowest_of lowest_given dry_end lent ran_of totals_from with_line with_frame quotient room reading reading_by div of_int round
+past_16 = (
+  (number (image eight) refl (named (profile (image eight)) swapped refl) (named-is (profile (image eight)) swapped refl) true refl refl),
+  (
+    (named (unrolled (three 40) 2) chain refl, named-is (unrolled (three 40) 2) chain refl, refl),
+    (
+      (named (three 20) chain refl, named-is (three 20) chain refl, refl),
+      ((named (three 20) chain refl, named-is (three 20) chain refl, (given_is _ 7 1 1 false (omega arith) refl refl)), past_20),
+    ),
+  ),
+)
+
+past_12 : AllHold (past 12 cases)
+unfolding placed action_at all_pass has due plain orderly
+    cat image header_of record_image level_image profile header version actions levels cycle header_spare record_bytes record_at image_bytes mask_of deadline_of spare_of average_of worst_of
+    sum greatest_of least_of last_passing margin mixed limit limit_2005 coast_bound
+    level_given fits qualifies left_granted begun decides given ended step before frame_bytes frames long_entry line_of lowest_of lowest_given dry_end lent ran_of totals_from with_line with_frame quotient room reading reading_by div of_int round
+past_12 = (
+  (number (image (three 20)) refl (named (profile (image (three 20))) chain refl) (named-is (profile (image (three 20))) chain refl) true refl refl),
+  (
+    (number (image (three 12)) refl (named (profile (image (three 12))) chain refl) (named-is (profile (image (three 12))) chain refl) true refl refl),
+    (
+      (number (image (three 11)) refl (named (profile (image (three 11))) chain refl) (named-is (profile (image (three 11))) chain refl) false refl refl),
+      ((named eight swapped refl, named-is eight swapped refl, refl), past_16),
+    ),
+  ),
+)
+
+past_8 : AllHold (past 8 cases)
+unfolding placed action_at all_pass has due plain orderly
+    cat image header_of record_image level_image profile header version actions levels cycle header_spare record_bytes record_at image_bytes mask_of deadline_of spare_of average_of worst_of
+    sum greatest_of least_of last_passing margin mixed limit limit_2005 coast_bound
+    level_given fits qualifies left_granted begun decides given ended step before frame_bytes frames long_entry line_of lowest_of lowest_given dry_end lent ran_of totals_from with_line with_frame quotient room reading reading_by div of_int round
+past_8 = (
+  (named (three 20) chain refl, named-is (three 20) chain refl, (given_is _ 12 1 0 false (omega arith) refl refl)),
+  (
+    (named (three 20) chain refl, named-is (three 20) chain refl, (given_is _ 13 1 0 true (omega arith) refl refl)),
+    (
+      (named (three 20) chain refl, named-is (three 20) chain refl, refl),
+      ((named (three 20) chain refl, named-is (three 20) chain refl, refl), past_12),
+    ),
+  ),
+)
+
+past_4 : AllHold (past 4 cases)
+unfolding placed action_at all_pass has due plain orderly
+    cat image header_of record_image level_image profile header version actions levels cycle header_spare record_bytes record_at image_bytes mask_of deadline_of spare_of average_of worst_of
+    sum greatest_of least_of last_passing margin mixed limit limit_2005 coast_bound
+    level_given fits qualifies left_granted begun decides given ended step before frame_bytes frames long_entry line_of lowest_of lowest_given dry_end lent ran_of totals_from with_line with_frame quotient room reading reading_by div of_int round
+past_4 = (
+  (named (three 20) chain refl, named-is (three 20) chain refl, (refl, (refl, refl))),
+  (
+    (named (three 20) chain refl, named-is (three 20) chain refl, (refl, refl)),
+    (
+      (named (three 20) chain refl, named-is (three 20) chain refl, (given_is _ 6 1 1 false (omega arith) refl refl)),
+      ((named (three 20) chain refl, named-is (three 20) chain refl, (given_is _ 7 1 0 false (omega arith) refl refl)), past_8),
+    ),
+  ),
+)
+
 -- Every listed case holds.
 pub every_case : AllHold cases
 unfolding placed action_at all_pass has due plain orderly
@@ -234,64 +318,7 @@ every_case = (
     (named (three 20) chain refl, named-is (three 20) chain refl, refl),
     (
       (named (three 20) chain refl, named-is (three 20) chain refl, (refl, (refl, refl))),
-      (
-        (named (three 20) chain refl, named-is (three 20) chain refl, (refl, (refl, refl))),
-        (
-          (named (three 20) chain refl, named-is (three 20) chain refl, (refl, (refl, refl))),
-          (
-            (named (three 20) chain refl, named-is (three 20) chain refl, (refl, refl)),
-            (
-              (named (three 20) chain refl, named-is (three 20) chain refl, (given_is _ 6 1 1 false (omega arith) refl refl)),
-              (
-                (named (three 20) chain refl, named-is (three 20) chain refl, (given_is _ 7 1 0 false (omega arith) refl refl)),
-                (
-                  (named (three 20) chain refl, named-is (three 20) chain refl, (given_is _ 12 1 0 false (omega arith) refl refl)),
-                  (
-                    (named (three 20) chain refl, named-is (three 20) chain refl, (given_is _ 13 1 0 true (omega arith) refl refl)),
-                    (
-                      (named (three 20) chain refl, named-is (three 20) chain refl, refl),
-                      (
-                        (named (three 20) chain refl, named-is (three 20) chain refl, refl),
-                        (
-                          (number (image (three 20)) refl (named (profile (image (three 20))) chain refl) (named-is (profile (image (three 20))) chain refl) true refl refl),
-                          (
-                            (number (image (three 12)) refl (named (profile (image (three 12))) chain refl) (named-is (profile (image (three 12))) chain refl) true refl refl),
-                            (
-                              (number (image (three 11)) refl (named (profile (image (three 11))) chain refl) (named-is (profile (image (three 11))) chain refl) false refl refl),
-                              (
-                                (named eight swapped refl, named-is eight swapped refl, refl),
-                                (
-                                  (number (image eight) refl (named (profile (image eight)) swapped refl) (named-is (profile (image eight)) swapped refl) true refl refl),
-                                  (
-                                    (named (unrolled (three 40) 2) chain refl, named-is (unrolled (three 40) 2) chain refl, refl),
-                                    (
-                                      (named (three 20) chain refl, named-is (three 20) chain refl, refl),
-                                      (
-                                        (named (three 20) chain refl, named-is (three 20) chain refl, (given_is _ 7 1 1 false (omega arith) refl refl)),
-                                        (
-                                          (named falling chain refl, named-is falling chain refl, refl),
-                                          (
-                                            (named falling chain refl, named-is falling chain refl, (refl, (refl, refl))),
-                                            ((named falling chain refl, named-is falling chain refl, (refl, (refl, refl))), tt),
-                                          ),
-                                        ),
-                                      ),
-                                    ),
-                                  ),
-                                ),
-                              ),
-                            ),
-                          ),
-                        ),
-                      ),
-                    ),
-                  ),
-                ),
-              ),
-            ),
-          ),
-        ),
-      ),
+      ((named (three 20) chain refl, named-is (three 20) chain refl, (refl, (refl, refl))), past_4),
     ),
   ),
 )
