@@ -172,11 +172,11 @@ pub fn fill(
     worst: &mut [u32],
 )
     requires some_body_input { SomeBodyInput image.now n levels actions.now }
-    requires n_in_bounds { (n ≤ length order.now)
-        × EntriesFit (n * levels) (record { order = order.now; summaries = summaries.old; worst = worst.old }) }
+    requires n_in_bounds { (n ≤ length order.old)
+        × EntriesFit (n * levels) (record { order = order.old; summaries = summaries.old; worst = worst.old }) }
     ensures { (o : Order (profile image.now).n) → BodyInput image.now n levels actions.now o
-        → BodyFilled image.now policy (record { order = order.entry.now; summaries = summaries.old; worst = worst.old })
-        (record { order = order.exit.now; summaries = summaries.new; worst = worst.new }) o }
+        → BodyFilled image.now policy (record { order = order.old; summaries = summaries.old; worst = worst.old })
+        (record { order = order.new; summaries = summaries.new; worst = worst.new }) o }
 {
     fields::copy_front(actions, n, order);
     sum_rows(image, n, levels, policy, actions, summaries, worst);

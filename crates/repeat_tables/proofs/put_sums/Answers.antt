@@ -7,8 +7,7 @@ use borrow.Author.Rules.{rules}
 use lib.ListN.{length, set, length-set}
 use Rattle.fields.specs.Fields.{splice}
 use Rattle.fields.proofs.Splice.{set-splice, splice-join}
-use Rattle.repeat_tables.proofs.put_sums.Statement.{statement}
-use Rattle.repeat_tables.proofs.put_sums.Tie as tie
+use Rattle.repeat_tables.proofs.put_sums.Goals as goal
 
 four : (l : List ℕ) (at w x y z : ℕ) → at + 4 ≤ length l
     → set (set (set (set l at w) (at + 1) x) (at + 2) y) (at + 3) z ≡ splice l at (w ∷ x ∷ y ∷ z ∷ [])
@@ -23,32 +22,5 @@ four l at w x y z h =
     (set-splice second (at + 2) y (simp length-set (omega arith))))
     (set-splice third (at + 3) z (simp length-set (omega arith)))
 
-slice-write-summaries-2 : tie.Need-slice-write-summaries-2
-slice-write-summaries-2 c = simp length-set (omega arith)
-
-slice-write-summaries-3 : tie.Need-slice-write-summaries-3
-slice-write-summaries-3 c = simp length-set (omega arith)
-
-slice-write-summaries-4 : tie.Need-slice-write-summaries-4
-slice-write-summaries-4 c = simp length-set (omega arith)
-
-returns : tie.Need-returns
+pub returns : goal.returns
 returns c = four _ _ _ _ _ _ (search rules)
-
-pub put-sums-spec : {M : Type 1} → statement M
-put-sums-spec =
-    tie.close
-    (tie.spec
-    (λ c. search rules)
-    (λ c. search rules)
-    (λ c. search rules)
-    (λ c. search rules)
-    slice-write-summaries-2
-    (λ c. search rules)
-    (λ c. search rules)
-    slice-write-summaries-3
-    (λ c. search rules)
-    (λ c. search rules)
-    slice-write-summaries-4
-    (λ c. search rules)
-    returns)
