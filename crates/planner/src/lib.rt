@@ -46,7 +46,7 @@ fn tight(
     requires { (n ≤ most_actions) × (levels ≤ most_levels) }
     ensures { First
         (refused_room when Tight (plan_rooms n levels
-        (record { order = order.entry.now; limits = limits.now; worst = worst.now; bounds = bounds.now })) ∷ [])
+        (record { order = order.now; limits = limits.now; worst = worst.now; bounds = bounds.now })) ∷ [])
         result.number }
 {
     let entries = n * levels;
@@ -85,7 +85,7 @@ fn with_room(
     bounds: &[i32],
 ) -> Checked
     ensures { Admits image.now policy
-        (record { order = order.entry.now; limits = limits.now; worst = worst.now; bounds = bounds.now }) result }
+        (record { order = order.now; limits = limits.now; worst = worst.now; bounds = bounds.now }) result }
 {
     let mut checked = whole::checked(image);
     if checked.refusal.number != 0 {
@@ -120,8 +120,8 @@ pub fn plan(
     bounds: &mut [i32],
 ) -> Planned
     ensures { Plans image.now policy
-        (record { order = order.entry.now; limits = limits.old; worst = worst.old; bounds = bounds.old })
-        (record { order = order.exit.now; limits = limits.new; worst = worst.new; bounds = bounds.new }) result }
+        (record { order = order.old; limits = limits.old; worst = worst.old; bounds = bounds.old })
+        (record { order = order.new; limits = limits.new; worst = worst.new; bounds = bounds.new }) result }
 {
     let checked = with_room(image, policy, order, limits, worst, bounds);
     let refusal = checked.refusal;
