@@ -3,21 +3,22 @@
 #![tactic(auto)]
 
 use run::{Answer, Asked, Reported, Run};
+use std::io;
 use test_kit::{part, say, say_number};
 
 // A case begins with the letter of its call; what begins with none is a heading.
-pub fn tell(line: &[u8]) {
+pub fn tell<R: Print>(rt: &R, line: &[u8]) -> io::Result<()> {
     let row = test_kit::numbers(line);
-    io::write_all(1, line);
+    rt.write_all(line)?;
     match test_kit::first(line) {
-        b's' => tell_start(row),
-        b'e' => tell_edge(record(row)),
-        b'a' => tell_ask(row),
-        b'r' => tell_report(row),
-        b't' => tell_turns(line),
+        b's' => tell_start(rt, row)?,
+        b'e' => tell_edge(rt, record(row))?,
+        b'a' => tell_ask(rt, row)?,
+        b'r' => tell_report(rt, row)?,
+        b't' => tell_turns(rt, line)?,
         _ => {}
     }
-    io::write_all(1, b"\n");
+    rt.write_all(b"\n")
 }
 
 // n, levels, position, clock, level, left, decisions, overrun, late and running, as a case has them.
@@ -91,49 +92,53 @@ fn ask_number(run: Run, asked: Asked) -> u32 {
     0
 }
 
-fn asked(run: Run, order: u32, limits: u32, bounds: u32) -> Run {
+fn asked<R: Print>(rt: &R, run: Run, order: u32, limits: u32, bounds: u32) -> io::Result<Run> {
     let asked = ask(run, order, limits, bounds);
-    say_number(b": ask ", ask_number(run, asked));
-    asked.run
+    let next = asked.run;
+    say_number(rt, b": ask ", ask_number(run, asked))?;
+    Ok(next)
 }
 
-fn reported(run: Run, clock: u32, worst: u32) -> Run {
+fn reported<R: Print>(rt: &R, run: Run, clock: u32, worst: u32) -> io::Result<Run> {
     let reported = report(run, clock, worst);
     let next = reported.run;
-    say_number(b": report ", kept(reported.refusal.number, run, next));
-    next
+    say_number(rt, b": report ", kept(reported.refusal.number, run, next))?;
+    Ok(next)
 }
 
 // ---- cases
 
-fn tell_start(row: [u32; 24]) {
+fn tell_start<R: Print>(rt: &R, row: [u32; 24]) -> io::Result<()> {
     let started = Run::start(test_kit::count(row[0]), test_kit::count(row[1]));
     let run = started.run;
-    say_number(b": start ", started.refusal.number);
-    say_record(run);
-    tell_calls(run, run);
+    say_number(rt, b": start ", started.refusal.number)?;
+    say_record(rt, run)?;
+    tell_calls(rt, run, run)
 }
 
 // What asking answers on one record, and a report at its clock on another.
-fn tell_calls(waits: Run, runs: Run) {
-    asked(waits, 64, 512, 8192);
-    reported(runs, runs.clock, 512);
+fn tell_calls<R: Print>(rt: &R, waits: Run, runs: Run) -> io::Result<()> {
+    asked(rt, waits, 64, 512, 8192)?;
+    reported(rt, runs, runs.clock, 512)?;
+    Ok(())
 }
 
-fn tell_edge(run: Run) {
-    tell_calls(run, running(run));
+fn tell_edge<R: Print>(rt: &R, run: Run) -> io::Result<()> {
+    tell_calls(rt, run, running(run))
 }
 
-fn tell_ask(row: [u32; 24]) {
-    asked(record(row), row[11], row[13], row[15]);
+fn tell_ask<R: Print>(rt: &R, row: [u32; 24]) -> io::Result<()> {
+    asked(rt, record(row), row[11], row[13], row[15])?;
+    Ok(())
 }
 
-fn tell_report(row: [u32; 24]) {
-    say_record(reported(record(row), row[11], row[13]));
+fn tell_report<R: Print>(rt: &R, row: [u32; 24]) -> io::Result<()> {
+    say_record(rt, reported(rt, record(row), row[11], row[13])?)
 }
 
-fn say_record(run: Run) {
+fn say_record<R: Print>(rt: &R, run: Run) -> io::Result<()> {
     say(
+        rt,
         b" with _ _ _ _ _ _ _ _ _ _",
         &[
             run.n,
@@ -147,28 +152,30 @@ fn say_record(run: Run) {
             run.late as u32,
             run.running as u32,
         ],
-    );
+    )
 }
 
 // ---- turns
 
-fn tell_turns(line: &[u8]) {
+fn tell_turns<R: Print>(rt: &R, line: &[u8]) -> io::Result<()> {
     let mut run = Run::start(3, 2).run;
     let mut at = text::words::word(line, 1);
     while at < line.len() {
-        run = turn(run, line[at]);
+        run = turn(rt, run, line[at])?;
         at += 1;
     }
+    Ok(())
 }
 
 // A line on a call: the position and whether an action runs, then what it answers.
-fn turn(run: Run, call: u8) -> Run {
+fn turn<R: Print>(rt: &R, run: Run, call: u8) -> io::Result<Run> {
     say(
+        rt,
         b"\n position _, running _",
         &[run.position, run.running as u32],
-    );
+    )?;
     if call == b'a' {
-        return asked(run, 3, 6, 96);
+        return asked(rt, run, 3, 6, 96);
     }
-    reported(run, run.clock, 6)
+    reported(rt, run, run.clock, 6)
 }
