@@ -21,7 +21,7 @@ pub fn tight(
     requires { (n ≤ most_actions) × (levels ≤ most_levels) }
     ensures { (result ≡ true)
         ↔ Tight (table_rooms n levels
-        (record { masks = masks.entry.now; deadlines = deadlines.now; averages = averages.now; worst = worst.now })) }
+        (record { masks = masks.now; deadlines = deadlines.now; averages = averages.now; worst = worst.now })) }
 {
     let entries = n * levels;
     if masks.len() < n {
@@ -73,10 +73,10 @@ pub fn range(
 ) -> usize
     requires roomy { Roomy n levels (record { masks = masks.now; deadlines = deadlines.now; averages = averages.now; worst = worst.now })
         × (1 ≤ levels) }
-    requires fact { ordered ≡ true → (a : ℕ) → a < n → RowBreaks levels (time_at levels averages.now a) (time_at levels worst.now a) → ⊥ }
+    requires unbroken { ordered ≡ true → (a : ℕ) → a < n → RowBreaks levels (time_at levels averages.now a) (time_at levels worst.now a) → ⊥ }
     ensures { LowestFault
         (WriteFault (of_tables n levels cycle
-        (record { masks = masks.entry.now; deadlines = deadlines.now; averages = averages.now; worst = worst.now })))
+        (record { masks = masks.now; deadlines = deadlines.now; averages = averages.now; worst = worst.now })))
         n result }
 {
     let mut a = 0;

@@ -29,7 +29,7 @@ pub fn refusal(
 ) -> Fault
     ensures { Refuses
         (writing n levels cycle
-        (record { masks = masks.entry.now; deadlines = deadlines.now; averages = averages.now; worst = worst.now })
+        (record { masks = masks.now; deadlines = deadlines.now; averages = averages.now; worst = worst.now })
         room) result }
 {
     if image_fields::scan::count_out(n, levels, cycle) {
@@ -82,7 +82,7 @@ pub fn write(
     image: &mut [u8],
 ) -> Written
     ensures { Writes n levels cycle
-        (record { masks = masks.entry.now; deadlines = deadlines.now; averages = averages.now; worst = worst.now })
+        (record { masks = masks.now; deadlines = deadlines.now; averages = averages.now; worst = worst.now })
         image.old image.new result.refusal result.bytes }
 {
     let room = image.len();
