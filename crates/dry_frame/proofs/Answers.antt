@@ -52,6 +52,7 @@ never_tight h sized (inl l) = omega (arith, (few h).0)
 never_tight h sized (inr (inl l)) = omega (arith, (few h).1)
 never_tight h sized (inr (inr (inl l))) = omega (arith, (few h).1)
 never_tight h sized (inr (inr (inr (inl l)))) = omega (arith, (few h).1)
+never_tight {s = s} {lent = lent} h sized (inr (inr (inr (inr x)))) = elim x [ ]
 
 -- ---- the refusal of the whole
 
@@ -83,6 +84,7 @@ module _ {s : List ℕ} (h : Sound s) {T : LentTables} (sized : Sized T) (durati
       by (inr (inr (inr (inl l)))) = inl l
       by (inr (inr (inr (inr (inl l))))) = inr (inr (inl l))
       by (inr (inr (inr (inr (inr (inl l)))))) = inr (inr (inr (inl l)))
+      by (inr (inr (inr (inr (inr (inr x)))))) = elim x [ ]
   own-of-dry k room (inr (_, inr (roomy, rest))) = inr ((λ t. roomy (by t)), rest)
     where
       by : Tight frame → Tight dry
@@ -90,6 +92,7 @@ module _ {s : List ℕ} (h : Sound s) {T : LentTables} (sized : Sized T) (durati
       by (inr (inl l)) = absurd (omega arith)
       by (inr (inr (inl l))) = inr (inr (inr (inr (inl l))))
       by (inr (inr (inr (inl l)))) = inr (inr (inr (inr (inr (inl l)))))
+      by (inr (inr (inr (inr x)))) = elim x [ ]
 
 -- ---- what is refused
 

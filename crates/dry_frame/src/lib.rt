@@ -69,8 +69,8 @@ pub fn dry_frame(
     marks: &mut [u8],
 ) -> Framed
     ensures { Frames image.now policy durations.now
-        (record { order = order.entry.now; levels = given.old; decided = marks.old })
-        (record { order = order.exit.now; levels = given.new; decided = marks.new }) result }
+        (record { order = order.old; levels = given.old; decided = marks.old })
+        (record { order = order.new; levels = given.new; decided = marks.new }) result }
 {
     // room for the greatest profile: 64 actions at 8 levels, coasts of 16
     let mut actions = [0u8; 64];
