@@ -12,7 +12,7 @@ use rules::Refusal;
 
 pub mod dry;
 
-// The fields and their ranges are `in-range` of the rules. The three marks stand last, so that there is no gap between fields.
+// The fields and their ranges are `in_range` of the rules. The three marks stand last, so that there is no gap between fields.
 #[repr(C)]
 #[derive(Clone, Copy)]
 pub struct Run {
