@@ -3,31 +3,33 @@
 #![tactic(auto)]
 
 use run::{Answer, Run};
+use std::io;
+use std::rt::Files;
 use test_kit::{count, part, say_number};
 
 // What begins with none of these letters is a heading.
-pub fn tell(line: &[u8]) {
-    io::write_all(1, line);
+pub fn tell<R: Files + Print>(rt: &R, line: &[u8]) -> io::Result<()> {
+    rt.write_all(line)?;
     match test_kit::first(line) {
-        b't' => tell_planned(line),
-        b'o' => tell_others(line),
-        b'd' => tell_dry(test_kit::numbers(line)),
+        b't' => tell_planned(rt, line)?,
+        b'o' => tell_others(rt, line)?,
+        b'd' => tell_dry(rt, test_kit::numbers(line))?,
         _ => {}
     }
-    io::write_all(1, b"\n");
+    rt.write_all(b"\n")
 }
 
 // ---- cases
 
 // The file of an image, n and levels, and durations by position.
-fn tell_planned(line: &[u8]) {
+fn tell_planned<R: Files + Print>(rt: &R, line: &[u8]) -> io::Result<()> {
     let name = text::words::find(line, 0, b' ');
-    let mut image = io::buffer();
-    let bytes = files::read_file(&line[0..name], &mut image);
-    plan_and_tell(&image[..bytes], test_kit::numbers(line));
+    let mut image = files::buffer();
+    let bytes = files::read_file(rt, &line[0..name], &mut image)?;
+    plan_and_tell(rt, &image[..bytes], test_kit::numbers(line))
 }
 
-fn plan_and_tell(image: &[u8], row: [u32; 24]) {
+fn plan_and_tell<R: Print>(rt: &R, image: &[u8], row: [u32; 24]) -> io::Result<()> {
     let mut order = [0u8; 64];
     let mut limits = [0i32; 512];
     let mut worst = [0u32; 512];
@@ -40,11 +42,11 @@ fn plan_and_tell(image: &[u8], row: [u32; 24]) {
         &mut worst,
         &mut bounds,
     );
-    tell_cycle(row[0], row[1], &order, &limits, &worst, &bounds, row);
+    tell_cycle(rt, row[0], row[1], &order, &limits, &worst, &bounds, row)
 }
 
 // Tables of others for 5 actions: levels, every bound but one, which one that is and what it is, and the limits.
-fn tell_others(line: &[u8]) {
+fn tell_others<R: Print>(rt: &R, line: &[u8]) -> io::Result<()> {
     let row = test_kit::numbers(line);
     let limits = limits_of(line);
     let mut bounds = [signed(line, 2); 160];
@@ -52,11 +54,12 @@ fn tell_others(line: &[u8]) {
     bounds[at] = signed(line, 4);
     let order = [4u8, 3, 2, 1, 0];
     let worst = [1u32; 10];
-    tell_cycle(5, row[0], &order, &limits, &worst, &bounds, [1; 24]);
+    tell_cycle(rt, 5, row[0], &order, &limits, &worst, &bounds, [1; 24])
 }
 
 // A cycle by both ways.
-fn tell_cycle(
+fn tell_cycle<R: Print>(
+    rt: &R,
     n: u32,
     levels: u32,
     order: &[u8],
@@ -64,12 +67,13 @@ fn tell_cycle(
     worst: &[u32],
     bounds: &[i32],
     row: [u32; 24],
-) {
-    io::write_all(1, b"\n run:");
-    cycle(n, levels, order, limits, worst, bounds, row);
-    io::write_all(1, b"\n dry:");
+) -> io::Result<()> {
+    rt.write_all(b"\n run:")?;
+    cycle(rt, n, levels, order, limits, worst, bounds, row)?;
+    rt.write_all(b"\n dry:")?;
     let durations = spread(row, levels as usize);
     dried(
+        rt,
         n as usize,
         levels as usize,
         limits,
@@ -79,19 +83,19 @@ fn tell_cycle(
         24,
         24,
         n,
-    );
+    )
 }
 
 // n, levels, how much there is of limits, worst times, bounds, durations, levels and marks, and the entry of the durations that is not 1 and
 // what it is.
-fn tell_dry(row: [u32; 24]) {
+fn tell_dry<R: Print>(rt: &R, row: [u32; 24]) -> io::Result<()> {
     let durations = ones_but(row[8], row[9]);
     let d = part(row[5], 7);
-    io::write_all(1, b":");
-    tell_dry_with(row, &durations[0..d]);
+    rt.write_all(b":")?;
+    tell_dry_with(rt, row, &durations[0..d])
 }
 
-fn tell_dry_with(row: [u32; 24], durations: &[u32]) {
+fn tell_dry_with<R: Print>(rt: &R, row: [u32; 24], durations: &[u32]) -> io::Result<()> {
     let limits = [100i32; 7];
     let worst = [1u32; 7];
     let bounds = [100i32; 97];
@@ -99,6 +103,7 @@ fn tell_dry_with(row: [u32; 24], durations: &[u32]) {
     let b = part(row[3], 7);
     let c = part(row[4], 97);
     dried(
+        rt,
         count(row[0]),
         count(row[1]),
         &limits[0..a],
@@ -108,7 +113,7 @@ fn tell_dry_with(row: [u32; 24], durations: &[u32]) {
         row[6],
         row[7],
         4,
-    );
+    )
 }
 
 // ---- tables
@@ -163,7 +168,8 @@ fn spread(row: [u32; 24], levels: usize) -> [u32; 64] {
 
 // ---- asked and reported
 
-fn cycle(
+fn cycle<R: Print>(
+    rt: &R,
     n: u32,
     levels: u32,
     order: &[u8],
@@ -171,87 +177,107 @@ fn cycle(
     worst: &[u32],
     bounds: &[i32],
     row: [u32; 24],
-) {
+) -> io::Result<()> {
     let mut run = Run::start(n as usize, levels as usize).run;
     let mut k = 0;
     while k < n {
-        run = step(run, order, limits, worst, bounds, duration(row, k as usize));
+        run = step(
+            rt,
+            run,
+            order,
+            limits,
+            worst,
+            bounds,
+            duration(row, k as usize),
+        )?;
         k += 1;
     }
-    say_end(run.decisions, run.clock, run.overrun, run.late);
+    say_end(rt, run.decisions, run.clock, run.overrun, run.late)
 }
 
 // An action asked for, and reported when its duration has passed.
-fn step(
+fn step<R: Print>(
+    rt: &R,
     run: Run,
     order: &[u8],
     limits: &[i32],
     worst: &[u32],
     bounds: &[i32],
     duration: u32,
-) -> Run {
+) -> io::Result<Run> {
     let asked = run.ask(order, limits, bounds);
     let answer = asked.answer;
     let next = asked.run;
-    say_answer(answer, next.left);
-    ended(next, worst, duration)
+    say_answer(rt, answer, next.left)?;
+    ended(rt, next, worst, duration)
 }
 
-fn say_answer(answer: Answer, left: u32) {
+fn say_answer<R: Print>(rt: &R, answer: Answer, left: u32) -> io::Result<()> {
     match answer {
-        Answer::Refused(refusal) => say_number(b" refused ", refusal.number),
+        Answer::Refused(refusal) => say_number(rt, b" refused ", refusal.number)?,
         Answer::Given {
             action,
             level,
             decided,
             late,
         } => {
-            test_kit::say(b" _:_", &[action, level]);
+            test_kit::say(rt, b" _:_", &[action, level])?;
             if decided {
-                say_decided(left);
+                say_decided(rt, left)?;
             }
-            say_if(late, b"l");
+            say_if(rt, late, b"l")?;
         }
     }
+    Ok(())
 }
 
-fn say_decided(left: u32) {
-    io::write_all(1, b"d");
+fn say_decided<R: Print>(rt: &R, left: u32) -> io::Result<()> {
+    rt.write_all(b"d")?;
     if 0 < left {
-        say_number(b"+", left);
+        say_number(rt, b"+", left)?;
     }
+    Ok(())
 }
 
-fn say_if(yes: bool, words: &[u8]) {
+fn say_if<R: Print>(rt: &R, yes: bool, words: &[u8]) -> io::Result<()> {
     if yes {
-        io::write_all(1, words);
+        rt.write_all(words)?;
     }
+    Ok(())
 }
 
 // The end reported, and what that did to the record.
-fn ended(run: Run, worst: &[u32], duration: u32) -> Run {
-    let end = std::num::wrapping_add_u32(run.clock, duration);
+fn ended<R: Print>(rt: &R, run: Run, worst: &[u32], duration: u32) -> io::Result<Run> {
+    let end = run.clock.wrapping_add(duration);
     let reported = run.report(end, worst);
     let next = reported.run;
     if reported.refusal.number != 0 {
-        say_number(b" refused ", reported.refusal.number);
+        say_number(rt, b" refused ", reported.refusal.number)?;
     }
-    say_if(next.overrun & !run.overrun, b"!");
-    say_if(next.left < run.left, b"x");
-    next
+    say_if(rt, next.overrun & !run.overrun, b"!")?;
+    say_if(rt, next.left < run.left, b"x")?;
+    Ok(next)
 }
 
-fn say_end(decisions: u32, end: u32, overrun: bool, late: bool) {
+fn say_end<R: Print>(
+    rt: &R,
+    decisions: u32,
+    end: u32,
+    overrun: bool,
+    late: bool,
+) -> io::Result<()> {
     test_kit::say(
+        rt,
         b", decisions _, end _, overrun _, late _",
         &[decisions, end, overrun as u32, late as u32],
-    );
+    )
 }
 
 // ---- by the dry run
 
 // The answer, and as many of the levels and marks as are shown, with that much room for each.
-fn dried(
+fn dried<R: Print>(
+    rt: &R,
     n: usize,
     levels: usize,
     limits: &[i32],
@@ -261,7 +287,7 @@ fn dried(
     level_room: u32,
     mark_room: u32,
     shown: u32,
-) {
+) -> io::Result<()> {
     let mut given = [9u8; 24];
     let mut marks = [9u8; 24];
     let e = part(level_room, 24);
@@ -276,18 +302,25 @@ fn dried(
         &mut given[0..e],
         &mut marks[0..f],
     );
-    say_number(b" refusal ", answer.refusal.number);
-    say_bytes(b", levels", given, shown);
-    say_bytes(b", marks", marks, shown);
-    say_end(answer.decisions, answer.end, answer.overrun, answer.late);
+    say_number(rt, b" refusal ", answer.refusal.number)?;
+    say_bytes(rt, b", levels", given, shown)?;
+    say_bytes(rt, b", marks", marks, shown)?;
+    say_end(
+        rt,
+        answer.decisions,
+        answer.end,
+        answer.overrun,
+        answer.late,
+    )
 }
 
-fn say_bytes(words: &[u8], row: [u8; 24], shown: u32) {
+fn say_bytes<R: Print>(rt: &R, words: &[u8], row: [u8; 24], shown: u32) -> io::Result<()> {
     let end = part(shown, 24);
-    io::write_all(1, words);
+    rt.write_all(words)?;
     let mut k = 0;
     while k < end {
-        say_number(b" ", fields::wide32(row[k]));
+        say_number(rt, b" ", fields::wide32(row[k]))?;
         k += 1;
     }
+    Ok(())
 }
