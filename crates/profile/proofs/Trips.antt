@@ -92,6 +92,7 @@ written-again {s} {before} {after} {T} {T'} {r} {refusal} {bytes} b x none long 
     enough u i (inr (inr (inl h))) = omega (arith, table _ T.averages _ _ u.room.averages u.averages)
     enough u i (inr (inr (inr (inl h)))) = omega (arith, table _ T.worst _ _ u.room.worst u.worst)
     enough u i (inr (inr (inr (inr (inl h))))) = omega arith
+    enough u i (inr (inr (inr (inr (inr other))))) = elim other [ ]
 
 -- ---- what writing accepts, reading unpacks to the same numbers
 
@@ -146,3 +147,4 @@ module _ {n L cycle : ℕ} {written : ProfileTables} {before after : List ℕ} {
       not_tight h (inr (inl l)) = omega arith
       not_tight h (inr (inr (inl l))) = omega arith
       not_tight h (inr (inr (inr (inl l)))) = omega arith
+      not_tight h (inr (inr (inr (inr other)))) = elim other [ ]

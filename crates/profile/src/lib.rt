@@ -56,8 +56,8 @@ pub fn read(
     worst: &mut [u32],
 ) -> Unpacked
     ensures { ReadsImage image.now
-        (record { masks = masks.entry.now; deadlines = deadlines.old; averages = averages.old; worst = worst.old })
-        (record { masks = masks.exit.now; deadlines = deadlines.new; averages = averages.new; worst = worst.new }) result }
+        (record { masks = masks.old; deadlines = deadlines.old; averages = averages.old; worst = worst.old })
+        (record { masks = masks.new; deadlines = deadlines.new; averages = averages.new; worst = worst.new }) result }
 {
     let checked = image_check::whole::checked(image);
     let refusal = checked.refusal;
@@ -144,7 +144,7 @@ pub fn write(
     image: &mut [u8],
 ) -> Written
     ensures { Writes n levels cycle
-        (record { masks = masks.entry.now; deadlines = deadlines.now; averages = averages.now; worst = worst.now })
+        (record { masks = masks.now; deadlines = deadlines.now; averages = averages.now; worst = worst.now })
         image.old image.new result.refusal result.bytes }
 {
     image_write::write(n, levels, cycle, masks, deadlines, averages, worst, image)
