@@ -20,7 +20,7 @@ use run::Answer;
 // copies the record without gaps. What an asking and a report store by turns, position, coast left and whether an action runs, has neighbours that
 // are stored apart: fields that a call only hands on are read together, and that would wait for one stored alone a moment ago.
 #[repr(C)]
-#[derive(Drop)]
+#[derive(Clone, Copy)]
 pub struct BodyRun {
     pub body: Body,
     pub level: u32,
@@ -241,7 +241,7 @@ impl BodyRun {
     // Fields out of range 11, room 17, an action runs 11, all done 10.
     fn ask_refusal(self, order: &[u8], summaries: &[u32], worst: &[u32]) -> u32
         ensures { result ≡ body_ask_refusal self.body
-            (record { order = order.entry.now; summaries = summaries.now; worst = worst.now }) (steps_of self) }
+            (record { order = order.now; summaries = summaries.now; worst = worst.now }) (steps_of self) }
     {
         if !self.in_range() {
             return rules::REFUSED_TURN;
@@ -283,7 +283,7 @@ impl BodyRun {
     pub fn asks(self, order: &[u8], summaries: &[u32], worst: &[u32]) -> BodyAsks
         ensures body { (after_ask result).body ≡ self.body }
         ensures answer { asks_of result ≡ body_ask self.body
-            (record { order = order.entry.now; summaries = summaries.now; worst = worst.now }) (steps_of self) }
+            (record { order = order.now; summaries = summaries.now; worst = worst.now }) (steps_of self) }
     {
         let number = self.ask_refusal(order, summaries, worst);
         if number != 0 {
@@ -328,7 +328,7 @@ impl BodyRun {
     pub fn ask(self, order: &[u8], summaries: &[u32], worst: &[u32]) -> BodyAsked
         ensures body { result.run.body ≡ self.body }
         ensures answer { asked_of result ≡ body_ask self.body
-            (record { order = order.entry.now; summaries = summaries.now; worst = worst.now }) (steps_of self) }
+            (record { order = order.now; summaries = summaries.now; worst = worst.now }) (steps_of self) }
     {
         let out = self.asks(order, summaries, worst);
         let answer = out.answer;

@@ -3,15 +3,13 @@ use Prim.Native.Nat.{ℕ}
 use mathlib.Core.Path.{◌≡◌, refl, sym}
 use mathlib.Core.Bool.{Bool, true, false, cond}
 use lib.Dec.{eqb}
-use borrow.Author.Rules.{rules}
 use borrow.Author.Tests.{eqb-true}
 use Rattle.rules.specs.Run.{begun}
 use Rattle.rules.specs.Repeat.{positions, no_body, body_start}
 use Rattle.rules.specs.declared.Body.{Body}
 use Rattle.repeat_run.specs.Calls.{steps_of, begins_of}
 use Rattle.repeat_run.specs.declared.BodyRun.{BodyRun}
-use Rattle.repeat_run.proofs.BodyRun.begins.Statement.{statement}
-use Rattle.repeat_run.proofs.BodyRun.begins.Tie as tie
+use Rattle.repeat_run.proofs.BodyRun.begins.Goals as goal
 
 -- whichever is left: a record of a body, or one of none
 begun-either : (b : Body) (k : ℕ) (t : Bool) → eqb k 0 ≡ t → (x y : BodyRun)
@@ -21,12 +19,9 @@ begun-either : (b : Body) (k : ℕ) (t : Bool) → eqb k 0 ≡ t → (x y : Body
 begun-either b k true e x y p q = λ i. (p.0 i, record { number = eqb-true k 0 e i; run = p.1 i })
 begun-either b k false e x y p q = λ i. (q.0 i, record { number = k; run = q.1 i })
 
-returns : tie.Need-returns
+pub returns : goal.returns
 unfolding body_start
 returns c =
-    let refusal = c.before.before.known-refusal in
+    let refusal = c.known_refusal-number in
     rw (sym refusal.ensures)
-    (begun-either _ refusal.result _ refl c.begun2.result c.before.begun.result c.begun2.ensures c.before.begun.ensures)
-
-pub begins-spec : {M : Type 1} → statement M
-begins-spec = tie.close (tie.spec (λ c κs. search rules) (λ c κs. search rules) (λ c κs. search rules) returns)
+    (begun-either _ refusal.result _ refl c.begun-2.result c.begun.result c.begun-2.ensures c.begun.ensures)
