@@ -17,4 +17,4 @@ pub accepted : Accepted (image encoder)
 unfolding placed action_at all_pass has due plain orderly
     cat image header_of record_image level_image profile of_tables header version actions levels cycle header_spare record_bytes record_at image_bytes mask_of deadline_of spare_of average_of worst_of
     sum greatest_of least_of margin mixed limit masks deadlines times column encoder
-accepted = number (image encoder) refl (named (profile (image encoder)) chain refl) (named-is (profile (image encoder)) chain refl) true refl
+accepted = number (image encoder) refl (named (profile (image encoder)) chain refl) (named-is (profile (image encoder)) chain refl) true refl refl

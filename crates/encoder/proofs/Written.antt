@@ -50,6 +50,7 @@ only-room room k (inr (_, inl (inr (inl h), e))) = absurd (omega arith)
 only-room room k (inr (_, inl (inr (inr (inl h)), e))) = absurd (omega arith)
 only-room room k (inr (_, inl (inr (inr (inr (inl h))), e))) = absurd (omega arith)
 only-room room k (inr (_, inl (inr (inr (inr (inr (inl h)))), e))) = rw (lt-ltb room 546 h) e
+only-room room k (inr (_, inl (inr (inr (inr (inr (inr other)))), e))) = elim other [ ]
 only-room room k (inr (_, inr (_, inl ((a, l, inl h), e)))) = absurd (sure.not_range (a, l, h))
 only-room room k (inr (_, inr (_, inl ((a, l, inr h), e)))) = absurd (sure.not_time_out (a, l, h))
 only-room room k (inr (_, inr (_, inr (_, inl (h, e))))) = absurd (sure.not_table h)
