@@ -30,6 +30,7 @@ module _ {n L : ℕ} {T : LentTables} (counts : CountsOut n L → ⊥) (roomy : 
     not_tight (inr (inl l)) = omega (arith, l, roomy.worst)
     not_tight (inr (inr (inl l))) = omega (arith, l, roomy.bounds)
     not_tight (inr (inr (inr (inl l)))) = omega (arith, l, long)
+    not_tight (inr (inr (inr (inr x)))) = elim x [ ]
 
     -- it is refused for an entry too long, or not at all
     which : (LongEntry (n * L) (durations frame) × (number ≡ refused_duration)) ⊎ ((LongEntry (n * L) (durations frame) → ⊥) × (number ≡ 0))

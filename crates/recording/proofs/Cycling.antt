@@ -57,6 +57,7 @@ module _ {n L : ℕ} {T : LentTables} {frame : List ℕ} {r : Run} {low : ℕ} (
       whole = omega (arith, at.n_is, in_range_facts r at.ready.ranged)
 
       by : (m : ℕ) → 0 < m → lowest_before (level_at n L T frame) m ≡ lowest_of (level_at n L T frame) (m - 1)
+      by zero l = elim l [ ]
       by (suc m) l = let last : suc m - 1 ≡ m = omega arith in sym (ap (lowest_of (level_at n L T frame)) last)
 
   -- by the counts of its record, and back

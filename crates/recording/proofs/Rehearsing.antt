@@ -106,6 +106,7 @@ module _ {n L : ℕ} {T : LentTables} {frame : List ℕ} {t : Totals} {k : ℕ} 
         said = length-tab _ _
     tight (inr (inr (inr (inr (inl l))))) = absurd (omega (arith, l, few.0))
     tight (inr (inr (inr (inr (inr (inl l)))))) = absurd (omega (arith, l, few.0))
+    tight (inr (inr (inr (inr (inr (inr x)))))) = elim x [ ]
 
     pub ready : Waits T frame (begun n L 0)
     ready = ready-begun n L T (durations frame) unwritten (by x.judged)

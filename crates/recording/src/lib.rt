@@ -93,8 +93,8 @@ pub fn open(
     bounds: &mut [i32],
 ) -> Opened
     ensures { Opens image.now policy bytes
-        (record { order = order.entry.now; limits = limits.old; worst = worst.old; bounds = bounds.old })
-        (record { order = order.exit.now; limits = limits.new; worst = worst.new; bounds = bounds.new }) result }
+        (record { order = order.old; limits = limits.old; worst = worst.old; bounds = bounds.old })
+        (record { order = order.new; limits = limits.new; worst = worst.new; bounds = bounds.new }) result }
 {
     if !whole_frames(image, bytes) {
         return unopened(length_refusal(image, policy));
@@ -120,7 +120,7 @@ pub fn open(
 
 // The totals over the frames run. A recording begins with all of them 0.
 #[repr(C)]
-#[derive(Drop)]
+#[derive(Clone, Copy)]
 pub struct Totals {
     pub frames: u32,
     pub decisions: u32,
@@ -173,9 +173,9 @@ fn totals_refusal(totals: Totals) -> u32
 }
 
 // A frame run more.
-fn with_line(totals: Totals, line: Line) -> Totals
-    requires { (totals_fit (totals_of totals) ≡ true) × (totals.frames < most_frames) × (line.decisions ≤ most_actions) }
-    ensures { totals_of result ≡ with_frame (totals_of totals) (ran_said line) }
+fn with_line(totals: Totals, line: &Line) -> Totals
+    requires { (totals_fit (totals_of totals) ≡ true) × (totals.frames < most_frames) × (line.now.decisions ≤ most_actions) }
+    ensures { totals_of result ≡ with_frame (totals_of totals) (ran_said line.now) }
 {
     Totals {
         frames: totals.frames + 1,
@@ -335,7 +335,7 @@ pub fn rehearse(
         late: last.late,
     };
     Counted {
-        totals: with_line(totals, line),
+        totals: with_line(totals, &line),
         line,
     }
 }
