@@ -43,8 +43,8 @@ pub fn nyokazerubi_plan_body(
     worst_by_position: &mut [u32],
 ) -> BodyPlanned
     ensures { PlansBody image.now repeats policy
-        (record { order = order.entry.now; summaries = summaries.old; worst = worst_by_position.old })
-        (record { order = order.exit.now; summaries = summaries.new; worst = worst_by_position.new }) result }
+        (record { order = order.old; summaries = summaries.old; worst = worst_by_position.old })
+        (record { order = order.new; summaries = summaries.new; worst = worst_by_position.new }) result }
 {
     repeat_planner::plan(image, repeats, policy, order, summaries, worst_by_position)
 }
@@ -99,7 +99,7 @@ pub struct Asked {
 pub fn ask_flat(run: BodyRun, order: &[u8], summaries: &[u32], worst: &[u32]) -> Asked
     ensures body { (asked_left result).body ≡ run.body }
     ensures answer { Asks (body_ask run.body
-        (record { order = order.entry.now; summaries = summaries.now; worst = worst.now }) (steps_of run))
+        (record { order = order.now; summaries = summaries.now; worst = worst.now }) (steps_of run))
         (steps_of (asked_left result)) result.given }
 {
     let asked = run.asks(order, summaries, worst);
@@ -138,7 +138,7 @@ pub fn nyokazerubi_body_ask(
 ) -> Given
     ensures body { run.new.body ≡ run.old.body }
     ensures answer { Asks (body_ask run.old.body
-        (record { order = order.entry.now; summaries = summaries.now; worst = worst_by_position.now })
+        (record { order = order.now; summaries = summaries.now; worst = worst_by_position.now })
         (steps_of run.old)) (steps_of run.new) result }
 {
     let out = ask_flat(*run, order, summaries, worst_by_position);
@@ -181,8 +181,8 @@ pub fn nyokazerubi_body_dry_frame(
     marks: &mut [u8],
 ) -> BodyFramed
     ensures { BodyFrames image.now repeats policy durations.now
-        (record { order = order.entry.now; levels = given.old; decided = marks.old })
-        (record { order = order.exit.now; levels = given.new; decided = marks.new }) result }
+        (record { order = order.old; levels = given.old; decided = marks.old })
+        (record { order = order.new; levels = given.new; decided = marks.new }) result }
 {
     repeat_frame::dry_frame(image, repeats, policy, durations, order, given, marks)
 }

@@ -51,8 +51,8 @@ pub fn nyokazerubi_read(
     worst_by_action: &mut [u32],
 ) -> Unpacked
     ensures { ReadsImage image.now
-        (record { masks = masks.entry.now; deadlines = deadlines.old; averages = averages.old; worst = worst_by_action.old })
-        (record { masks = masks.exit.now; deadlines = deadlines.new; averages = averages.new; worst = worst_by_action.new }) result }
+        (record { masks = masks.old; deadlines = deadlines.old; averages = averages.old; worst = worst_by_action.old })
+        (record { masks = masks.new; deadlines = deadlines.new; averages = averages.new; worst = worst_by_action.new }) result }
 {
     profile::read(image, masks, deadlines, averages, worst_by_action)
 }
@@ -68,7 +68,7 @@ pub fn nyokazerubi_write(
     image: &mut [u8],
 ) -> Written
     ensures { Writes n levels cycle
-        (record { masks = masks.entry.now; deadlines = deadlines.now; averages = averages.now; worst = worst_by_action.now })
+        (record { masks = masks.now; deadlines = deadlines.now; averages = averages.now; worst = worst_by_action.now })
         image.old image.new result.refusal result.bytes }
 {
     profile::write(
@@ -113,8 +113,8 @@ pub fn nyokazerubi_plan(
     bounds: &mut [i32],
 ) -> Planned
     ensures { Plans image.now policy
-        (record { order = order.entry.now; limits = limits.old; worst = worst_by_position.old; bounds = bounds.old })
-        (record { order = order.exit.now; limits = limits.new; worst = worst_by_position.new; bounds = bounds.new }) result }
+        (record { order = order.old; limits = limits.old; worst = worst_by_position.old; bounds = bounds.old })
+        (record { order = order.new; limits = limits.new; worst = worst_by_position.new; bounds = bounds.new }) result }
 {
     planner::plan(image, policy, order, limits, worst_by_position, bounds)
 }
@@ -156,8 +156,8 @@ pub fn nyokazerubi_dry_frame(
     marks: &mut [u8],
 ) -> Framed
     ensures { Frames image.now policy durations.now
-        (record { order = order.entry.now; levels = given.old; decided = marks.old })
-        (record { order = order.exit.now; levels = given.new; decided = marks.new }) result }
+        (record { order = order.old; levels = given.old; decided = marks.old })
+        (record { order = order.new; levels = given.new; decided = marks.new }) result }
 {
     dry_frame::dry_frame(image, policy, durations, order, given, marks)
 }

@@ -56,7 +56,7 @@ pub fn flat(answer: Answer) -> Given
 
 pub fn ask_flat(run: Run, order: &[u8], limits: &[i32], bounds: &[i32]) -> Asked
     ensures { Asks (ask
-        (record { order = order.entry.now; limits = limits.now; worst = []; bounds = bounds.now }) (run_of run)) (run_of result.run) result.given }
+        (record { order = order.now; limits = limits.now; worst = []; bounds = bounds.now }) (run_of run)) (run_of result.run) result.given }
 {
     let asked = run.ask(order, limits, bounds);
     let next = asked.run;
@@ -84,7 +84,7 @@ pub fn nyokazerubi_ask(
     bounds: &[i32],
 ) -> Given
     ensures { Asks (ask
-        (record { order = order.entry.now; limits = limits.now; worst = []; bounds = bounds.now }) (run_of run.old)) (run_of run.new) result }
+        (record { order = order.now; limits = limits.now; worst = []; bounds = bounds.now }) (run_of run.old)) (run_of run.new) result }
 {
     let out = ask_flat(*run, order, limits, bounds);
     *run = out.run;

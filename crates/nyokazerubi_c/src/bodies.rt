@@ -25,8 +25,8 @@ pub extern "C" fn nyokazerubi_plan_body(
     worst_by_position: &mut [u32],
 ) -> BodyPlanned
     ensures { PlansBody image.now repeats policy
-        (record { order = order.entry.now; summaries = summaries.old; worst = worst_by_position.old })
-        (record { order = order.exit.now; summaries = summaries.new; worst = worst_by_position.new }) result }
+        (record { order = order.old; summaries = summaries.old; worst = worst_by_position.old })
+        (record { order = order.new; summaries = summaries.new; worst = worst_by_position.new }) result }
 {
     nyokazerubi::bodies::nyokazerubi_plan_body(image, repeats, policy, order, summaries, worst_by_position)
 }
@@ -74,7 +74,7 @@ pub extern "C" fn nyokazerubi_body_ask(
 ) -> Given
     ensures body { run.new.body ≡ run.old.body }
     ensures answer { Asks (body_ask run.old.body
-        (record { order = order.entry.now; summaries = summaries.now; worst = worst_by_position.now })
+        (record { order = order.now; summaries = summaries.now; worst = worst_by_position.now })
         (steps_of run.old)) (steps_of run.new) result }
 {
     nyokazerubi::bodies::nyokazerubi_body_ask(run, order, summaries, worst_by_position)
@@ -104,8 +104,8 @@ pub extern "C" fn nyokazerubi_body_dry_frame(
     marks: &mut [u8],
 ) -> BodyFramed
     ensures { BodyFrames image.now repeats policy durations.now
-        (record { order = order.entry.now; levels = given.old; decided = marks.old })
-        (record { order = order.exit.now; levels = given.new; decided = marks.new }) result }
+        (record { order = order.old; levels = given.old; decided = marks.old })
+        (record { order = order.new; levels = given.new; decided = marks.new }) result }
 {
     nyokazerubi::bodies::nyokazerubi_body_dry_frame(image, repeats, policy, durations, order, given, marks)
 }

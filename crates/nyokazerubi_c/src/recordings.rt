@@ -15,8 +15,8 @@ pub extern "C" fn nyokazerubi_open_recording(
     bounds: &mut [i32],
 ) -> Opened
     ensures { Opens image.now policy bytes
-        (record { order = order.entry.now; limits = limits.old; worst = worst_by_position.old; bounds = bounds.old })
-        (record { order = order.exit.now; limits = limits.new; worst = worst_by_position.new; bounds = bounds.new }) result }
+        (record { order = order.old; limits = limits.old; worst = worst_by_position.old; bounds = bounds.old })
+        (record { order = order.new; limits = limits.new; worst = worst_by_position.new; bounds = bounds.new }) result }
 {
     nyokazerubi::recordings::nyokazerubi_open_recording(image, policy, bytes, order, limits, worst_by_position, bounds)
 }
@@ -33,7 +33,7 @@ pub extern "C" fn nyokazerubi_rehearse(
 ) -> Line
     ensures { Rehearses n levels
         (record { order = []; limits = limits.now; worst = worst_by_position.now; bounds = bounds.now })
-        frame.now (totals_of totals.entry.now) (record { totals = totals.exit.now; line = result }) }
+        frame.now (totals_of totals.old) (record { totals = totals.new; line = result }) }
 {
     nyokazerubi::recordings::nyokazerubi_rehearse(totals, n, levels, limits, worst_by_position, bounds, frame)
 }

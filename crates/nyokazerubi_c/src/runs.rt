@@ -24,7 +24,7 @@ pub extern "C" fn nyokazerubi_ask(
     bounds: &[i32],
 ) -> Given
     ensures { Asks (ask
-        (record { order = order.entry.now; limits = limits.now; worst = []; bounds = bounds.now }) (run_of run.old)) (run_of run.new) result }
+        (record { order = order.now; limits = limits.now; worst = []; bounds = bounds.now }) (run_of run.old)) (run_of run.new) result }
 {
     nyokazerubi::runs::nyokazerubi_ask(run, order, limits, bounds)
 }

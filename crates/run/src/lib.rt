@@ -210,7 +210,7 @@ impl Run {
     // Fields out of range 11, room 17, an action runs 11, all done 10.
     fn ask_refusal(self, order: &[u8], limits: &[i32], bounds: &[i32]) -> u32
         ensures { result ≡ ask_refusal
-            (record { order = order.entry.now; limits = limits.now; worst = []; bounds = bounds.now }) (run_of self) }
+            (record { order = order.now; limits = limits.now; worst = []; bounds = bounds.now }) (run_of self) }
     {
         if !self.in_range() {
             return rules::REFUSED_TURN;
@@ -235,7 +235,7 @@ impl Run {
     // Asking takes no clock and sets the action running. A refusal gives back the record.
     pub fn ask(self, order: &[u8], limits: &[i32], bounds: &[i32]) -> Asked
         ensures { answer_of result ≡ ask
-            (record { order = order.entry.now; limits = limits.now; worst = []; bounds = bounds.now }) (run_of self) }
+            (record { order = order.now; limits = limits.now; worst = []; bounds = bounds.now }) (run_of self) }
     {
         let number = self.ask_refusal(order, limits, bounds);
         if number != 0 {
