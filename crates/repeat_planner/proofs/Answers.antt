@@ -222,5 +222,5 @@ module _ {s : List ℕ} {N policy : ℕ} (lent : LentBody) {r : Checked} (a : Ad
           body = kept_new _ _ _ none (λ i. record { n = found.n i; levels = found.levels i; cycle = found.cycle i; repeats = N; policy = policy });
           o = found.order.0;
           the_order = λ _. found.order.1;
-          tables_are = kept_new _ _ _ none (same_body written.order-is written.summaries_are written.worst_is);
+          tables_are = kept_new _ _ _ none (same_body written.order_is written.summaries_are written.worst_is);
         }

@@ -87,7 +87,7 @@ fn checked(image: &[u8], repeats: u32) -> Checked
 fn tight(n: usize, levels: usize, order: &[u8], summaries: &[u32], worst: &[u32]) -> Refusal
     requires { (n ≤ most_actions) × (levels ≤ most_levels) }
     ensures { First
-        (refused_room when Tight (body_rooms n levels (record { order = order.entry.now; summaries = summaries.now; worst = worst.now })) ∷ [])
+        (refused_room when Tight (body_rooms n levels (record { order = order.now; summaries = summaries.now; worst = worst.now })) ∷ [])
         result.number }
 {
     let entries = n * levels;
@@ -117,7 +117,7 @@ fn with_room(
 ) -> Checked
     ensures { Admits (body_call image.now repeats policy
         (body_rooms (profile image.now).n (profile image.now).levels
-        (record { order = order.entry.now; summaries = summaries.now; worst = worst.now }))) image.now result }
+        (record { order = order.now; summaries = summaries.now; worst = worst.now }))) image.now result }
 {
     let mut found = checked(image, repeats);
     if found.refusal.number != 0 {
@@ -154,8 +154,8 @@ pub fn plan(
     worst: &mut [u32],
 ) -> BodyPlanned
     ensures { PlansBody image.now repeats policy
-        (record { order = order.entry.now; summaries = summaries.old; worst = worst.old })
-        (record { order = order.exit.now; summaries = summaries.new; worst = worst.new }) result }
+        (record { order = order.old; summaries = summaries.old; worst = worst.old })
+        (record { order = order.new; summaries = summaries.new; worst = worst.new }) result }
 {
     let found = with_room(image, repeats, policy, order, summaries, worst);
     let refusal = found.refusal;
