@@ -13,7 +13,7 @@ use Rattle.rules.specs.Image.{Profile, profile}
 use Rattle.rules.specs.Order.{Order, TheOrder}
 use Rattle.rules.specs.Refusals.{Ground, ◌when◌, First, AtFault, Refuses, Unfit, Tight, UnknownPolicy, loop_checks}
 use Rattle.rules.specs.Run.{Run, decides}
-use Rattle.rules.specs.Dry.{before, cell, LongEntry}
+use Rattle.rules.specs.Dry.{cell, LongEntry}
 use Rattle.rules.specs.Repeat.{unrolled, Repeats, LentBody, body_of, lent_each, lent_plan, PlannedBody, action_at, body_frame_call}
 use Rattle.rules.specs.declared.Body.{Body}
 use Rattle.rules.specs.declared.Fault.{Fault}
@@ -98,6 +98,7 @@ never_tight : {s : List ℕ} → Sound s → Tight (body_rooms (profile s).n (pr
 never_tight h (inl l) = omega (arith, (few h).0, length-replicate {A = ℕ} most_actions 0)
 never_tight h (inr (inl l)) = omega (arith, (few h).1, length-replicate {A = ℕ} (most_actions * most_levels * summary_numbers) 0)
 never_tight h (inr (inr (inl l))) = omega (arith, (few h).1, length-replicate {A = ℕ} (most_actions * most_levels) 0)
+never_tight h (inr (inr (inr none))) = elim none [ ]
 
 body-sound : (s : List ℕ) (N policy : ℕ) → First (policy_checks s N policy) 0 → Sound s
 body-sound s N policy p =

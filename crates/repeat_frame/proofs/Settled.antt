@@ -9,7 +9,7 @@ use native.Mathlib.Omega.{arith}
 use Rattle.rules.specs.Numbers.{longest_coast, refused_unfit, refused_duration, refused_room, refused_repeats, refused_policy}
 use Rattle.rules.specs.Words.{tab, one_if}
 use Rattle.rules.specs.Image.{profile}
-use Rattle.rules.specs.Refusals.{Ground, ◌when◌, First, Unfit, Tight, UnknownPolicy, loop_checks}
+use Rattle.rules.specs.Refusals.{Ground, ◌when◌, Unfit, Tight, UnknownPolicy, loop_checks}
 use Rattle.rules.specs.Run.{Run, decides}
 use Rattle.rules.specs.Dry.{cell, LongEntry}
 use Rattle.rules.specs.Repeat.{unrolled, Repeats, body_frame_call}
@@ -76,8 +76,8 @@ module _ {s : List ℕ} {N policy : ℕ} {durations : List ℕ} {before after₁
       let body = repeatable (profile s) N h.0.not_count h.0.not_range h.1 in
       let level : 0 < (profile s).levels = not-above (λ e. h.0.not_count (inl (inr (inr (inl e))))) in
       let d = cell durations (profile s).levels in
-      run-exact body N (x.the_order none) level h.0.not-IsTable policy (x.unrolled_order none) longest_coast d 0 i l
-      ∙ sym (run-exact body N (x.the_order none) level h.0.not-IsTable policy (y.unrolled_order (sym number ∙ none)) longest_coast d 0 i l)
+      run-exact body N (x.the_order none) level h.0.not_table policy (x.unrolled_order none) longest_coast d 0 i l
+      ∙ sym (run-exact body N (x.the_order none) level h.0.not_table policy (y.unrolled_order (sym number ∙ none)) longest_coast d 0 i l)
 
   last_one : {A : Type 0} (f : Run → A) → r.refusal.number ≡ 0
       → f (unrolled_run s N policy durations x.p (N * (profile s).n)) ≡ f (unrolled_run s N policy durations y.p (N * (profile s).n))

@@ -112,7 +112,7 @@ fn walk(
 fn own_refusal(body: Body, durations: &[u32], order: &[u8], given: &[u8], marks: &[u8]) -> u32
     requires { CountsIn body }
     ensures { First (own_call body durations.now
-        (record { order = order.entry.now; levels = given.now; decided = marks.now })) result }
+        (record { order = order.now; levels = given.now; decided = marks.now })) result }
 {
     let n = body.n as usize;
     let positions = body.repeats as usize * n;
@@ -142,8 +142,8 @@ pub fn dry_frame(
     marks: &mut [u8],
 ) -> BodyFramed
     ensures { BodyFrames image.now repeats policy durations.now
-        (record { order = order.entry.now; levels = given.old; decided = marks.old })
-        (record { order = order.exit.now; levels = given.new; decided = marks.new }) result }
+        (record { order = order.old; levels = given.old; decided = marks.old })
+        (record { order = order.new; levels = given.new; decided = marks.new }) result }
 {
     // room for the greatest body: 64 actions at 8 levels, four numbers each
     let mut actions = [0u8; 64];
