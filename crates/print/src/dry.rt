@@ -58,9 +58,8 @@ pub fn dry_text(image: &[u8], policy: u32, bytes: &[u8], out: &mut [u8]) -> usiz
         &mut given,
         &mut marks,
     );
-    let refusal = framed.refusal;
-    if refusal.number != 0 {
-        return put_fault(out, 0, refusal);
+    if framed.refusal.number != 0 {
+        return put_fault(out, 0, framed.refusal);
     }
     let at = put_steps(&mut *out, &order, &given, &marks, framed.n);
     put_end(out, at, framed)

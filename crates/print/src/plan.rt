@@ -96,10 +96,11 @@ pub fn plan_text(image: &[u8], policy: u32, out: &mut [u8]) -> usize
         &mut worst,
         &mut bounds,
     );
-    let refusal = planned.refusal;
-    if refusal.number != 0 {
-        return put_fault(out, 0, refusal);
+    if planned.refusal.number != 0 {
+        return put_fault(out, 0, planned.refusal);
     }
+    let n = planned.n;
+    let levels = planned.levels;
     let at = put_counts(&mut *out, planned);
-    put_positions(out, at, &order, &limits, planned.n, planned.levels)
+    put_positions(out, at, &order, &limits, n, levels)
 }
