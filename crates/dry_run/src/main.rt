@@ -3,18 +3,18 @@
 #![tactic(auto)]
 
 use files::read_file;
+use std::io;
 
-fn main() {
-    let chosen = arguments::year(1);
+fn main(rt: HostRuntime) -> io::Result<()> {
+    let chosen = arguments::year(&rt, 1);
     if !chosen.understood {
-        arguments::usage(b"usage: dry_run [YEAR]\n");
-        return;
+        return arguments::usage(&rt, "usage: dry_run [YEAR]\n");
     }
-    let mut image = io::buffer();
-    let n = read_file(b"profile", &mut image);
-    let mut durations = io::buffer();
-    let m = read_file(b"durations", &mut durations);
-    let mut out = io::large_buffer();
+    let mut image = files::buffer();
+    let n = read_file(&rt, b"profile", &mut image)?;
+    let mut durations = files::buffer();
+    let m = read_file(&rt, b"durations", &mut durations)?;
+    let mut out = files::large_buffer();
     let k = print::dry_text(&image[..n], chosen.policy, &durations[..m], &mut out);
-    io::write_all(1, &out[..k]);
+    rt.write_all(&out[..k])
 }

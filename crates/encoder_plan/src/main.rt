@@ -1,10 +1,12 @@
 // The plan of the encoder's profile by the 2008 policy, as the plan program prints it.
 #![tactic(auto)]
 
-fn main() {
+use std::io;
+
+fn main(rt: HostRuntime) -> io::Result<()> {
     let mut image = [0u8; 546];
     encoder::write_image(&mut image);
-    let mut out = io::large_buffer();
+    let mut out = files::large_buffer();
     let k = print::plan_text(&image, rules::POLICY_2008, &mut out);
-    io::write_all(1, &out[..k]);
+    rt.write_all(&out[..k])
 }

@@ -2,15 +2,16 @@
 // action and limits by level.
 #![tactic(auto)]
 
-fn main() {
-    let chosen = arguments::year(1);
+use std::io;
+
+fn main(rt: HostRuntime) -> io::Result<()> {
+    let chosen = arguments::year(&rt, 1);
     if !chosen.understood {
-        arguments::usage(b"usage: plan [YEAR]\n");
-        return;
+        return arguments::usage(&rt, "usage: plan [YEAR]\n");
     }
-    let mut image = io::buffer();
-    let n = io::read_full(0, &mut image);
-    let mut out = io::large_buffer();
+    let mut image = files::buffer();
+    let n = files::read_full(&mut rt.stdin(), &mut image)?;
+    let mut out = files::large_buffer();
     let k = print::plan_text(&image[..n], chosen.policy, &mut out);
-    io::write_all(1, &out[..k]);
+    rt.write_all(&out[..k])
 }
