@@ -152,11 +152,7 @@ pub fn nyokazerubi_body_ask(
     out.given
 }
 
-pub fn nyokazerubi_body_report(
-    run: &mut BodyRun,
-    clock: u32,
-    worst_by_position: &[u32],
-) -> Refusal
+pub fn nyokazerubi_body_report(run: &mut BodyRun, clock: u32, worst_by_position: &[u32]) -> Refusal
     ensures body { run.new.body ≡ run.old.body }
     ensures answer { next_flat (steps_of run.new) result
         ≡ body_report run.old.body worst_by_position.now clock (steps_of run.old) }

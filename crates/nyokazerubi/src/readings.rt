@@ -54,13 +54,7 @@ pub fn nyokazerubi_speed_reading(
     flat(speed::speed_reading(image, first, last, level, t))
 }
 
-pub fn nyokazerubi_on_time(
-    image: &[u8],
-    first: usize,
-    last: usize,
-    level: usize,
-    t: u32,
-) -> bool
+pub fn nyokazerubi_on_time(image: &[u8], first: usize, last: usize, level: usize, t: u32) -> bool
     ensures { Tells image.now first last level t result }
 {
     speed::on_time(image, first, last, level, t)

@@ -77,12 +77,7 @@ pub fn nyokazerubi_start(run: &mut Run, n: usize, levels: usize) -> Refusal
     out.refusal
 }
 
-pub fn nyokazerubi_ask(
-    run: &mut Run,
-    order: &[u8],
-    limits: &[i32],
-    bounds: &[i32],
-) -> Given
+pub fn nyokazerubi_ask(run: &mut Run, order: &[u8], limits: &[i32], bounds: &[i32]) -> Given
     ensures { Asks (ask
         (record { order = order.now; limits = limits.now; worst = []; bounds = bounds.now }) (run_of run.old)) (run_of run.new) result }
 {
@@ -91,11 +86,7 @@ pub fn nyokazerubi_ask(
     out.given
 }
 
-pub fn nyokazerubi_report(
-    run: &mut Run,
-    clock: u32,
-    worst_by_position: &[u32],
-) -> Refusal
+pub fn nyokazerubi_report(run: &mut Run, clock: u32, worst_by_position: &[u32]) -> Refusal
     ensures { next_flat (run_of run.new) result ≡ report worst_by_position.now clock (run_of run.old) }
 {
     let out = Run::report(*run, clock, worst_by_position);
