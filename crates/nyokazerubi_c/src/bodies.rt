@@ -7,13 +7,13 @@ ghost use Rattle.repeat_run.specs.Calls.{steps_of};
 ghost use Rattle.repeat_frame.specs.BodyFrame.{BodyFrames};
 ghost use Rattle.nyokazerubi.specs.Flat.{body_lent, next_flat, Asks};
 
+use nyokazerubi::bodies::BODY_NUMBERS;
 use nyokazerubi::runs::Given;
 use repeat_frame::BodyFramed;
 use repeat_limits::Limited;
 use repeat_planner::BodyPlanned;
 use repeat_run::BodyRun;
 use rules::Refusal;
-use nyokazerubi::bodies::BODY_NUMBERS;
 
 #[unsafe(no_mangle)]
 pub extern "C" fn nyokazerubi_plan_body(
@@ -28,7 +28,14 @@ pub extern "C" fn nyokazerubi_plan_body(
         (record { order = order.old; summaries = summaries.old; worst = worst_by_position.old })
         (record { order = order.new; summaries = summaries.new; worst = worst_by_position.new }) result }
 {
-    nyokazerubi::bodies::nyokazerubi_plan_body(image, repeats, policy, order, summaries, worst_by_position)
+    nyokazerubi::bodies::nyokazerubi_plan_body(
+        image,
+        repeats,
+        policy,
+        order,
+        summaries,
+        worst_by_position,
+    )
 }
 
 #[unsafe(no_mangle)]
@@ -55,7 +62,14 @@ pub extern "C" fn nyokazerubi_body_bound(
     ensures { BoundAnswers (body_lent body.now)
         (record { order = []; summaries = summaries.now; worst = worst_by_position.now }) position level length result }
 {
-    nyokazerubi::bodies::nyokazerubi_body_bound(body, summaries, worst_by_position, position, level, length)
+    nyokazerubi::bodies::nyokazerubi_body_bound(
+        body,
+        summaries,
+        worst_by_position,
+        position,
+        level,
+        length,
+    )
 }
 
 #[unsafe(no_mangle)]
@@ -107,5 +121,7 @@ pub extern "C" fn nyokazerubi_body_dry_frame(
         (record { order = order.old; levels = given.old; decided = marks.old })
         (record { order = order.new; levels = given.new; decided = marks.new }) result }
 {
-    nyokazerubi::bodies::nyokazerubi_body_dry_frame(image, repeats, policy, durations, order, given, marks)
+    nyokazerubi::bodies::nyokazerubi_body_dry_frame(
+        image, repeats, policy, durations, order, given, marks,
+    )
 }

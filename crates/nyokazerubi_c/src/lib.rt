@@ -69,7 +69,16 @@ pub extern "C" fn nyokazerubi_write(
         (record { masks = masks.now; deadlines = deadlines.now; averages = averages.now; worst = worst_by_action.now })
         image.old image.new result.refusal result.bytes }
 {
-    nyokazerubi::nyokazerubi_write(n, levels, cycle, masks, deadlines, averages, worst_by_action, image)
+    nyokazerubi::nyokazerubi_write(
+        n,
+        levels,
+        cycle,
+        masks,
+        deadlines,
+        averages,
+        worst_by_action,
+        image,
+    )
 }
 
 #[unsafe(no_mangle)]
@@ -125,7 +134,16 @@ pub extern "C" fn nyokazerubi_dry_run(
         durations.now (record { levels = given.old; decided = marks.old })
         (record { levels = given.new; decided = marks.new }) result }
 {
-    nyokazerubi::nyokazerubi_dry_run(n, levels, limits, worst_by_position, bounds, durations, given, marks)
+    nyokazerubi::nyokazerubi_dry_run(
+        n,
+        levels,
+        limits,
+        worst_by_position,
+        bounds,
+        durations,
+        given,
+        marks,
+    )
 }
 
 #[unsafe(no_mangle)]

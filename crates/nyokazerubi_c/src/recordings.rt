@@ -18,7 +18,15 @@ pub extern "C" fn nyokazerubi_open_recording(
         (record { order = order.old; limits = limits.old; worst = worst_by_position.old; bounds = bounds.old })
         (record { order = order.new; limits = limits.new; worst = worst_by_position.new; bounds = bounds.new }) result }
 {
-    nyokazerubi::recordings::nyokazerubi_open_recording(image, policy, bytes, order, limits, worst_by_position, bounds)
+    nyokazerubi::recordings::nyokazerubi_open_recording(
+        image,
+        policy,
+        bytes,
+        order,
+        limits,
+        worst_by_position,
+        bounds,
+    )
 }
 
 #[unsafe(no_mangle)]
@@ -35,5 +43,13 @@ pub extern "C" fn nyokazerubi_rehearse(
         (record { order = []; limits = limits.now; worst = worst_by_position.now; bounds = bounds.now })
         frame.now (totals_of totals.old) (record { totals = totals.new; line = result }) }
 {
-    nyokazerubi::recordings::nyokazerubi_rehearse(totals, n, levels, limits, worst_by_position, bounds, frame)
+    nyokazerubi::recordings::nyokazerubi_rehearse(
+        totals,
+        n,
+        levels,
+        limits,
+        worst_by_position,
+        bounds,
+        frame,
+    )
 }

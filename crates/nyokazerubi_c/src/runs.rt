@@ -5,9 +5,9 @@ ghost use Rattle.rules.specs.Run as rules;
 ghost use Rattle.run.specs.Calls.{run_of};
 ghost use Rattle.nyokazerubi.specs.Flat.{next_flat, Asks};
 
+use nyokazerubi::runs::Given;
 use rules::Refusal;
 use run::Run;
-use nyokazerubi::runs::Given;
 
 #[unsafe(no_mangle)]
 pub extern "C" fn nyokazerubi_start(run: &mut Run, n: usize, levels: usize) -> Refusal
