@@ -2,30 +2,30 @@
 // A case is told again with what came of it.
 #![tactic(auto)]
 
-use profile::Unpacked;
+use std::io;
 use test_kit::{count, part, say, say_fault};
 
 // A case begins with the letter of its call; what begins with none is a heading.
-pub fn tell(line: &[u8]) {
+pub fn tell<R: Print>(rt: &R, line: &[u8]) -> io::Result<()> {
     let row = test_kit::numbers(line);
-    io::write_all(1, line);
+    rt.write_all(line)?;
     match test_kit::first(line) {
-        b'c' => tell_check(row),
-        b'l' => tell_lookup(row),
-        b'r' => tell_read(row),
-        b'w' => tell_write(row),
+        b'c' => tell_check(rt, row)?,
+        b'l' => tell_lookup(rt, row)?,
+        b'r' => tell_read(rt, row)?,
+        b'w' => tell_write(rt, row)?,
         _ => {}
     }
-    io::write_all(1, b"\n");
+    rt.write_all(b"\n")
 }
 
 // ---- One
 
 // How much of it there is, and a byte that is changed.
-fn tell_check(row: [u32; 24]) {
+fn tell_check<R: Print>(rt: &R, row: [u32; 24]) -> io::Result<()> {
     let image = one_but(row[1], row[2]);
     let bytes = part(row[0], 24);
-    say_fault(b": ", profile::check(&image[0..bytes]));
+    say_fault(rt, b": ", profile::check(&image[0..bytes]))
 }
 
 fn one_but(at: u32, byte: u32) -> [u8; 24] {
@@ -39,17 +39,17 @@ fn one_but(at: u32, byte: u32) -> [u8; 24] {
 }
 
 // The number of a lookup, and how many bytes the action's own part of the image has.
-fn tell_lookup(row: [u32; 24]) {
+fn tell_lookup<R: Print>(rt: &R, row: [u32; 24]) -> io::Result<()> {
     let image = test_kit::samples::one();
     let action = count(row[0]);
-    say_fault(b": ", profile::lookup_refusal(&image, action));
-    test_kit::say_count(b", bytes ", profile::lookup(&image, action).len());
+    say_fault(rt, b": ", profile::lookup_refusal(&image, action))?;
+    test_kit::say_count(rt, b", bytes ", profile::lookup(&image, action).len())
 }
 
 // ---- Three
 
 // The room for masks, deadlines, averages and worst times: 9 is untouched.
-fn tell_read(row: [u32; 24]) {
+fn tell_read<R: Print>(rt: &R, row: [u32; 24]) -> io::Result<()> {
     let mut masks = [9u64; 3];
     let mut deadlines = [9u32; 3];
     let mut averages = [9u32; 6];
@@ -66,53 +66,64 @@ fn tell_read(row: [u32; 24]) {
         &mut averages[0..c],
         &mut worst[0..d],
     );
-    say_fault(b": ", read.refusal);
-    say_tables(masks, deadlines, averages, worst);
-    say_back(read, &masks, &deadlines, &averages, &worst);
+    say_fault(rt, b": ", read.refusal)?;
+    say_tables(rt, masks, deadlines, averages, worst)?;
+    say_back(
+        rt,
+        read.n,
+        read.levels,
+        read.cycle,
+        &masks,
+        &deadlines,
+        &averages,
+        &worst,
+    )
 }
 
-fn say_tables(masks: [u64; 3], deadlines: [u32; 3], averages: [u32; 6], worst: [u32; 6]) {
-    say_masks(masks);
-    say(b", deadlines _ _ _", &deadlines);
-    say(b", averages _ _ _ _ _ _", &averages);
-    say(b", worst _ _ _ _ _ _", &worst);
+fn say_tables<R: Print>(
+    rt: &R,
+    masks: [u64; 3],
+    deadlines: [u32; 3],
+    averages: [u32; 6],
+    worst: [u32; 6],
+) -> io::Result<()> {
+    say_masks(rt, masks)?;
+    say(rt, b", deadlines _ _ _", &deadlines)?;
+    say(rt, b", averages _ _ _ _ _ _", &averages)?;
+    say(rt, b", worst _ _ _ _ _ _", &worst)
 }
 
-fn say_masks(masks: [u64; 3]) {
-    io::write_all(1, b", masks ");
-    io::print_hex(1, masks[0], 1);
-    io::print_hex(1, masks[1], 1);
-    io::print_hex(1, masks[2], 1);
+fn say_masks<R: Print>(rt: &R, masks: [u64; 3]) -> io::Result<()> {
+    rt.write_all(b", masks ")?;
+    print!(rt; "{:x}", masks[0])?;
+    print!(rt; "{:x}", masks[1])?;
+    print!(rt; "{:x}", masks[2])
 }
 
 // What comes of writing it back.
-fn say_back(
-    read: Unpacked,
+fn say_back<R: Print>(
+    rt: &R,
+    n: usize,
+    levels: usize,
+    cycle: u32,
     masks: &[u64; 3],
     deadlines: &[u32; 3],
     averages: &[u32; 6],
     worst: &[u32; 6],
-) {
+) -> io::Result<()> {
     let mut image = [0u8; 78];
     let written = profile::write(
-        read.n,
-        read.levels,
-        read.cycle,
-        masks,
-        deadlines,
-        averages,
-        worst,
-        &mut image,
+        n, levels, cycle, masks, deadlines, averages, worst, &mut image,
     );
-    say_fault(b", back ", written.refusal);
+    say_fault(rt, b", back ", written.refusal)?;
     let same = check::same(&image, &test_kit::samples::three());
-    test_kit::say_whether(same, b", the same", b", another");
+    test_kit::say_whether(rt, same, b", the same", b", another")
 }
 
 // ---- writing one action at one level
 
 // n, levels, cycle, mask, deadline, average, worst and the room in a slice of 25 bytes. A refusal leaves all of it untouched, and a writing its tail.
-fn tell_write(row: [u32; 24]) {
+fn tell_write<R: Print>(rt: &R, row: [u32; 24]) -> io::Result<()> {
     let mut image = [0xa5u8; 25];
     let room = part(row[7], 25);
     let masks = [row[3] as u64];
@@ -126,25 +137,28 @@ fn tell_write(row: [u32; 24]) {
         &[row[6]],
         &mut image[0..room],
     );
-    say_fault(b": ", written.refusal);
-    say_written(image, written.bytes);
+    say_fault(rt, b": ", written.refusal)?;
+    say_written(rt, image, written.bytes)
 }
 
-fn say_written(image: [u8; 25], bytes: usize) {
-    test_kit::say_count(b", bytes ", bytes);
+fn say_written<R: Print>(rt: &R, image: [u8; 25], bytes: usize) -> io::Result<()> {
+    test_kit::say_count(rt, b", bytes ", bytes)?;
     if bytes <= 25 {
-        say_tail(&image[bytes..25]);
+        say_tail(rt, &image[bytes..25])?;
     }
+    Ok(())
 }
 
-fn say_tail(tail: &[u8]) {
+fn say_tail<R: Print>(rt: &R, tail: &[u8]) -> io::Result<()> {
     let blank = [0xa5u8; 25];
     let n = tail.len();
     if n <= 25 {
         test_kit::say_whether(
+            rt,
             check::same(tail, &blank[0..n]),
             b", tail kept",
             b", tail CHANGED",
-        );
+        )?;
     }
+    Ok(())
 }
