@@ -3,41 +3,54 @@
 #![tactic(auto)]
 
 ghost use Rattle.std.specs.Prelude.{◌≤◌, length};
+ghost use Rattle.std.specs.Io.{ReadsAtMost};
 ghost use Rattle.io.specs.Counts.{IsPrefixLen};
 
 use recording::{Counted, Opened, Totals};
+use std::io;
+use std::io::{Read, Seek, Write};
 
 // No line is longer: that of the totals is four numbers of 32 bits, up to ten digits each, with three spaces and the newline. That of a frame is
 // three such numbers and two marks, with four spaces and the newline.
 const LONGEST_LINE: usize = 44;
 
-// Where a line can begin: where `out` has no room left for the longest one, what is in it is written to the descriptor `to`, and it is begun anew.
-fn line_at(out: &[u8], at: usize, to: i32) -> usize
+// Where a line can begin: where `out` has no room left for the longest one, what is in it is written to `to`, and it is begun anew.
+fn line_at<W: Write>(out: &[u8], at: usize, to: &mut W) -> io::Result<usize>
     requires { IsPrefixLen at out.now }
-    ensures { IsPrefixLen result out.now }
+    ensures { ReadsAtMost result out.now }
 {
     if LONGEST_LINE <= out.len() - at {
-        return at;
+        return Ok(at);
     }
-    io::write_all(to, &out[..at]);
-    0
+    to.write_all(&out[..at])?;
+    Ok(0)
+}
+
+// How much of a recording there is at the start of `out`; an absent one is empty.
+fn read_from<S: Read>(recording: &mut Option<S>, out: &mut [u8]) -> io::Result<usize>
+    ensures { ReadsAtMost result out.new }
+{
+    match recording {
+        Some(recording) => files::read_full(recording, out),
+        None => Ok(0),
+    }
 }
 
 // The next frame of the recording, read into `frame` and run. A file that was cut short meanwhile leaves a frame too short, which is refused.
-fn next_frame(
-    opened: Opened,
+fn next_frame<S: Read>(
+    opened: &Opened,
     limits: &[i32],
     worst: &[u32],
     bounds: &[i32],
     totals: Totals,
-    recording: i32,
+    recording: &mut Option<S>,
     frame: &mut [u8],
-) -> Counted
-    requires { opened.frame_bytes ≤ length frame.old }
+) -> io::Result<Counted>
+    requires { opened.now.frame_bytes ≤ length frame.old }
 {
     let bytes = opened.frame_bytes;
-    let read = io::read_full(recording, &mut frame[..bytes]);
-    recording::rehearse(
+    let read = read_from(recording, &mut frame[..bytes])?;
+    Ok(recording::rehearse(
         totals,
         opened.n,
         opened.levels,
@@ -45,7 +58,7 @@ fn next_frame(
         worst,
         bounds,
         &frame[..read],
-    )
+    ))
 }
 
 // The totals before the first frame.
@@ -59,17 +72,17 @@ fn no_totals() -> Totals {
 }
 
 // A line for each frame, then the totals.
-fn rehearse_frames(
-    opened: Opened,
+fn rehearse_frames<S: Read, W: Write>(
+    opened: &Opened,
     limits: &[i32],
     worst: &[u32],
     bounds: &[i32],
-    recording: i32,
+    recording: &mut Option<S>,
     out: &mut [u8],
-    to: i32,
-) -> usize
-    requires { opened.frame_bytes ≤ 2048 }
-    ensures { IsPrefixLen result out.new }
+    to: &mut W,
+) -> io::Result<usize>
+    requires { opened.now.frame_bytes ≤ 2048 }
+    ensures { ReadsAtMost result out.new }
 {
     // room for a frame of the greatest profile: 64 actions at 8 levels, four bytes each
     let mut frame = [0u8; 2048];
@@ -77,20 +90,26 @@ fn rehearse_frames(
     let mut at = 0;
     let mut left = opened.frames;
     while 0 < left {
-        let counted = next_frame(opened, limits, worst, bounds, totals, recording, &mut frame);
-        let start = line_at(&*out, at, to);
+        let counted = next_frame(opened, limits, worst, bounds, totals, recording, &mut frame)?;
+        let start = line_at(&*out, at, to)?;
         at = print_lines::put_line(&mut *out, start, counted.line);
         totals = counted.totals;
         left -= 1;
     }
-    let start = line_at(&*out, at, to);
-    print_lines::put_totals(out, start, totals)
+    let start = line_at(&*out, at, to)?;
+    Ok(print_lines::put_totals(out, start, totals))
 }
 
-// The text of the recording at a descriptor that `open_read` answered, against an image by a policy. What does not fit into `out` is written to the
-// descriptor `to`; the answer is how much of `out` is still to be written.
-pub fn rehearse(image: &[u8], policy: u32, recording: i32, out: &mut [u8], to: i32) -> usize
-    ensures { IsPrefixLen result out.new }
+// The text of a recording, none being an absent file, against an image by a policy. What does not fit into `out` is written to `to`; the answer is
+// how much of `out` is still to be written.
+pub fn rehearse<S: Read + Seek, W: Write>(
+    image: &[u8],
+    policy: u32,
+    recording: &mut Option<S>,
+    out: &mut [u8],
+    to: &mut W,
+) -> io::Result<usize>
+    ensures { ReadsAtMost result out.new }
 {
     let mut order = [0u8; 64];
     let mut limits = [0i32; 512];
@@ -99,15 +118,14 @@ pub fn rehearse(image: &[u8], policy: u32, recording: i32, out: &mut [u8], to: i
     let opened = recording::open(
         image,
         policy,
-        files::file_length(recording),
+        files::file_length(&mut *recording),
         &mut order,
         &mut limits,
         &mut worst,
         &mut bounds,
     );
-    let refusal = opened.refusal;
-    if refusal.number != 0 {
-        return print_lines::put_fault(out, 0, refusal);
+    if opened.refusal.number != 0 {
+        return Ok(print_lines::put_fault(out, 0, opened.refusal));
     }
-    rehearse_frames(opened, &limits, &worst, &bounds, recording, out, to)
+    rehearse_frames(&opened, &limits, &worst, &bounds, recording, out, to)
 }

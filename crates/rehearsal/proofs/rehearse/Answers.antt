@@ -1,10 +1,6 @@
--- No frame of an accepted image is longer than the buffer. Assumes nothing.
-use Prim.Native.Nat.{ℕ, ◌≤◌}
-use mathlib.Core.Path.{◌≡◌}
-use mathlib.Core.List.{List, [], ◌∷◌}
+-- No frame of an accepted image is longer than the buffer.
+use Rattle.std.proofs.Common.{ℕ, ◌≤◌, ◌≡◌, List, [], ◌∷◌, arith}
 use mathlib.Core.Logic.{⊎_elim}
-use native.Mathlib.Omega.{arith}
-use borrow.Author.Rules.{rules}
 use Rattle.rules.specs.Numbers.{refused_trace, refused_room, refused_policy}
 use Rattle.rules.specs.Image.{profile}
 use Rattle.rules.specs.Limits.{LentTables}
@@ -15,8 +11,7 @@ use Rattle.planner.specs.Planning.{plan_rooms}
 use Rattle.recording.specs.declared.Opened.{Opened}
 use Rattle.recording.specs.Recording.{Opens}
 use Rattle.print.proofs.Plans.{few}
-use Rattle.rehearsal.proofs.rehearse.Statement.{statement}
-use Rattle.rehearsal.proofs.rehearse.Tie as tie
+use Rattle.rehearsal.proofs.rehearse.Goals as goal
 
 module _ {s : List ℕ} {policy bytes : ℕ} {before after : LentTables} {r : Opened} (opens : Opens s policy bytes before after r) (none : r.refusal.number ≡ 0) where
   abbrev own : List Ground
@@ -33,28 +28,5 @@ module _ {s : List ℕ} {policy bytes : ℕ} {before after : LentTables} {r : Op
   unfolding frame_bytes
   frame-fits = rw (rw none at opens.a_frame) (omega (arith, (few sound).cells))
 
-rehearse-frames-requires : tie.Need-rehearse-frames-requires
-rehearse-frames-requires c κs =
-    let accepted = c.before.before.before.before in
-    let opened = accepted.before.before.before.before.before.before.before in
-    frame-fits opened.«open».ensures accepted.if1.false
-
-pub rehearse-spec : {M : Type 1} → statement M
-rehearse-spec =
-    tie.close
-    (tie.spec
-    (λ c κs. search rules)
-    (λ c. search rules)
-    (λ c. search rules)
-    (λ c. search rules)
-    (λ c. search rules)
-    (λ c κs. search rules)
-    (λ c κs. search rules)
-    (λ c. search rules)
-    (λ c. search rules)
-    (λ c. search rules)
-    (λ c. search rules)
-    (λ c. search rules)
-    rehearse-frames-requires
-    (λ c. search rules)
-    (λ c. search rules))
+pub rehearse_frames-requires : goal.rehearse_frames-requires
+rehearse_frames-requires g c = frame-fits c.open-opened.ensures c.if-opened-ne0.false
