@@ -3,17 +3,23 @@
 #![tactic(auto)]
 
 use files::read_file;
+use std::io;
 
-fn main() {
-    let chosen = arguments::year(1);
+fn main(rt: HostRuntime) -> io::Result<()> {
+    let chosen = arguments::year(&rt, 1);
     if !chosen.understood {
-        arguments::usage(b"usage: rehearse [YEAR]\n");
-        return;
+        return arguments::usage(&rt, "usage: rehearse [YEAR]\n");
     }
-    let mut image = io::buffer();
-    let n = read_file(b"profile", &mut image);
-    let recording = os::open_read(b"recording");
-    let mut out = io::buffer();
-    let k = rehearsal::rehearse(&image[..n], chosen.policy, recording, &mut out, 1);
-    io::write_all(1, &out[..k]);
+    let mut image = files::buffer();
+    let n = read_file(&rt, b"profile", &mut image)?;
+    let mut recording = files::open(&rt, b"recording");
+    let mut out = files::buffer();
+    let k = rehearsal::rehearse(
+        &image[..n],
+        chosen.policy,
+        &mut recording,
+        &mut out,
+        &mut rt.stdout(),
+    )?;
+    rt.write_all(&out[..k])
 }
