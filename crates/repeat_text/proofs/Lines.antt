@@ -4,14 +4,12 @@ use Prim.Native.Nat.{ℕ, zero, suc, ◌+◌, ◌-◌, ◌*◌, ◌≤◌, ◌<�
 use mathlib.Core.Path.{◌≡◌, sym, ap, ◌∙◌}
 use mathlib.Core.List.{List, [], ◌∷◌, ◌++◌}
 use native.Mathlib.Omega.{arith}
-use lib.Dec.{leb, ltb}
 use lib.IntN.{ℤ}
 use lib.ListN.{length, length-append}
 use borrow.Author.Tests.{le-ltb, lt-leb}
-use Rattle.rules.specs.Words.{cat, tab}
+use Rattle.rules.specs.Words.{cat}
 use Rattle.rules.specs.Image.{Profile}
 use Rattle.rules.specs.Order.{Order, TheOrder}
-use Rattle.rules.specs.Limits.{tables, limit_by}
 use Rattle.rules.specs.Refusals.{first, UnknownPolicy}
 use Rattle.rules.specs.Repeat.{unrolled, LentBody, positions, lent_plan, PlannedBody, known_tests, body_limit_refusal, action_at}
 use Rattle.rules.specs.declared.Body.{Body}
@@ -25,7 +23,7 @@ use Rattle.repeat_laws.proofs.Lent.{lent_limit, lent-action}
 use Rattle.repeat_limits.specs.Limits.{CountsIn, Stands, LimitAnswers}
 use Rattle.repeat_limits.specs.declared.Limited.{Limited}
 use Rattle.repeat_limits.proofs.Refusing.{known-not-out, limit_passed}
-use Rattle.repeat_text.specs.Text.{longest_line, lent_line, lent_lines, unrolled_line, Lent}
+use Rattle.repeat_text.specs.Text.{longest_line, lent_line, lent_lines, unrolled_line}
 
 -- ---- no refusal
 

@@ -1,5 +1,5 @@
 -- A loop that puts the lines of positions one after another, each whole. Assumes nothing.
-use Prim.Native.Nat.{ℕ, ◌+◌, ◌-◌, ◌*◌, ◌≤◌, ◌<◌}
+use Prim.Native.Nat.{ℕ, ◌+◌, ◌-◌, ◌≤◌, ◌<◌}
 use mathlib.Core.Path.{◌≡◌, sym, ap, ◌∙◌}
 use mathlib.Core.List.{List}
 use native.Mathlib.Numerals.{add-one}
@@ -10,10 +10,9 @@ use Rattle.rules.specs.Words.{cat}
 use Rattle.rules.specs.Repeat.{positions}
 use Rattle.rules.specs.declared.Body.{Body}
 use Rattle.text.specs.Put.{Puts}
-use Rattle.text.proofs.Puts.{put_as, same_length}
+use Rattle.text.proofs.Puts.{put_as}
 use Rattle.print.proofs.Lines.{loop-none, loop_turn, loop_done}
 use Rattle.repeat_limits.specs.Limits.{CountsIn}
-use Rattle.repeat_text.specs.declared.Told.{Told}
 use Rattle.repeat_text.specs.Text.{longest_line, lent_line, lent_lines, TellsLines}
 use Rattle.repeat_text.proofs.Lines.{line-length, lines-unrolled}
 

@@ -14,7 +14,6 @@ use Rattle.print_lines.specs.Lines.{four_line, fault_text}
 use Rattle.print.specs.Plan.{position_line}
 use Rattle.repeat_limits.specs.Limits.{CountsIn}
 use Rattle.repeat_planner.specs.PlanningBody.{PlansBody}
-use Rattle.repeat_planner.specs.declared.BodyPlanned.{BodyPlanned}
 use Rattle.repeat_text.specs.declared.Begun.{Begun}
 use Rattle.repeat_text.specs.declared.Told.{Told}
 

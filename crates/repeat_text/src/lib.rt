@@ -3,6 +3,8 @@
 #![tactic(auto)]
 
 ghost use Rattle.std.specs.Prelude.{◌≡◌, ◌+◌, ◌≤◌, ◌<◌, [], ◌∷◌, length};
+ghost use Rattle.std.specs.Prelude.{IfOk};
+ghost use Rattle.std.specs.Io.{ReadsAtMost};
 ghost use Rattle.io.specs.Counts.{IsPrefixLen};
 ghost use Rattle.rules.specs.Numbers.{most_positions};
 ghost use Rattle.rules.specs.Words.{cat};
@@ -15,7 +17,9 @@ ghost use Rattle.repeat_text.specs.Text.{longest_line, lent_line, Lent, TellsLin
 
 use print_lines::{put_fault, put_field, put_four};
 use repeat_planner::BodyPlanned;
-use rules::Body;
+use rules::{Body, Fault};
+use std::io;
+use std::io::Write;
 use text::{put_byte, put_number, put_signed_long};
 
 // No line is longer: two numbers of up to 20 digits each, eight limits with a sign and a space before each, the space between and the newline.
@@ -120,13 +124,16 @@ pub fn begin(
     out: &mut [u8],
 ) -> Begun
     ensures { TellsFirst image.now repeats policy
-        (record { order = order.entry.now; summaries = summaries.old; worst = worst.old })
-        (record { order = order.exit.now; summaries = summaries.new; worst = worst.new })
+        (record { order = order.old; summaries = summaries.old; worst = worst.old })
+        (record { order = order.new; summaries = summaries.new; worst = worst.new })
         out.old out.new result }
 {
     let planned = repeat_planner::plan(image, repeats, policy, order, summaries, worst);
-    let refusal = planned.refusal;
-    if refusal.number != 0 {
+    if planned.refusal.number != 0 {
+        let refusal = Fault {
+            number: planned.refusal.number,
+            action: planned.refusal.action,
+        };
         let at = put_fault(out, 0, refusal);
         return Begun { planned, at };
     }
@@ -135,47 +142,53 @@ pub fn begin(
     Begun { planned, at }
 }
 
-// Where a line can begin: where `out` has no room left for the longest one, what is in it is written to the descriptor `to`, and it is begun anew.
-fn line_at(out: &[u8], at: usize, to: i32) -> usize
+// Where a line can begin: where `out` has no room left for the longest one, what is in it is written to `to`, and it is begun anew.
+fn line_at<W: Write>(out: &[u8], at: usize, to: &mut W) -> io::Result<usize>
     requires { IsPrefixLen at out.now × (longest_line ≤ length out.now) }
-    ensures { result + longest_line ≤ length out.now }
+    ensures { IfOk result (λ start. start + longest_line ≤ length out.now) }
 {
     if LONGEST_LINE <= out.len() - at {
-        return at;
+        return Ok(at);
     }
-    io::write_all(to, &out[..at]);
-    0
+    to.write_all(&out[..at])?;
+    Ok(0)
 }
 
-// A line for each unrolled position after the `at` bytes of `out`. What has no room in it is written to the descriptor `to`.
-fn tell_positions(
+// A line for each unrolled position after the `at` bytes of `out`. What has no room in it is written to `to`.
+fn tell_positions<W: Write>(
     body: Body,
     order: &[u8],
     summaries: &[u32],
     out: &mut [u8],
     at: usize,
-    to: i32,
-) -> usize
+    to: &mut W,
+) -> io::Result<usize>
     requires { IsPrefixLen at out.old × (longest_line ≤ length out.old) × Lent body order.now summaries.now }
-    ensures { IsPrefixLen result out.new }
+    ensures { ReadsAtMost result out.new }
 {
     let last = body.repeats as usize * body.n as usize;
     let mut end = at;
     let mut next = 0;
     while next < last {
-        let start = line_at(&*out, end, to);
+        let start = line_at(&*out, end, to)?;
         let told = put_lines(&mut *out, start, body, order, summaries, next);
         end = told.at;
         next = told.next;
     }
-    end
+    Ok(end)
 }
 
-// The text of an image done `repeats` times by a policy, any numbers: those out of their range are refused as planning does. What has no room in `out` is written to the
-// descriptor `to`; the answer is how much of `out` is still to be written.
-pub fn plan_text(image: &[u8], repeats: u32, policy: u32, out: &mut [u8], to: i32) -> usize
+// The text of an image done `repeats` times by a policy, any numbers: those out of their range are refused as planning does. What has no room in
+// `out` is written to `to`; the answer is how much of `out` is still to be written.
+pub fn plan_text<W: Write>(
+    image: &[u8],
+    repeats: u32,
+    policy: u32,
+    out: &mut [u8],
+    to: &mut W,
+) -> io::Result<usize>
     requires { longest_line ≤ length out.old }
-    ensures { IsPrefixLen result out.new }
+    ensures { ReadsAtMost result out.new }
 {
     let mut order = [0u8; 64];
     let mut summaries = [0u32; 2048];
@@ -190,9 +203,8 @@ pub fn plan_text(image: &[u8], repeats: u32, policy: u32, out: &mut [u8], to: i3
         &mut *out,
     );
     let planned = begun.planned;
-    let refusal = planned.refusal;
-    if refusal.number != 0 {
-        return begun.at;
+    if planned.refusal.number != 0 {
+        return Ok(begun.at);
     }
     tell_positions(planned.body, &order, &summaries, out, begun.at, to)
 }
