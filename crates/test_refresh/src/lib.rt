@@ -4,24 +4,25 @@
 
 ghost use Rattle.std.specs.Prelude.{◌≡◌, length};
 
+use std::io;
 use test_kit::part;
 
-pub fn tell(line: &[u8]) {
-    io::write_all(1, line);
+pub fn tell<R: Print>(rt: &R, line: &[u8]) -> io::Result<()> {
+    rt.write_all(line)?;
     if test_kit::first(line) != b'#' {
-        tell_refresh(line);
+        tell_refresh(rt, line)?;
     }
-    io::write_all(1, b"\n");
+    rt.write_all(b"\n")
 }
 
 // A profile, the bytes of room, the bytes of the trace, and its records, which are said again and again to its end.
-fn tell_refresh(line: &[u8]) {
+fn tell_refresh<R: Print>(rt: &R, line: &[u8]) -> io::Result<()> {
     let mut image = [0u8; 78];
     let n = test_kit::sample(line, &mut image);
     let row = test_kit::numbers(line);
     let trace = trace_of(row);
     let bytes = part(row[1], 400_000);
-    refreshed(&image[..n], &trace[0..bytes], row[0]);
+    refreshed(rt, &image[..n], &trace[0..bytes], row[0])
 }
 
 // ---- the trace
@@ -60,49 +61,54 @@ fn fill(trace: &mut [u8], row: [u32; 24]) {
 // ---- what came of it
 
 // A slice of 80 bytes, of which some are lent.
-fn refreshed(image: &[u8], trace: &[u8], room: u32) {
+fn refreshed<R: Print>(rt: &R, image: &[u8], trace: &[u8], room: u32) -> io::Result<()> {
     let mut out = [0xa5u8; 80];
     let lent = part(room, 80);
     let answer = refresh::refresh(image, trace, &mut out[0..lent]);
-    test_kit::say_fault(b": refusal ", answer.refusal);
-    say_written(image, out, answer.bytes);
+    test_kit::say_fault(rt, b": refusal ", answer.refusal)?;
+    say_written(rt, image, out, answer.bytes)
 }
 
-fn say_written(image: &[u8], out: [u8; 80], bytes: usize) {
-    test_kit::say_count(b", bytes ", bytes);
+fn say_written<R: Print>(rt: &R, image: &[u8], out: [u8; 80], bytes: usize) -> io::Result<()> {
+    test_kit::say_count(rt, b", bytes ", bytes)?;
     if bytes <= 80 {
         if 0 < bytes {
-            say_averages(image, &out[0..bytes]);
+            say_averages(rt, image, &out[0..bytes])?;
         }
-        say_tail(&out[bytes..80]);
+        say_tail(rt, &out[bytes..80])?;
     }
+    Ok(())
 }
 
 // Behind the new image, and all over with a refusal, the slice is as it was handed over.
-fn say_tail(tail: &[u8]) {
+fn say_tail<R: Print>(rt: &R, tail: &[u8]) -> io::Result<()> {
     let blank = [0xa5u8; 80];
     let n = tail.len();
     if n <= 80 {
         test_kit::say_whether(
+            rt,
             check::same(tail, &blank[0..n]),
             b", tail kept",
             b", tail CHANGED",
-        );
+        )?;
     }
+    Ok(())
 }
 
 // The averages of the new image, and whether the old image comes back when they are replaced by the old ones.
-fn say_averages(image: &[u8], new: &[u8]) {
-    test_kit::say(b", averages _ _, _ _, _ _", &averages_of(new));
+fn say_averages<R: Print>(rt: &R, image: &[u8], new: &[u8]) -> io::Result<()> {
+    test_kit::say(rt, b", averages _ _, _ _, _ _", &averages_of(new))?;
     let back = with_averages(new, &averages_of(image));
     let n = image.len();
     if n <= 78 {
         test_kit::say_whether(
+            rt,
             check::same(image, &back[0..n]),
             b", rest kept",
             b", rest CHANGED",
-        );
+        )?;
     }
+    Ok(())
 }
 
 // Up to six, 0 for those that it has not.
