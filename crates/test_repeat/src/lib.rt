@@ -5,40 +5,41 @@
 use repeat_limits::Limited;
 use repeat_planner::BodyPlanned;
 use rules::Body;
+use std::io;
 use test_kit::{count, part, say, say_fault, say_number};
 
 // What begins with `limit` or `bound` asks for one; any other case begins with the name of its profile, and is planned.
-pub fn tell(line: &[u8]) {
-    io::write_all(1, line);
+pub fn tell<R: Print>(rt: &R, line: &[u8]) -> io::Result<()> {
+    rt.write_all(line)?;
     match test_kit::first(line) {
         b'#' => {}
-        b'l' => tell_limit(test_kit::numbers(line)),
-        b'b' => tell_bound(test_kit::numbers(line)),
-        b'D' => tell_due(test_kit::numbers(line)),
-        _ => tell_plan(line),
+        b'l' => tell_limit(rt, test_kit::numbers(line))?,
+        b'b' => tell_bound(rt, test_kit::numbers(line))?,
+        b'D' => tell_due(rt, test_kit::numbers(line))?,
+        _ => tell_plan(rt, line)?,
     }
-    io::write_all(1, b"\n");
+    rt.write_all(b"\n")
 }
 
 // ---- planned
 
 // A profile, N, how much there is of order, summaries and worst times, and the year.
-fn tell_plan(line: &[u8]) {
+fn tell_plan<R: Print>(rt: &R, line: &[u8]) -> io::Result<()> {
     let mut image = [0u8; 78];
     let n = test_kit::sample(line, &mut image);
     let row = test_kit::numbers(line);
-    plan(&image[..n], row, test_kit::year(row[4]));
+    plan(rt, &image[..n], row, test_kit::year(row[4]))
 }
 
 // Due: Three, but action 1 has a deadline of its own. It is the last number of the case, up to 63.
-fn tell_due(row: [u32; 24]) {
+fn tell_due<R: Print>(rt: &R, row: [u32; 24]) -> io::Result<()> {
     let mut image = test_kit::samples::three();
     image[41] = (row[4] % 64 * 4) as u8;
-    plan(&image, row, rules::POLICY_2008);
+    plan(rt, &image, row, rules::POLICY_2008)
 }
 
 // Each table is one longer than Three needs, and full of nines.
-fn plan(image: &[u8], row: [u32; 24], policy: u32) {
+fn plan<R: Print>(rt: &R, image: &[u8], row: [u32; 24], policy: u32) -> io::Result<()> {
     let mut order = [9u8; 4];
     let mut summaries = [9u32; 25];
     let mut worst = [9u32; 7];
@@ -53,16 +54,22 @@ fn plan(image: &[u8], row: [u32; 24], policy: u32) {
         &mut summaries[0..b],
         &mut worst[0..c],
     );
-    say_planned(planned);
-    say_tables(&order, &summaries, &worst);
+    say_planned(rt, planned)?;
+    say_tables(rt, &order, &summaries, &worst)
 }
 
 fn wide(b: u8) -> u32 {
     b as u32
 }
 
-fn say_tables(order: &[u8; 4], summaries: &[u32; 25], worst: &[u32; 7]) {
+fn say_tables<R: Print>(
+    rt: &R,
+    order: &[u8; 4],
+    summaries: &[u32; 25],
+    worst: &[u32; 7],
+) -> io::Result<()> {
     say(
+        rt,
         b", order _ _ _ _",
         &[
             wide(order[0]),
@@ -70,21 +77,23 @@ fn say_tables(order: &[u8; 4], summaries: &[u32; 25], worst: &[u32; 7]) {
             wide(order[2]),
             wide(order[3]),
         ],
-    );
+    )?;
     say(
+        rt,
         b", summaries _ _ _ _ _ _ _ _ _ _ _ _ _ _ _ _ _ _ _ _ _ _ _ _ _",
         summaries,
-    );
-    say(b", worst _ _ _ _ _ _ _", worst);
+    )?;
+    say(rt, b", worst _ _ _ _ _ _ _", worst)
 }
 
-fn say_planned(planned: BodyPlanned) {
+fn say_planned<R: Print>(rt: &R, planned: BodyPlanned) -> io::Result<()> {
     let body = planned.body;
-    say_fault(b": refusal ", planned.refusal);
+    say_fault(rt, b": refusal ", planned.refusal)?;
     say(
+        rt,
         b", n _, levels _, cycle _, repeats _, policy _",
         &[body.n, body.levels, body.cycle, body.repeats, body.policy],
-    );
+    )
 }
 
 // ---- limits and coast bounds
@@ -107,43 +116,49 @@ fn body_of(row: [u32; 24], policy: u32) -> Body {
 }
 
 // n, levels, cycle and N, how much there is of the summaries, position and level, and the year.
-fn tell_limit(row: [u32; 24]) {
+fn tell_limit<R: Print>(rt: &R, row: [u32; 24]) -> io::Result<()> {
     let mut summaries = [0u32; 24];
     let mut worst = [0u32; 6];
     let policy = test_kit::year(row[7]);
     plan_three(policy, &mut summaries, &mut worst);
     let a = part(row[4], 24);
-    say_limited(repeat_limits::limit(
-        body_of(row, policy),
-        &summaries[0..a],
-        count(row[5]),
-        count(row[6]),
-    ));
+    say_limited(
+        rt,
+        repeat_limits::limit(
+            body_of(row, policy),
+            &summaries[0..a],
+            count(row[5]),
+            count(row[6]),
+        ),
+    )
 }
 
 // n, levels, cycle and N, how much there is of the summaries and the worst times, position, level and length, and the year.
-fn tell_bound(row: [u32; 24]) {
+fn tell_bound<R: Print>(rt: &R, row: [u32; 24]) -> io::Result<()> {
     let mut summaries = [0u32; 24];
     let mut worst = [0u32; 6];
     let policy = test_kit::year(row[9]);
     plan_three(policy, &mut summaries, &mut worst);
     let a = part(row[4], 24);
     let b = part(row[5], 6);
-    say_limited(repeat_limits::bound(
-        body_of(row, policy),
-        &summaries[0..a],
-        &worst[0..b],
-        count(row[6]),
-        count(row[7]),
-        count(row[8]),
-    ));
+    say_limited(
+        rt,
+        repeat_limits::bound(
+            body_of(row, policy),
+            &summaries[0..a],
+            &worst[0..b],
+            count(row[6]),
+            count(row[7]),
+            count(row[8]),
+        ),
+    )
 }
 
-fn say_limited(limited: Limited) {
+fn say_limited<R: Print>(rt: &R, limited: Limited) -> io::Result<()> {
     let refusal = limited.refusal;
-    say_number(b": refusal ", refusal.number);
+    say_number(rt, b": refusal ", refusal.number)?;
     let mut digits = [0u8; 32];
     let k = text::put_signed_long(&mut digits, 0, limited.limit);
-    io::write_all(1, b", limit ");
-    io::write_all(1, &digits[..k]);
+    rt.write_all(b", limit ")?;
+    rt.write_all(&digits[..k])
 }
