@@ -4,54 +4,68 @@
 
 use print::put_reading;
 use speed_stretch::Reading;
+use std::io;
 use test_kit::count;
 
-pub fn tell(line: &[u8]) {
-    io::write_all(1, line);
+pub fn tell<R: Print>(rt: &R, line: &[u8]) -> io::Result<()> {
+    rt.write_all(line)?;
     if test_kit::first(line) != b'#' {
-        tell_reading(line);
+        tell_reading(rt, line)?;
     }
-    io::write_all(1, b"\n");
+    rt.write_all(b"\n")
 }
 
 // A profile, the first position, the last, the level and the time.
-fn tell_reading(line: &[u8]) {
+fn tell_reading<R: Print>(rt: &R, line: &[u8]) -> io::Result<()> {
     let mut image = [0u8; 78];
     let bytes = test_kit::sample(line, &mut image);
     let row = test_kit::numbers(line);
     say_at(
+        rt,
         &image[..bytes],
         count(row[0]),
         count(row[1]),
         count(row[2]),
         row[3],
-    );
+    )
 }
 
 // The reading, and whether its ratio is at most 1.
-fn say_at(image: &[u8], first: usize, last: usize, level: usize, t: u32) {
-    say_reading(speed::speed_reading(image, first, last, level, t));
+fn say_at<R: Print>(
+    rt: &R,
+    image: &[u8],
+    first: usize,
+    last: usize,
+    level: usize,
+    t: u32,
+) -> io::Result<()> {
+    say_reading(rt, speed::speed_reading(image, first, last, level, t))?;
     let on_time = speed::on_time(image, first, last, level, t);
-    test_kit::say_whether(on_time, b", on time", b", not on time");
+    test_kit::say_whether(rt, on_time, b", on time", b", not on time")
 }
 
-fn say_reading(reading: Reading) {
+fn say_reading<R: Print>(rt: &R, reading: Reading) -> io::Result<()> {
+    let ratio = match &reading {
+        Reading::Ratio(x) => Some(*x),
+        _ => None,
+    };
     let mut text = [0u8; 32];
     let k = put_reading(&mut text, reading);
-    io::write_all(1, b": ");
-    io::write_all(1, &text[0..k]);
-    if let Reading::Ratio(x) = reading {
-        say_ratio(thousandths(x));
+    rt.write_all(b": ")?;
+    rt.write_all(&text[0..k])?;
+    if let Some(x) = ratio {
+        say_ratio(rt, thousandths(x))?;
     }
+    Ok(())
 }
 
-fn say_ratio(value: u64) {
-    io::write_all(1, b", about ");
-    io::print_decimal(1, value / 1000);
-    io::write_all(1, b".");
-    io::print_decimal(1, value / 100 % 10);
-    io::print_decimal(1, value / 10 % 10);
-    io::print_decimal(1, value % 10);
+fn say_ratio<R: Print>(rt: &R, value: u64) -> io::Result<()> {
+    rt.write_all(b", about ")?;
+    print!(rt; "{}", value / 1000)?;
+    rt.write_all(b".")?;
+    print!(rt; "{}", value / 100 % 10)?;
+    print!(rt; "{}", value / 10 % 10)?;
+    print!(rt; "{}", value % 10)
 }
 
 // A ratio in thousandths, rounded down.
