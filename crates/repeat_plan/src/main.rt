@@ -3,18 +3,25 @@
 // the range of N.
 #![tactic(auto)]
 
-fn main() {
-    let chosen = arguments::year(2);
+use std::io;
+
+fn main(rt: HostRuntime) -> io::Result<()> {
+    let chosen = arguments::year(&rt, 2);
     if !chosen.understood {
-        arguments::usage(b"usage: repeat_plan N [YEAR]\n");
-        return;
+        return arguments::usage(&rt, "usage: repeat_plan N [YEAR]\n");
     }
     let mut word = [0u8; 64];
-    let k = os::arg(1, &mut word);
+    let k = arguments::word(&rt, 1, &mut word);
     let repeats = text::words::whole_number(&word[..k]);
-    let mut image = io::buffer();
-    let n = io::read_full(0, &mut image);
-    let mut out = io::large_buffer();
-    let end = repeat_text::plan_text(&image[..n], repeats, chosen.policy, &mut out, 1);
-    io::write_all(1, &out[..end]);
+    let mut image = files::buffer();
+    let n = files::read_full(&mut rt.stdin(), &mut image)?;
+    let mut out = files::large_buffer();
+    let end = repeat_text::plan_text(
+        &image[..n],
+        repeats,
+        chosen.policy,
+        &mut out,
+        &mut rt.stdout(),
+    )?;
+    rt.write_all(&out[..end])
 }
