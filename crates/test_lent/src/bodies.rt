@@ -4,9 +4,10 @@ use crate::{end_line, part, say, say_given, through};
 use nyokazerubi::runs;
 use repeat_run::BodyRun;
 use rules::Body;
+use std::io;
 use text::words;
 
-pub fn tell_all(text: &[u8]) {
+pub fn tell_all<R: Print>(rt: &R, text: &[u8]) -> io::Result<()> {
     let image = test_kit::samples::three();
     let mut order = [0u8; 3];
     let mut summaries = [0u32; 24];
@@ -19,17 +20,24 @@ pub fn tell_all(text: &[u8]) {
         &mut summaries,
         &mut worst,
     );
-    tell_each(text, order, &summaries, worst);
+    tell_each(rt, text, order, &summaries, worst)
 }
 
-fn tell_each(text: &[u8], order: [u8; 3], summaries: &[u32], worst: [u32; 6]) {
+fn tell_each<R: Print>(
+    rt: &R,
+    text: &[u8],
+    order: [u8; 3],
+    summaries: &[u32],
+    worst: [u32; 6],
+) -> io::Result<()> {
     let mut run = BodyRun::start(of_three(0, 0, rules::POLICY_2008)).run;
     let mut at = 0;
     while at < text.len() {
         let end = words::find(text, at, b'\n');
-        run = tell(run, &text[at..end], order, summaries, worst);
+        run = tell(rt, run, &text[at..end], order, summaries, worst)?;
         at = end + 1;
     }
+    Ok(())
 }
 
 fn of_three(n: u32, repeats: u32, policy: u32) -> Body {
@@ -42,69 +50,96 @@ fn of_three(n: u32, repeats: u32, policy: u32) -> Body {
     }
 }
 
-fn tell(run: BodyRun, line: &[u8], order: [u8; 3], summaries: &[u32], worst: [u32; 6]) -> BodyRun {
+fn tell<R: Print>(
+    rt: &R,
+    run: BodyRun,
+    line: &[u8],
+    order: [u8; 3],
+    summaries: &[u32],
+    worst: [u32; 6],
+) -> io::Result<BodyRun> {
     if line.len() == 0 {
-        return run;
+        return Ok(run);
     }
     let a = words::number(line, 1);
     let b = words::number(line, 2);
-    io::write_all(1, line);
-    io::write_all(1, b":");
+    rt.write_all(line)?;
+    rt.write_all(b":")?;
     match line[0] {
-        b's' => start(run, of_three(a, b, test_kit::year(words::number(line, 3)))),
-        b'a' => ask(run, a, order, summaries, &worst),
-        _ => report(run, a, b, worst),
+        b's' => start(
+            rt,
+            run,
+            of_three(a, b, test_kit::year(words::number(line, 3))),
+        ),
+        b'a' => ask(rt, run, a, order, summaries, &worst),
+        _ => report(rt, run, a, b, worst),
     }
 }
 
 // ---- each call over the lent record and by value
 
-fn start(run: BodyRun, body: Body) -> BodyRun {
+fn start<R: Print>(rt: &R, run: BodyRun, body: Body) -> io::Result<BodyRun> {
     let numbers = [body.n, body.levels, body.cycle, body.repeats, body.policy];
     let lent = through::body_started(run, &numbers);
     let value = BodyRun::start(body);
-    say(lent.refusal.number);
+    say(rt, lent.refusal.number)?;
     tell_record(
+        rt,
         lent.refusal.number == value.refusal.number,
         lent.run,
         value.run,
-    );
-    lent.run
+    )?;
+    Ok(lent.run)
 }
 
-fn ask(run: BodyRun, much: u32, order: [u8; 3], summaries: &[u32], worst: &[u32]) -> BodyRun {
+fn ask<R: Print>(
+    rt: &R,
+    run: BodyRun,
+    much: u32,
+    order: [u8; 3],
+    summaries: &[u32],
+    worst: &[u32],
+) -> io::Result<BodyRun> {
     let k = part(much, 3);
     let lent = through::body_asked(run, &order[0..k], summaries, worst);
     let value = run.ask(&order[0..k], summaries, worst);
     let answer = value.answer;
-    let alike = say_given(lent.given, runs::flat(answer));
-    tell_record(alike, lent.run, value.run);
-    lent.run
+    let alike = say_given(rt, lent.given, runs::flat(answer))?;
+    tell_record(rt, alike, lent.run, value.run)?;
+    Ok(lent.run)
 }
 
-fn report(run: BodyRun, clock: u32, much: u32, worst: [u32; 6]) -> BodyRun {
+fn report<R: Print>(
+    rt: &R,
+    run: BodyRun,
+    clock: u32,
+    much: u32,
+    worst: [u32; 6],
+) -> io::Result<BodyRun> {
     let k = part(much, 6);
     let lent = through::body_reported(run, clock, &worst[0..k]);
     let value = run.report(clock, &worst[0..k]);
-    say(lent.refusal.number);
+    say(rt, lent.refusal.number)?;
     tell_record(
+        rt,
         lent.refusal.number == value.refusal.number,
         lent.run,
         value.run,
-    );
-    lent.run
+    )?;
+    Ok(lent.run)
 }
 
 // ---- what is printed
 
-fn tell_record(alike: bool, lent: BodyRun, value: BodyRun) {
+fn tell_record<R: Print>(rt: &R, alike: bool, lent: BodyRun, value: BodyRun) -> io::Result<()> {
     end_line(
+        rt,
         alike & same(lent, value),
         lent.position,
         lent.clock,
         lent.running,
         lent.decisions,
-    );
+    )
 }
 
 fn same(a: BodyRun, b: BodyRun) -> bool {

@@ -9,12 +9,13 @@ ghost use Rattle.std.specs.Prelude.{◌≤◌};
 use nyokazerubi::runs;
 use nyokazerubi::runs::Given;
 use run::Run;
+use std::io;
 use text::words;
 
 mod bodies;
 mod through;
 
-fn main() {
+fn main(rt: HostRuntime) -> io::Result<()> {
     let image = test_kit::samples::three();
     let mut order = [0u8; 3];
     let mut limits = [0i32; 6];
@@ -28,43 +29,52 @@ fn main() {
         &mut worst,
         &mut bounds,
     );
-    let mut text = io::large_buffer();
-    let n = files::read_file(b"cases.txt", &mut text);
-    tell_each(&text[..n], order, &limits, worst, &bounds);
-    let m = files::read_file(b"bodies.txt", &mut text);
-    bodies::tell_all(&text[..m]);
+    let mut text = files::large_buffer();
+    let n = files::read_file(&rt, b"cases.txt", &mut text)?;
+    tell_each(&rt, &text[..n], order, &limits, worst, &bounds)?;
+    let m = files::read_file(&rt, b"bodies.txt", &mut text)?;
+    bodies::tell_all(&rt, &text[..m])
 }
 
-fn tell_each(text: &[u8], order: [u8; 3], limits: &[i32], worst: [u32; 6], bounds: &[i32]) {
+fn tell_each<R: Print>(
+    rt: &R,
+    text: &[u8],
+    order: [u8; 3],
+    limits: &[i32],
+    worst: [u32; 6],
+    bounds: &[i32],
+) -> io::Result<()> {
     let mut run = Run::start(0, 0).run;
     let mut at = 0;
     while at < text.len() {
         let end = words::find(text, at, b'\n');
-        run = tell(run, &text[at..end], order, limits, worst, bounds);
+        run = tell(rt, run, &text[at..end], order, limits, worst, bounds)?;
         at = end + 1;
     }
+    Ok(())
 }
 
 // A case by the letter that it begins with.
-fn tell(
+fn tell<R: Print>(
+    rt: &R,
     run: Run,
     line: &[u8],
     order: [u8; 3],
     limits: &[i32],
     worst: [u32; 6],
     bounds: &[i32],
-) -> Run {
+) -> io::Result<Run> {
     if line.len() == 0 {
-        return run;
+        return Ok(run);
     }
     let a = words::number(line, 1);
     let b = words::number(line, 2);
-    io::write_all(1, line);
-    io::write_all(1, b":");
+    rt.write_all(line)?;
+    rt.write_all(b":")?;
     match line[0] {
-        b's' => start(run, a as usize, b as usize),
-        b'a' => ask(run, a, order, limits, bounds),
-        _ => report(run, a, b, worst),
+        b's' => start(rt, run, a as usize, b as usize),
+        b'a' => ask(rt, run, a, order, limits, bounds),
+        _ => report(rt, run, a, b, worst),
     }
 }
 
@@ -77,84 +87,104 @@ fn part(n: u32, most: usize) -> usize
 
 // ---- each call over the lent record and by value
 
-fn start(run: Run, n: usize, levels: usize) -> Run {
+fn start<R: Print>(rt: &R, run: Run, n: usize, levels: usize) -> io::Result<Run> {
     let lent = through::started(run, n, levels);
     let value = Run::start(n, levels);
-    say(lent.refusal.number);
+    say(rt, lent.refusal.number)?;
     tell_record(
+        rt,
         lent.refusal.number == value.refusal.number,
         lent.run,
         value.run,
-    );
-    lent.run
+    )?;
+    Ok(lent.run)
 }
 
-fn ask(run: Run, much: u32, order: [u8; 3], limits: &[i32], bounds: &[i32]) -> Run {
+fn ask<R: Print>(
+    rt: &R,
+    run: Run,
+    much: u32,
+    order: [u8; 3],
+    limits: &[i32],
+    bounds: &[i32],
+) -> io::Result<Run> {
     let k = part(much, 3);
     let lent = through::asked(run, &order[0..k], limits, bounds);
     let value = runs::ask_flat(run, &order[0..k], limits, bounds);
-    let alike = say_given(lent.given, value.given);
-    tell_record(alike, lent.run, value.run);
-    lent.run
+    let alike = say_given(rt, lent.given, value.given)?;
+    tell_record(rt, alike, lent.run, value.run)?;
+    Ok(lent.run)
 }
 
-fn report(run: Run, clock: u32, much: u32, worst: [u32; 6]) -> Run {
+fn report<R: Print>(rt: &R, run: Run, clock: u32, much: u32, worst: [u32; 6]) -> io::Result<Run> {
     let k = part(much, 6);
     let lent = through::reported(run, clock, &worst[0..k]);
     let value = run.report(clock, &worst[0..k]);
-    say(lent.refusal.number);
+    say(rt, lent.refusal.number)?;
     tell_record(
+        rt,
         lent.refusal.number == value.refusal.number,
         lent.run,
         value.run,
-    );
-    lent.run
+    )?;
+    Ok(lent.run)
 }
 
 // ---- what is printed
 
-fn say(x: u32) {
-    io::write_all(1, b" ");
-    io::print_decimal(1, x as u64);
+fn say<R: Print>(rt: &R, x: u32) -> io::Result<()> {
+    rt.write_all(b" ")?;
+    print!(rt; "{x}")
 }
 
 // What was given over the lent record; whether it is what was given by value.
-fn say_given(a: Given, b: Given) -> bool {
-    say(a.refusal.number);
-    say(a.action);
-    say(a.level);
-    say(a.decided as u32);
-    say(a.late as u32);
-    (a.refusal.number == b.refusal.number)
-        & (a.action == b.action)
-        & (a.level == b.level)
-        & (a.decided == b.decided)
-        & (a.late == b.late)
+fn say_given<R: Print>(rt: &R, a: Given, b: Given) -> io::Result<bool> {
+    say(rt, a.refusal.number)?;
+    say(rt, a.action)?;
+    say(rt, a.level)?;
+    say(rt, a.decided as u32)?;
+    say(rt, a.late as u32)?;
+    Ok(
+        (a.refusal.number == b.refusal.number)
+            & (a.action == b.action)
+            & (a.level == b.level)
+            & (a.decided == b.decided)
+            & (a.late == b.late),
+    )
 }
 
 // The end of a line: where the lent record stands, if the two answers and the two records are the same.
-fn end_line(alike: bool, position: u32, clock: u64, running: bool, decisions: u32) {
+fn end_line<R: Print>(
+    rt: &R,
+    alike: bool,
+    position: u32,
+    clock: u64,
+    running: bool,
+    decisions: u32,
+) -> io::Result<()> {
     if alike {
-        io::write_all(1, b" |");
-        say(position);
-        io::write_all(1, b" ");
-        io::print_decimal(1, clock);
-        say(running as u32);
-        say(decisions);
-        io::write_all(1, b"\n");
+        rt.write_all(b" |")?;
+        say(rt, position)?;
+        rt.write_all(b" ")?;
+        print!(rt; "{clock}")?;
+        say(rt, running as u32)?;
+        say(rt, decisions)?;
+        rt.write_all(b"\n")?;
     } else {
-        io::write_all(1, b" differs\n");
+        rt.write_all(b" differs\n")?;
     }
+    Ok(())
 }
 
-fn tell_record(alike: bool, lent: Run, value: Run) {
+fn tell_record<R: Print>(rt: &R, alike: bool, lent: Run, value: Run) -> io::Result<()> {
     end_line(
+        rt,
         alike & same(lent, value),
         lent.position,
         lent.clock as u64,
         lent.running,
         lent.decisions,
-    );
+    )
 }
 
 fn same(a: Run, b: Run) -> bool {
