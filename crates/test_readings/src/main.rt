@@ -4,12 +4,13 @@
 
 use files::read_file;
 use print::put_reading;
+use std::io;
 use test_kit::{sum_up, tell};
 use text::words;
 
 // Whether the reading that a line asks for is the one that it says.
 fn agrees(line: &[u8]) -> bool {
-    let mut image = io::buffer();
+    let mut image = files::buffer();
     let n = words::bytes(line, &mut image);
     let first = words::number(line, 1) as usize;
     let last = words::number(line, 2) as usize;
@@ -23,21 +24,21 @@ fn agrees(line: &[u8]) -> bool {
 }
 
 // How many lines agree of how many, counted from 1.
-fn compare(text: &[u8]) {
+fn compare<R: Print>(rt: &R, text: &[u8]) -> io::Result<()> {
     let mut at = 0;
     let mut line = 0;
     let mut agreed: u64 = 0;
     while at < text.len() {
         let end = words::find(text, at, b'\n');
         line += 1;
-        agreed += tell(agrees(&text[at..end]), b"line", line);
+        agreed += tell(rt, agrees(&text[at..end]), b"line", line)?;
         at = end + 1;
     }
-    sum_up(agreed, line, b" readings");
+    sum_up(rt, agreed, line, b" readings")
 }
 
-fn main() {
+fn main(rt: HostRuntime) -> io::Result<()> {
     let mut text = files::long_buffer();
-    let n = read_file(b"readings.txt", &mut text);
-    compare(&text[..n]);
+    let n = read_file(&rt, b"readings.txt", &mut text)?;
+    compare(&rt, &text[..n])
 }
