@@ -14,6 +14,8 @@ use check::same;
 use print_lines::{put_field, put_four};
 use repeat_frame::BodyFramed;
 use rules::Body;
+use std::io;
+use std::rt::Files;
 use test_kit::{read_case, sum_up, tell};
 
 const CASES: usize = 35;
@@ -59,14 +61,26 @@ fn lines_agree(want: &[u8], body: Body, order: &[u8], summaries: &[u32]) -> bool
 }
 
 // All that the program prints: the first line, then the others. It fits into a large buffer: what did not would stand on standard output.
-fn text_agrees(image: &[u8], repeats: u32, first: &[u8], others: &[u8]) -> bool {
-    let mut out = io::large_buffer();
-    let k = repeat_text::plan_text(image, repeats, rules::POLICY_2008, &mut out, 1);
+fn text_agrees<R: Print>(
+    rt: &R,
+    image: &[u8],
+    repeats: u32,
+    first: &[u8],
+    others: &[u8],
+) -> io::Result<bool> {
+    let mut out = files::large_buffer();
+    let k = repeat_text::plan_text(
+        image,
+        repeats,
+        rules::POLICY_2008,
+        &mut out,
+        &mut io::writer(rt),
+    )?;
     let begun = first.len();
     if k < begun {
-        return false;
+        return Ok(false);
     }
-    same(&out[0..begun], first) & same(&out[begun..k], others)
+    Ok(same(&out[0..begun], first) & same(&out[begun..k], others))
 }
 
 // ---- the coast bounds
@@ -93,10 +107,16 @@ fn bound_agrees(line: &[u8], body: Body, summaries: &[u32], worst: &[u32]) -> bo
     (answer.refusal.number == 0) & same(&out[..end], line)
 }
 
-fn bounds_agree(case: usize, body: Body, summaries: &[u32], worst: &[u32]) -> bool {
-    let mut text = io::large_buffer();
-    let n = read_case(case, b".bounds", &mut text);
-    each_bound_agrees(&text[..n], body, summaries, worst)
+fn bounds_agree<R: Files>(
+    rt: &R,
+    case: usize,
+    body: Body,
+    summaries: &[u32],
+    worst: &[u32],
+) -> io::Result<bool> {
+    let mut text = files::large_buffer();
+    let n = read_case(rt, case, b".bounds", &mut text)?;
+    Ok(each_bound_agrees(&text[..n], body, summaries, worst))
 }
 
 // Each of them; there is at least one.
@@ -171,9 +191,8 @@ fn dry_text(image: &[u8], repeats: u32, bytes: &[u8], out: &mut [u8]) -> usize
         &mut given,
         &mut marks,
     );
-    let refusal = framed.refusal;
-    if refusal.number != 0 {
-        return print_lines::put_fault(out, 0, refusal);
+    if framed.refusal.number != 0 {
+        return print_lines::put_fault(out, 0, framed.refusal);
     }
     let positions = framed.positions as usize;
     if repeats < 1 {
@@ -194,23 +213,24 @@ fn dry_text(image: &[u8], repeats: u32, bytes: &[u8], out: &mut [u8]) -> usize
 }
 
 // Where a frame is listed.
-fn dry_agrees(case: usize, image: &[u8], repeats: u32) -> bool {
-    let mut want = io::large_buffer();
-    let k = read_case(case, b".dry", &mut want);
+fn dry_agrees<R: Files>(rt: &R, case: usize, image: &[u8], repeats: u32) -> io::Result<bool> {
+    let mut want = files::large_buffer();
+    let k = read_case(rt, case, b".dry", &mut want)?;
     if k == 0 {
-        return true;
+        return Ok(true);
     }
-    let mut bytes = io::large_buffer();
-    let n = read_case(case, b".durations", &mut bytes);
-    let mut out = io::large_buffer();
+    let mut bytes = files::large_buffer();
+    let n = read_case(rt, case, b".durations", &mut bytes)?;
+    let mut out = files::large_buffer();
     let end = dry_text(image, repeats, &bytes[..n], &mut out);
-    same(&out[..end], &want[..k])
+    Ok(same(&out[..end], &want[..k]))
 }
 
 // ---- a case
 
 // An accepted body: the whole text where all positions are listed, and each line and bound that is.
-fn listed_agrees(
+fn listed_agrees<R: Files + Print>(
+    rt: &R,
     case: usize,
     image: &[u8],
     first: &[u8],
@@ -219,22 +239,30 @@ fn listed_agrees(
     order: &[u8],
     summaries: &[u32],
     worst: &[u32],
-) -> bool
+) -> io::Result<bool>
     requires { Lent body order.now summaries.now }
 {
     if positions(body) <= MOST_LISTED {
-        if !text_agrees(image, body.repeats, first, others) {
-            return false;
+        if !text_agrees(rt, image, body.repeats, first, others)? {
+            return Ok(false);
         }
     }
-    lines_agree(others, body, order, summaries) & bounds_agree(case, body, summaries, worst)
+    let lines = lines_agree(others, body, order, summaries);
+    Ok(lines & bounds_agree(rt, case, body, summaries, worst)?)
 }
 
-fn plan_agrees(case: usize, image: &[u8], repeats: u32, first: &[u8], others: &[u8]) -> bool {
+fn plan_agrees<R: Files + Print>(
+    rt: &R,
+    case: usize,
+    image: &[u8],
+    repeats: u32,
+    first: &[u8],
+    others: &[u8],
+) -> io::Result<bool> {
     let mut order = [0u8; 64];
     let mut summaries = [0u32; 2048];
     let mut worst = [0u32; 512];
-    let mut out = io::buffer();
+    let mut out = files::buffer();
     let begun = repeat_text::begin(
         image,
         repeats,
@@ -246,14 +274,15 @@ fn plan_agrees(case: usize, image: &[u8], repeats: u32, first: &[u8], others: &[
     );
     let at = begun.at;
     if !same(&out[..at], first) {
-        return false;
+        return Ok(false);
     }
     let planned = begun.planned;
     let refusal = planned.refusal;
     if refusal.number != 0 {
-        return same(first, others);
+        return Ok(same(first, others));
     }
     listed_agrees(
+        rt,
         case,
         image,
         first,
@@ -265,26 +294,28 @@ fn plan_agrees(case: usize, image: &[u8], repeats: u32, first: &[u8], others: &[
     )
 }
 
-fn agrees(case: usize) -> bool {
-    let mut image = io::buffer();
-    let n = read_case(case, b".body", &mut image);
+fn agrees<R: Files + Print>(rt: &R, case: usize) -> io::Result<bool> {
+    let mut image = files::buffer();
+    let n = read_case(rt, case, b".body", &mut image)?;
     let mut word = [0u8; 16];
-    let k = read_case(case, b".repeats", &mut word);
+    let k = read_case(rt, case, b".repeats", &mut word)?;
     let repeats = text::words::number(&word[..k], 0);
     let mut first = [0u8; 64];
-    let a = read_case(case, b".first", &mut first);
-    let mut others = io::large_buffer();
-    let b = read_case(case, b".limits", &mut others);
-    plan_agrees(case, &image[..n], repeats, &first[..a], &others[..b])
-        & dry_agrees(case, &image[..n], repeats)
+    let a = read_case(rt, case, b".first", &mut first)?;
+    let mut others = files::large_buffer();
+    let b = read_case(rt, case, b".limits", &mut others)?;
+    Ok(
+        plan_agrees(rt, case, &image[..n], repeats, &first[..a], &others[..b])?
+            & dry_agrees(rt, case, &image[..n], repeats)?,
+    )
 }
 
-fn main() {
+fn main(rt: HostRuntime) -> io::Result<()> {
     let mut agreed: u64 = 0;
     let mut case = 0;
     while case < CASES {
-        agreed += tell(agrees(case), b"body", case);
+        agreed += tell(&rt, agrees(&rt, case)?, b"body", case)?;
         case += 1;
     }
-    sum_up(agreed, CASES, b" bodies");
+    sum_up(&rt, agreed, CASES, b" bodies")
 }
