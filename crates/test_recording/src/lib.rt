@@ -5,30 +5,32 @@
 ghost use Rattle.std.specs.Prelude.{◌<◌, ◌≡◌, length};
 
 use recording::{Counted, Opened, Totals};
+use std::io;
+use std::rt::Files;
 use test_kit::{count, part, say, say_count, say_fault, say_number};
 
 // A recording to be opened begins with the name of its profile, a frame with `frame` or the file of an image; what begins with # is a heading.
-pub fn tell(line: &[u8]) {
-    io::write_all(1, line);
+pub fn tell<R: Files + Print>(rt: &R, line: &[u8]) -> io::Result<()> {
+    rt.write_all(line)?;
     match test_kit::first(line) {
         b'#' => {}
-        b'f' => tell_frame(test_kit::numbers(line)),
-        b't' => tell_twice(line),
-        _ => tell_open(line),
+        b'f' => tell_frame(rt, test_kit::numbers(line))?,
+        b't' => tell_twice(rt, line)?,
+        _ => tell_open(rt, line)?,
     }
-    io::write_all(1, b"\n");
+    rt.write_all(b"\n")
 }
 
 // ---- opened
 
 // A profile, the bytes of the recording, how much there is of order, limits, worst times and bounds, and the year.
-fn tell_open(line: &[u8]) {
+fn tell_open<R: Print>(rt: &R, line: &[u8]) -> io::Result<()> {
     let mut image = [0u8; 78];
     let n = test_kit::sample(line, &mut image);
-    open(&image[..n], test_kit::numbers(line));
+    open(rt, &image[..n], test_kit::numbers(line))
 }
 
-fn open(image: &[u8], row: [u32; 24]) {
+fn open<R: Print>(rt: &R, image: &[u8], row: [u32; 24]) -> io::Result<()> {
     let mut order = [9u8; 3];
     let mut limits = [9i32; 6];
     let mut worst = [9u32; 6];
@@ -46,8 +48,9 @@ fn open(image: &[u8], row: [u32; 24]) {
         &mut worst[0..c],
         &mut bounds[0..d],
     );
-    say_opened(opened);
+    say_opened(rt, opened)?;
     say(
+        rt,
         b", untouched _ _ _ _",
         &[
             (order[0] == 9) as u32,
@@ -55,21 +58,21 @@ fn open(image: &[u8], row: [u32; 24]) {
             (worst[0] == 9) as u32,
             (bounds[0] == 9) as u32,
         ],
-    );
+    )
 }
 
-fn say_opened(opened: Opened) {
-    say_fault(b": refusal ", opened.refusal);
-    say_count(b", n ", opened.n);
-    say_count(b", levels ", opened.levels);
-    say_count(b", a frame of ", opened.frame_bytes);
-    say_count(b", frames ", opened.frames);
+fn say_opened<R: Print>(rt: &R, opened: Opened) -> io::Result<()> {
+    say_fault(rt, b": refusal ", opened.refusal)?;
+    say_count(rt, b", n ", opened.n)?;
+    say_count(rt, b", levels ", opened.levels)?;
+    say_count(rt, b", a frame of ", opened.frame_bytes)?;
+    say_count(rt, b", frames ", opened.frames)
 }
 
 // ---- frames
 
 // The totals, n and levels, how much there is of limits, worst times and bounds, all of Three, the bytes of the frame, and its durations.
-fn tell_frame(row: [u32; 24]) {
+fn tell_frame<R: Print>(rt: &R, row: [u32; 24]) -> io::Result<()> {
     let totals = Totals {
         frames: row[0],
         decisions: row[1],
@@ -92,28 +95,39 @@ fn tell_frame(row: [u32; 24]) {
     let a = part(row[6], 6);
     let b = part(row[7], 6);
     let c = part(row[8], 96);
-    rehearse(totals, &limits[0..a], &worst[0..b], &bounds[0..c], row);
+    rehearse(rt, totals, &limits[0..a], &worst[0..b], &bounds[0..c], row)
 }
 
-fn rehearse(totals: Totals, limits: &[i32], worst: &[u32], bounds: &[i32], row: [u32; 24]) {
+fn rehearse<R: Print>(
+    rt: &R,
+    totals: Totals,
+    limits: &[i32],
+    worst: &[u32],
+    bounds: &[i32],
+    row: [u32; 24],
+) -> io::Result<()> {
     let frame = frame_of(row, 10, 1);
     let bytes = part(row[9], 256);
-    say_counted(recording::rehearse(
-        totals,
-        count(row[4]),
-        count(row[5]),
-        limits,
-        worst,
-        bounds,
-        &frame[0..bytes],
-    ));
+    say_counted(
+        rt,
+        recording::rehearse(
+            totals,
+            count(row[4]),
+            count(row[5]),
+            limits,
+            worst,
+            bounds,
+            &frame[0..bytes],
+        ),
+    )
 }
 
-fn say_counted(counted: Counted) {
+fn say_counted<R: Print>(rt: &R, counted: Counted) -> io::Result<()> {
     let line = counted.line;
     let totals = counted.totals;
-    say_number(b": refusal ", line.refusal.number);
+    say_number(rt, b": refusal ", line.refusal.number)?;
     say(
+        rt,
         b", line _ _ _ _ _",
         &[
             line.decisions,
@@ -122,8 +136,9 @@ fn say_counted(counted: Counted) {
             line.overrun as u32,
             line.late as u32,
         ],
-    );
+    )?;
     say(
+        rt,
         b", totals _ _ _ _",
         &[
             totals.frames,
@@ -131,19 +146,19 @@ fn say_counted(counted: Counted) {
             totals.overruns,
             totals.lates,
         ],
-    );
+    )
 }
 
 // The file of an image, and durations by position, the same at each level: that frame twice, one after the other.
-fn tell_twice(line: &[u8]) {
+fn tell_twice<R: Files + Print>(rt: &R, line: &[u8]) -> io::Result<()> {
     let name = text::words::find(line, 0, b' ');
-    let mut image = io::buffer();
-    let bytes = files::read_file(&line[0..name], &mut image);
-    open_and_tell(&image[..bytes], test_kit::numbers(line));
+    let mut image = files::buffer();
+    let bytes = files::read_file(rt, &line[0..name], &mut image)?;
+    open_and_tell(rt, &image[..bytes], test_kit::numbers(line))
 }
 
 // An empty recording opens the image as well as any.
-fn open_and_tell(image: &[u8], row: [u32; 24]) {
+fn open_and_tell<R: Print>(rt: &R, image: &[u8], row: [u32; 24]) -> io::Result<()> {
     let mut order = [0u8; 64];
     let mut limits = [0i32; 512];
     let mut worst = [0u32; 512];
@@ -167,8 +182,12 @@ fn open_and_tell(image: &[u8], row: [u32; 24]) {
     let n = opened.n;
     let levels = opened.levels;
     let once = recording::rehearse(none, n, levels, &limits, &worst, &bounds, &frame);
-    say_counted(once);
-    say_counted(recording::rehearse(once.totals, n, levels, &limits, &worst, &bounds, &frame));
+    let totals = once.totals;
+    say_counted(rt, once)?;
+    say_counted(
+        rt,
+        recording::rehearse(totals, n, levels, &limits, &worst, &bounds, &frame),
+    )
 }
 
 // A frame of 64 durations: those of a row from one of its numbers on, each as often as there are levels.
