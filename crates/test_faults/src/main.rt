@@ -5,10 +5,13 @@
 #![tactic(auto)]
 
 ghost use Rattle.std.specs.Prelude.{◌≤◌, ◌≡◌, length};
+ghost use Rattle.std.specs.Io.{ReadsAtMost};
 ghost use Rattle.io.specs.Counts.{IsPrefixLen};
 
 use check::same;
 use image_write::Written;
+use std::io;
+use std::rt::Files;
 use test_kit::{read_case, sum_up, tell};
 use text::words;
 
@@ -18,28 +21,28 @@ const WRITINGS: usize = 16;
 
 // ---- images
 
-fn plan_agrees(case: usize) -> bool {
-    let mut image = io::buffer();
-    let n = read_case(case, b".profile", &mut image);
-    let mut out = io::large_buffer();
+fn plan_agrees<R: Files>(rt: &R, case: usize) -> io::Result<bool> {
+    let mut image = files::buffer();
+    let n = read_case(rt, case, b".profile", &mut image)?;
+    let mut out = files::large_buffer();
     let k = print::plan_text(&image[..n], rules::POLICY_2008, &mut out);
-    let mut want = io::large_buffer();
-    let wanted = read_case(case, b".plan", &mut want);
-    same(&out[..k], &want[..wanted])
+    let mut want = files::large_buffer();
+    let wanted = read_case(rt, case, b".plan", &mut want)?;
+    Ok(same(&out[..k], &want[..wanted]))
 }
 
 // With no durations: a refused image is refused first.
-fn dry_run_agrees(case: usize) -> bool {
-    let mut want = io::large_buffer();
-    let wanted = read_case(case, b".plan", &mut want);
+fn dry_run_agrees<R: Files>(rt: &R, case: usize) -> io::Result<bool> {
+    let mut want = files::large_buffer();
+    let wanted = read_case(rt, case, b".plan", &mut want)?;
     if test_kit::first(&want[..wanted]) != b'r' {
-        return true;
+        return Ok(true);
     }
-    let mut image = io::buffer();
-    let n = read_case(case, b".profile", &mut image);
-    let mut out = io::large_buffer();
+    let mut image = files::buffer();
+    let n = read_case(rt, case, b".profile", &mut image)?;
+    let mut out = files::large_buffer();
     let k = print::dry_text(&image[..n], rules::POLICY_2008, b"", &mut out);
-    same(&out[..k], &want[..wanted])
+    Ok(same(&out[..k], &want[..wanted]))
 }
 
 // ---- tables as text
@@ -141,15 +144,15 @@ fn shorts_of(text: &[u8], k: usize) -> [u32; MOST_ENTRIES]
 const MOST_BYTES: usize = 1024;
 
 // How much of a writing's file there is at the start of `out`: `w`, the writing in two digits, then `what`.
-fn read_writing(writing: usize, what: &[u8], out: &mut [u8]) -> usize
-    ensures { IsPrefixLen result out.new }
+fn read_writing<R: Files>(rt: &R, writing: usize, what: &[u8], out: &mut [u8]) -> io::Result<usize>
+    ensures { ReadsAtMost result out.new }
 {
     let mut name = [0u8; 32];
     let start = text::put_bytes(&mut name, 0, b"w");
     let tens = text::put_digit(&mut name, start, writing / 10);
     let ones = text::put_digit(&mut name, tens, writing);
     let end = text::put_bytes(&mut name, ones, what);
-    files::read_file(&name[..end], out)
+    files::read_file(rt, &name[..end], out)
 }
 
 // What comes of writing the tables that the text says.
@@ -187,46 +190,47 @@ fn refused_line(answer: Written, out: &mut [u8]) -> usize
 }
 
 // The lent image and the wanted one start out alike, so that they stay alike only where writing keeps what it does not write.
-fn writing_agrees(writing: usize) -> bool {
-    let mut text = io::buffer();
-    let n = read_writing(writing, b".tables", &mut text);
+fn writing_agrees<R: Files>(rt: &R, writing: usize) -> io::Result<bool> {
+    let mut text = files::buffer();
+    let n = read_writing(rt, writing, b".tables", &mut text)?;
     let mut image = [0xa5u8; MOST_BYTES];
     let answer = written(&text[..n], &mut image);
     let mut want = [0xa5u8; MOST_BYTES];
-    let wanted = read_writing(writing, b".written", &mut want);
+    let wanted = read_writing(rt, writing, b".written", &mut want)?;
+    let bytes = answer.bytes;
     let mut line = [0u8; 64];
     let told = refused_line(answer, &mut line);
     let mut refused = [0u8; 64];
-    let said = read_writing(writing, b".refused", &mut refused);
-    (answer.bytes == wanted) & same(&image, &want) & same(&line[..told], &refused[..said])
+    let said = read_writing(rt, writing, b".refused", &mut refused)?;
+    Ok((bytes == wanted) & same(&image, &want) & same(&line[..told], &refused[..said]))
 }
 
 // ---- all of them
 
-fn tell_images() {
+fn tell_images<R: Files + Print>(rt: &R) -> io::Result<()> {
     let mut planned: u64 = 0;
     let mut dried: u64 = 0;
     let mut case = 0;
     while case < IMAGES {
-        planned += tell(plan_agrees(case), b"plan", case);
-        dried += tell(dry_run_agrees(case), b"dry run", case);
+        planned += tell(rt, plan_agrees(rt, case)?, b"plan", case)?;
+        dried += tell(rt, dry_run_agrees(rt, case)?, b"dry run", case)?;
         case += 1;
     }
-    sum_up(planned, IMAGES, b" plans");
-    sum_up(dried, IMAGES, b" dry runs");
+    sum_up(rt, planned, IMAGES, b" plans")?;
+    sum_up(rt, dried, IMAGES, b" dry runs")
 }
 
-fn tell_writings() {
+fn tell_writings<R: Files + Print>(rt: &R) -> io::Result<()> {
     let mut agreed: u64 = 0;
     let mut writing = 0;
     while writing < WRITINGS {
-        agreed += tell(writing_agrees(writing), b"writing", writing);
+        agreed += tell(rt, writing_agrees(rt, writing)?, b"writing", writing)?;
         writing += 1;
     }
-    sum_up(agreed, WRITINGS, b" writings");
+    sum_up(rt, agreed, WRITINGS, b" writings")
 }
 
-fn main() {
-    tell_images();
-    tell_writings();
+fn main(rt: HostRuntime) -> io::Result<()> {
+    tell_images(&rt)?;
+    tell_writings(&rt)
 }
