@@ -76,6 +76,6 @@ pub fn year<E: Env>(rt: &E, at: usize) -> Chosen {
 }
 
 // How the program is called, told on standard error where its arguments are not understood.
-pub fn usage<P: Eprint>(rt: &P, line: &str) -> io::Result<()> {
-    rt.eprint(line)
+pub fn usage<P: Print>(to: &P, line: &[u8]) -> io::Result<()> {
+    to.write_all(line)
 }

@@ -8,7 +8,7 @@ use std::io;
 fn main(rt: HostRuntime) -> io::Result<()> {
     let chosen = arguments::year(&rt, 1);
     if !chosen.understood {
-        return arguments::usage(&rt, "usage: dry_run [YEAR]\n");
+        return arguments::usage(&rt.stderr(), b"usage: dry_run [YEAR]\n");
     }
     let mut image = files::buffer();
     let n = read_file(&rt, b"profile", &mut image)?;

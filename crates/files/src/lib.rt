@@ -14,6 +14,7 @@ pub fn read_full<R: Read>(from: &mut R, out: &mut [u8]) -> io::Result<usize>
     ensures in_bounds { ReadsAtMost result out.new }
     ensures bytes { IfOk result (λ n. Consumes (R.remaining from.old) (R.remaining from.new) (take n out.new)) }
     ensures end { IfOk result (λ n. n < length out.new → IsAtEnd (R.remaining from.new)) }
+    ensures err { OnErr result (length out.new ≡ length out.old) }
 {
     let mut done = 0;
     while done < out.len() {
@@ -34,9 +35,10 @@ pub fn open<R: Files>(rt: &R, name: &[u8]) -> Option<R::File>
     fs::open(rt, path).ok()
 }
 
-// How much of the file there is at the start of `out`; an absent file is empty.
+// How much of the file there is at the start of `out`; an absent file is empty. Where reading fails, `out` has any bytes at its length.
 pub fn read_file<R: Files>(rt: &R, name: &[u8], out: &mut [u8]) -> io::Result<usize>
-    ensures { ReadsAtMost result out.new }
+    ensures in_bounds { ReadsAtMost result out.new }
+    ensures err { OnErr result (length out.new ≡ length out.old) }
 {
     match open(rt, name) {
         Some(mut file) => read_full(&mut file, out),

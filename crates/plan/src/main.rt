@@ -7,7 +7,7 @@ use std::io;
 fn main(rt: HostRuntime) -> io::Result<()> {
     let chosen = arguments::year(&rt, 1);
     if !chosen.understood {
-        return arguments::usage(&rt, "usage: plan [YEAR]\n");
+        return arguments::usage(&rt.stderr(), b"usage: plan [YEAR]\n");
     }
     let mut image = files::buffer();
     let n = files::read_full(&mut rt.stdin(), &mut image)?;

@@ -2,7 +2,7 @@
 // the lent buffer is full, so that nothing grows with the recording.
 #![tactic(auto)]
 
-ghost use Rattle.std.specs.Prelude.{◌≤◌, length};
+ghost use Rattle.std.specs.Prelude.{◌≤◌, length, OnErr, ◌≡◌};
 ghost use Rattle.std.specs.Io.{ReadsAtMost};
 ghost use Rattle.io.specs.Counts.{IsPrefixLen};
 
@@ -28,7 +28,8 @@ fn line_at<W: Write>(out: &[u8], at: usize, to: &mut W) -> io::Result<usize>
 
 // How much of a recording there is at the start of `out`; an absent one is empty.
 fn read_from<S: Read>(recording: &mut Option<S>, out: &mut [u8]) -> io::Result<usize>
-    ensures { ReadsAtMost result out.new }
+    ensures in_bounds { ReadsAtMost result out.new }
+    ensures err { OnErr result (length out.new ≡ length out.old) }
 {
     match recording {
         Some(recording) => files::read_full(recording, out),
@@ -82,7 +83,8 @@ fn rehearse_frames<S: Read, W: Write>(
     to: &mut W,
 ) -> io::Result<usize>
     requires { opened.now.frame_bytes ≤ 2048 }
-    ensures { ReadsAtMost result out.new }
+    ensures in_bounds { ReadsAtMost result out.new }
+    ensures err { OnErr result (length out.new ≡ length out.old) }
 {
     // room for a frame of the greatest profile: 64 actions at 8 levels, four bytes each
     let mut frame = [0u8; 2048];
@@ -109,7 +111,8 @@ pub fn rehearse<S: Read + Seek, W: Write>(
     out: &mut [u8],
     to: &mut W,
 ) -> io::Result<usize>
-    ensures { ReadsAtMost result out.new }
+    ensures in_bounds { ReadsAtMost result out.new }
+    ensures err { OnErr result (length out.new ≡ length out.old) }
 {
     let mut order = [0u8; 64];
     let mut limits = [0i32; 512];

@@ -8,7 +8,7 @@ use std::io;
 fn main(rt: HostRuntime) -> io::Result<()> {
     let chosen = arguments::year(&rt, 2);
     if !chosen.understood {
-        return arguments::usage(&rt, "usage: repeat_plan N [YEAR]\n");
+        return arguments::usage(&rt.stderr(), b"usage: repeat_plan N [YEAR]\n");
     }
     let mut word = [0u8; 64];
     let k = arguments::word(&rt, 1, &mut word);

@@ -15,7 +15,7 @@ use repeat_limits::{body_refusal, known_refusal, spot_of};
 use rules::{Body, Refusal};
 use run::Answer;
 
-// The fields and their ranges are `body-in-range` of the rules. The position and the decisions are those of the unrolled system. The clock has 64
+// The fields and their ranges are `body_in_range` of the rules. The position and the decisions are those of the unrolled system. The clock has 64
 // bits for a dry run, which goes on past the latest clock; between calls it is within it. No byte is left unused between the fields, so that a call
 // copies the record without gaps. What an asking and a report store by turns, position, coast left and whether an action runs, has neighbours that
 // are stored apart: fields that a call only hands on are read together, and that would wait for one stored alone a moment ago.

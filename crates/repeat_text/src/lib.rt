@@ -2,7 +2,7 @@
 // no room for a line, so that nothing grows with the repeats.
 #![tactic(auto)]
 
-ghost use Rattle.std.specs.Prelude.{◌≡◌, ◌+◌, ◌≤◌, ◌<◌, [], ◌∷◌, length, IfOk};
+ghost use Rattle.std.specs.Prelude.{◌≡◌, ◌+◌, ◌≤◌, ◌<◌, [], ◌∷◌, length, IfOk, OnErr};
 ghost use Rattle.std.specs.Io.{ReadsAtMost};
 ghost use Rattle.io.specs.Counts.{IsPrefixLen};
 ghost use Rattle.rules.specs.Numbers.{most_positions};
@@ -163,7 +163,8 @@ fn tell_positions<W: Write>(
     to: &mut W,
 ) -> io::Result<usize>
     requires { IsPrefixLen at out.old × (longest_line ≤ length out.old) × Lent body order.now summaries.now }
-    ensures { ReadsAtMost result out.new }
+    ensures in_bounds { ReadsAtMost result out.new }
+    ensures err { OnErr result (length out.new ≡ length out.old) }
 {
     let last = body.repeats as usize * body.n as usize;
     let mut end = at;
@@ -187,7 +188,8 @@ pub fn plan_text<W: Write>(
     to: &mut W,
 ) -> io::Result<usize>
     requires { longest_line ≤ length out.old }
-    ensures { ReadsAtMost result out.new }
+    ensures in_bounds { ReadsAtMost result out.new }
+    ensures err { OnErr result (length out.new ≡ length out.old) }
 {
     let mut order = [0u8; 64];
     let mut summaries = [0u32; 2048];

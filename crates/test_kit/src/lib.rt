@@ -3,7 +3,7 @@
 // writes promises only that it ends: what a program wrote is compared with its file `stdout`.
 #![tactic(auto)]
 
-ghost use Rattle.std.specs.Prelude.{ℕ, ◌+◌, ◌≤◌, ◌<◌, min, ◌≡◌, cond, eqb, length, get_or, IfOk};
+ghost use Rattle.std.specs.Prelude.{ℕ, ◌+◌, ◌≤◌, ◌<◌, min, ◌≡◌, cond, eqb, length, get_or, IfOk, OnErr};
 ghost use Rattle.std.specs.Io.{ReadsAtMost};
 ghost use Rattle.io.specs.Counts.{IsPrefixLen};
 ghost use Rattle.rules.specs.Numbers.{policy_2008};
@@ -30,7 +30,8 @@ pub fn case_name(case: usize, what: &[u8], out: &mut [u8]) -> usize
 
 // How much of that file there is at the start of `out`.
 pub fn read_case<R: Files>(rt: &R, case: usize, what: &[u8], out: &mut [u8]) -> io::Result<usize>
-    ensures { ReadsAtMost result out.new }
+    ensures in_bounds { ReadsAtMost result out.new }
+    ensures err { OnErr result (length out.new ≡ length out.old) }
 {
     let mut name = [0u8; 32];
     let end = case_name(case, what, &mut name);

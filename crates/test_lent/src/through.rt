@@ -21,7 +21,7 @@ pub fn started(run: Run, n: usize, levels: usize) -> Started
 
 pub fn asked(run: Run, order: &[u8], limits: &[i32], bounds: &[i32]) -> Asked
     ensures { Asks (ask
-        (record { order = order.entry.now; limits = limits.now; worst = []; bounds = bounds.now }) (run_of run)) (run_of result.run) result.given }
+        (record { order = order.now; limits = limits.now; worst = []; bounds = bounds.now }) (run_of run)) (run_of result.run) result.given }
 {
     let mut kept = run;
     let given = runs::nyokazerubi_ask(&mut kept, order, limits, bounds);
@@ -56,7 +56,7 @@ pub fn body_started(run: BodyRun, body: &[u32; bodies::BODY_NUMBERS]) -> BodySta
 pub fn body_asked(run: BodyRun, order: &[u8], summaries: &[u32], worst: &[u32]) -> BodyAsked
     ensures body { result.run.body ≡ run.body }
     ensures answer { Asks (body_ask run.body
-        (record { order = order.entry.now; summaries = summaries.now; worst = worst.now }) (steps_of run))
+        (record { order = order.now; summaries = summaries.now; worst = worst.now }) (steps_of run))
         (steps_of result.run) result.given }
 {
     let mut kept = run;
