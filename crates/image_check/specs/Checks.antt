@@ -1,9 +1,11 @@
 -- What the whole check answers.
-use Rattle.std.specs.Prelude.{ℕ, ◌≡◌, true, false, ◌≢◌, ◌↔◌, List, [], ◌∷◌, ◌++◌, replicate}
-use Rattle.rules.specs.Numbers.{most_actions, refused_version, refused_count, refused_length, refused_spare, refused_range, refused_table, refused_loop}
+use Rattle.std.specs.Prelude.{ℕ, ◌≡◌, true, ◌≢◌, ◌↔◌, List, [], ◌∷◌, ◌++◌, Result, IfOk}
+use Rattle.rules.specs.Numbers.{refused_version, refused_count, refused_length, refused_spare, refused_range, refused_table, refused_loop}
 use Rattle.rules.specs.Image.{header_spare, profile}
 use Rattle.rules.specs.Order.{Order, TheOrder}
-use Rattle.rules.specs.Refusals.{Ground, ◌when◌, ◌blames◌below◌, ◌or_when◌, First, AtFault, Count, SpareFault, RangeFault, TableFault, LoopFault, Unfit, Version, Length, image_checks}
+use Rattle.rules.specs.Reasons.{fault}
+use Rattle.rules.specs.declared.Blame.{Blame}
+use Rattle.rules.specs.Refusals.{Ground, ◌when◌, ◌blames◌below◌, ◌or_when◌, Refuses, Count, SpareFault, RangeFault, TableFault, LoopFault, Unfit, Version, Length, image_checks}
 use Rattle.order.specs.Arranged.{Lists, ZeroFrom}
 use Rattle.image_check.specs.declared.Checked.{Checked}
 
@@ -20,21 +22,13 @@ row_checks s = refused_range blames RangeFault (profile s) below (profile s).n �
 abbrev pub record_checks : List ℕ → List Ground
 record_checks s = spare_check s ++ row_checks s
 
-abbrev pub loop-check : List ℕ → List Ground
-loop-check s = refused_loop blames LoopFault (profile s) below (profile s).n ∷ []
+abbrev pub loop_check : List ℕ → List Ground
+loop_check s = refused_loop blames LoopFault (profile s) below (profile s).n ∷ []
 
 abbrev pub rest_checks : List ℕ → List Ground
-rest_checks s = record_checks s ++ loop-check s
+rest_checks s = record_checks s ++ loop_check s
 
--- with a refusal nothing else is said
-pub record Blank (r : Checked) : Type 0 where
-  pub n : r.n ≡ 0
-  pub levels : r.levels ≡ 0
-  pub cycle : r.cycle ≡ 0
-  pub order : r.order ≡ replicate most_actions 0
-  pub unfit : r.unfit ≡ false
-
--- without one: the profile's n, levels and cycle, and its actions in order, then 0
+-- what the image says of itself: the profile's n, levels and cycle, and its actions in order, then 0
 pub record Found (s : List ℕ) (r : Checked) : Type 0 where
   pub n : r.n ≡ (profile s).n
   pub levels : r.levels ≡ (profile s).levels
@@ -43,17 +37,15 @@ pub record Found (s : List ℕ) (r : Checked) : Type 0 where
   pub rest : ZeroFrom (profile s).n r.order
 
 -- r is what the checks in the row answer of the image s
-pub record CheckAnswers (row : List Ground) (s : List ℕ) (r : Checked) : Type 0 where
-  pub number : First row r.refusal.number
-  pub action : AtFault row r.refusal.action
-  pub refused : r.refusal.number ≢ 0 → Blank r
-  pub accepted : r.refusal.number ≡ 0 → Found s r
+pub record CheckAnswers (row : List Ground) (s : List ℕ) (r : Result Checked Blame) : Type 0 where
+  pub given : Refuses row (fault r)
+  pub accepted : IfOk r (Found s)
 
 -- and without a refusal whether the profile is unfit
-pub record BodyAnswers (row : List Ground) (s : List ℕ) (r : Checked) : Type 0 where
+pub record BodyAnswers (row : List Ground) (s : List ℕ) (r : Result Checked Blame) : Type 0 where
   pub answers : CheckAnswers row s r
-  pub unfit : r.refusal.number ≡ 0 → (r.unfit ≡ true) ↔ Unfit (profile s)
+  pub unfit : IfOk r (λ c. (c.unfit ≡ true) ↔ Unfit (profile s))
 
 -- r is what the whole check answers
-abbrev pub Judged : List ℕ → Checked → Type 0
+abbrev pub Judged : List ℕ → Result Checked Blame → Type 0
 Judged s r = CheckAnswers (image_checks s) s r

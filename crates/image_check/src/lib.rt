@@ -1,17 +1,16 @@
 // The check of a profile image, refusals 1 to 9.
 #![tactic(auto)]
 
-use rules::Fault;
+use rules::Blame;
 
 pub mod whole;
 
+ghost use Rattle.rules.specs.Reasons.{fault};
 ghost use Rattle.rules.specs.Refusals.{Refuses, image_checks};
 
-// What the whole check finds: with a refusal all else is 0 or no; without one what the header says, the n actions in order, then 0, and of a
-// check that does not give 9 whether it would be given.
-#[derive(Drop)]
+// What the whole check finds: what the header says, the n actions in order, then 0, and of a check that does not give 9 whether it would be given.
+#[derive(Clone, Copy)]
 pub struct Checked {
-    pub refusal: Fault,
     pub n: usize,
     pub levels: usize,
     pub cycle: u32,
@@ -20,10 +19,9 @@ pub struct Checked {
 }
 
 // The check of an image: refusals 1 to 9, in this order, over the whole image.
-pub fn check(image: &[u8]) -> Fault
-    ensures { Refuses (image_checks image.now) result }
+pub fn check(image: &[u8]) -> Result<(), Blame>
+    ensures { Refuses (image_checks image.now) (fault result) }
 {
-    let checked = whole::checked(image);
-    let refusal = checked.refusal;
-    refusal
+    whole::checked(image)?;
+    Ok(())
 }

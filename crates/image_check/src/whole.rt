@@ -1,111 +1,65 @@
 // The check of a whole image.
 ghost use Rattle.std.specs.Prelude.{◌≡◌};
 ghost use Rattle.rules.specs.Image.{mask_of, deadline_of};
-ghost use Rattle.rules.specs.Refusals.{Refuses, loop_checks};
+ghost use Rattle.rules.specs.Reasons.{number, fault};
+ghost use Rattle.rules.specs.Refusals.{First, Refuses, loop_checks};
 ghost use Rattle.image_fields.specs.Reading.{HeaderOf, Opened, Column, Columns};
-ghost use Rattle.image_check.specs.Checks.{head_checks, spare_check, record_checks, rest_checks, Blank, BodyAnswers, Judged};
+ghost use Rattle.image_check.specs.Checks.{head_checks, spare_check, record_checks, rest_checks, BodyAnswers, Judged};
 
 use crate::Checked;
 use image_fields::{Header, column, read, scan};
-use rules::Fault;
-
-// What a refused image answers.
-fn refused(refusal: Fault) -> Checked
-    ensures { (result.refusal ≡ refusal) × Blank result }
-{
-    Checked {
-        refusal,
-        n: 0,
-        levels: 0,
-        cycle: 0,
-        order: [0u8; 64],
-        unfit: false,
-    }
-}
+use rules::{Blame, Reason};
 
 // 2 to 4.
-fn head_refusal(image: &[u8], head: Header) -> Fault
+fn check_head(image: &[u8], head: Header) -> Result<(), Reason>
     requires { HeaderOf image.now head }
-    ensures { Refuses (head_checks image.now) result }
+    ensures { First (head_checks image.now) (number result) }
 {
     if head.version != rules::FIRST_VERSION {
-        return Fault {
-            number: rules::REFUSED_VERSION,
-            action: rules::NO_ACTION,
-        };
+        return Err(Reason::Version);
     }
     if scan::count_out(head.n, head.levels, head.cycle) {
-        return Fault {
-            number: rules::REFUSED_COUNT,
-            action: rules::NO_ACTION,
-        };
+        return Err(Reason::Count);
     }
     if image.len() != read::record_at(head.levels, head.n) {
-        return Fault {
-            number: rules::REFUSED_LENGTH,
-            action: rules::NO_ACTION,
-        };
+        return Err(Reason::Length);
     }
-    Fault {
-        number: 0,
-        action: rules::NO_ACTION,
-    }
+    Ok(())
 }
 
 // 5: a record's spare bit is looked for before the header's, as the action is named where one is at fault.
-fn spare_refusal(image: &[u8], head: Header) -> Fault
+fn check_spare(image: &[u8], head: Header) -> Result<(), Blame>
     requires { Opened image.now head }
-    ensures { Refuses (spare_check image.now) result }
+    ensures { Refuses (spare_check image.now) (fault result) }
 {
-    let n = head.n;
-    let spared = scan::spare_fault(image, head.levels, n);
-    if spared < n {
-        return Fault {
-            number: rules::REFUSED_SPARE,
-            action: spared as u32,
-        };
+    if let Some(a) = scan::spare_fault(image, head.levels, head.n) {
+        return Err(Blame::on(Reason::Spare, a));
     }
     if head.spare != 0 {
-        return Fault {
-            number: rules::REFUSED_SPARE,
-            action: rules::NO_ACTION,
-        };
+        return Err(Blame::from(Reason::Spare));
     }
-    Fault {
-        number: 0,
-        action: rules::NO_ACTION,
-    }
+    Ok(())
 }
 
 // 5 to 7.
-fn record_refusal(image: &[u8], head: Header, masks: &[u64], deadlines: &[u32]) -> Fault
+fn check_records(
+    image: &[u8],
+    head: Header,
+    masks: &[u64],
+    deadlines: &[u32],
+) -> Result<(), Blame>
     requires opened { Opened image.now head }
     requires column { Column (mask_of image.now) head.n masks.now × Column (deadline_of image.now) head.n deadlines.now }
-    ensures { Refuses (record_checks image.now) result }
+    ensures { Refuses (record_checks image.now) (fault result) }
 {
-    let n = head.n;
-    let refusal = spare_refusal(image, head);
-    if refusal.number != 0 {
-        return refusal;
+    check_spare(image, head)?;
+    if let Some(a) = scan::range_fault(masks, deadlines, head.cycle, head.n) {
+        return Err(Blame::on(Reason::Range, a));
     }
-    let out = scan::range_fault(masks, deadlines, head.cycle, n);
-    if out < n {
-        return Fault {
-            number: rules::REFUSED_RANGE,
-            action: out as u32,
-        };
+    if let Some(a) = scan::table_fault(image, head.levels, head.n) {
+        return Err(Blame::on(Reason::Table, a));
     }
-    let fallen = scan::table_fault(image, head.levels, n);
-    if fallen < n {
-        return Fault {
-            number: rules::REFUSED_TABLE,
-            action: fallen as u32,
-        };
-    }
-    Fault {
-        number: 0,
-        action: rules::NO_ACTION,
-    }
+    Ok(())
 }
 
 // 5 to 8, by the image's columns, and whether 9 would be given.
@@ -115,32 +69,23 @@ fn checked_columns(
     masks: &[u64],
     deadlines: &[u32],
     worst: &[u32],
-) -> Checked
+) -> Result<Checked, Blame>
     requires { Opened image.now head × Columns image.now head.n masks.now deadlines.now worst.now }
     ensures { BodyAnswers (rest_checks image.now) image.now result }
 {
-    let refusal = record_refusal(image, head, masks, deadlines);
-    if refusal.number != 0 {
-        return refused(refusal);
-    }
-    let judged = order::judge(masks, deadlines, head.cycle, worst, 1, head.n);
-    let judgement = judged.refusal;
-    if judgement.number == rules::REFUSED_LOOP {
-        return refused(judgement);
-    }
-    let order = judged.order;
-    Checked {
-        refusal,
+    check_records(image, head, masks, deadlines)?;
+    let judged = order::judge(masks, deadlines, head.cycle, worst, 1, head.n)?;
+    Ok(Checked {
         n: head.n,
         levels: head.levels,
         cycle: head.cycle,
-        order,
-        unfit: judgement.number == rules::REFUSED_UNFIT,
-    }
+        order: judged.order,
+        unfit: judged.unfit,
+    })
 }
 
 // The same, from the image itself.
-fn checked_records(image: &[u8], head: Header) -> Checked
+fn checked_records(image: &[u8], head: Header) -> Result<Checked, Blame>
     requires { Opened image.now head }
     ensures { BodyAnswers (rest_checks image.now) image.now result }
 {
@@ -159,33 +104,24 @@ fn checked_records(image: &[u8], head: Header) -> Checked
 }
 
 // The check up to 8, with what the image then says, which hands the verdict on 9 on: that of a body depends on how often it is repeated.
-pub fn checked_body(image: &[u8]) -> Checked
+pub fn checked_body(image: &[u8]) -> Result<Checked, Blame>
     ensures { BodyAnswers (loop_checks image.now) image.now result }
 {
     if image.len() < rules::HEADER_BYTES {
-        return refused(Fault {
-            number: rules::REFUSED_SHORT,
-            action: rules::NO_ACTION,
-        });
+        return Err(Blame::from(Reason::Short));
     }
     let head = read::header(image);
-    let refusal = head_refusal(image, head);
-    if refusal.number != 0 {
-        return refused(refusal);
-    }
+    check_head(image, head)?;
     checked_records(image, head)
 }
 
 // The whole check, with what an accepted image says.
-pub fn checked(image: &[u8]) -> Checked
+pub fn checked(image: &[u8]) -> Result<Checked, Blame>
     ensures { Judged image.now result }
 {
-    let found = checked_body(image);
+    let found = checked_body(image)?;
     if found.unfit {
-        return refused(Fault {
-            number: rules::REFUSED_UNFIT,
-            action: rules::NO_ACTION,
-        });
+        return Err(Blame::from(Reason::Unfit));
     }
-    found
+    Ok(found)
 }

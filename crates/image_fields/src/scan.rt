@@ -1,8 +1,8 @@
-// The checks of an image's actions: each answers the lowest action at fault, n if none is.
+// The checks of an image's actions: each answers the lowest action at fault, if one is.
 ghost use Rattle.std.specs.Prelude.{◌≡◌, true, ◌↔◌, ◌+◌, ◌≤◌, ◌<◌, length, get_or};
 ghost use Rattle.rules.specs.Numbers.{most_actions};
 ghost use Rattle.rules.specs.Image.{average_of, worst_of};
-ghost use Rattle.rules.specs.Refusals.{LowestFault, CountOut, SpareFault, OutOfRange, RowBreaks};
+ghost use Rattle.rules.specs.Refusals.{Lowest, CountOut, SpareFault, OutOfRange, RowBreaks};
 ghost use Rattle.image_fields.specs.Reading.{HasRecord, HasRecords};
 ghost use Rattle.image_fields.specs.Faults.{row, LevelBreaks};
 
@@ -34,18 +34,16 @@ pub fn count_out(n: usize, levels: usize, cycle: u32) -> bool
 }
 
 // 5: a spare bit of the record is set.
-pub fn spare_fault(image: &[u8], levels: usize, n: usize) -> usize
+pub fn spare_fault(image: &[u8], levels: usize, n: usize) -> Option<usize>
     requires { HasRecords image.now levels n }
-    ensures { LowestFault (SpareFault image.now) n result }
+    ensures { Lowest (SpareFault image.now) n result }
 {
-    let mut a = 0;
-    while a < n {
+    for a in 0..n {
         if read::spare_at(image, levels, a) != 0 {
-            return a;
+            return Some(a);
         }
-        a += 1;
     }
-    n
+    None
 }
 
 // 6, of one action: its deadline is above the cycle, or its mask names action n or more.
@@ -59,18 +57,16 @@ pub fn out_of_range(mask: u64, deadline: u32, cycle: u32, n: usize) -> bool
     !sets::below(mask, n)
 }
 
-pub fn range_fault(masks: &[u64], deadlines: &[u32], cycle: u32, n: usize) -> usize
+pub fn range_fault(masks: &[u64], deadlines: &[u32], cycle: u32, n: usize) -> Option<usize>
     requires { (n ≤ most_actions) × (n ≤ length masks.now) × (n ≤ length deadlines.now) }
-    ensures { LowestFault (λ a. OutOfRange n cycle (get_or masks.now a 0) (get_or deadlines.now a 0)) n result }
+    ensures { Lowest (λ a. OutOfRange n cycle (get_or masks.now a 0) (get_or deadlines.now a 0)) n result }
 {
-    let mut a = 0;
-    while a < n {
+    for a in 0..n {
         if out_of_range(masks[a], deadlines[a], cycle, n) {
-            return a;
+            return Some(a);
         }
-        a += 1;
     }
-    n
+    None
 }
 
 // 7, of one level: the average is above the worst time, or one of them is below that of the level before.
@@ -122,16 +118,14 @@ fn record_breaks(image: &[u8], levels: usize, a: usize) -> bool
     row_breaks(&averages, &worst, 0, levels)
 }
 
-pub fn table_fault(image: &[u8], levels: usize, n: usize) -> usize
+pub fn table_fault(image: &[u8], levels: usize, n: usize) -> Option<usize>
     requires { HasRecords image.now levels n }
-    ensures { LowestFault (λ a. RowBreaks levels (average_of image.now a) (worst_of image.now a)) n result }
+    ensures { Lowest (λ a. RowBreaks levels (average_of image.now a) (worst_of image.now a)) n result }
 {
-    let mut a = 0;
-    while a < n {
+    for a in 0..n {
         if record_breaks(image, levels, a) {
-            return a;
+            return Some(a);
         }
-        a += 1;
     }
-    n
+    None
 }

@@ -2,18 +2,18 @@
 // A deadline of 0 stands for the cycle.
 #![tactic(auto)]
 
-ghost use Rattle.std.specs.Prelude.{◌≡◌, true, ◌↔◌, List, [], ℕ, ◌≤◌, ◌<◌, length, get_or};
+ghost use Rattle.std.specs.Prelude.{◌≡◌, true, ◌↔◌, List, [], ℕ, ◌≤◌, ◌<◌, length, get_or, is_none, unwrap_or, replicate};
 ghost use Rattle.rules.specs.Numbers.{most_actions};
 ghost use Rattle.rules.specs.Order.{Loop};
 ghost use Rattle.sets.specs.Sets.{Below, comes_before};
 ghost use Rattle.order.specs.Lent.{lent_profile, Masked, Timed};
 ghost use Rattle.order.specs.Arranged.{Parted, Placed};
-ghost use Rattle.order.specs.Judged.{ByNumber, Ordered, TellsFit, Verdict};
+ghost use Rattle.order.specs.Judged.{ByNumber, Ordered, TellsFit, verdict, judged_order, Verdict};
 
 use order_line::{lower_alone, number};
 use order_loops::first_looped;
 use order_urgency::{due, next, one_deadline, urgencies};
-use rules::Fault;
+use rules::{Blame, Reason};
 use sets::{above_lowest, all_below, count, end, lowest, subset, with, without};
 
 // ---- order
@@ -75,38 +75,22 @@ fn by_number(masks: &[u64], deadlines: &[u32], cycle: u32, n: usize) -> bool
     false
 }
 
-// The actions in order and then 0, and 0 alone where the masks contain a loop.
-#[derive(Drop)]
-pub struct Arranged {
-    pub looped: bool,
-    pub order: [u8; 64],
-}
-
-// Whether there is a loop is told by the pass that finds the urgencies, and looked for nowhere else.
-fn ordered(masks: &[u64], deadlines: &[u32], cycle: u32, n: usize) -> Arranged
+// The actions in order and then 0; none where the masks contain a loop, which is told by the pass that finds the urgencies, and looked for nowhere
+// else.
+fn ordered(masks: &[u64], deadlines: &[u32], cycle: u32, n: usize) -> Option<[u8; 64]>
     requires { Masked n masks.now × (n ≤ length deadlines.now) }
-    ensures { Ordered (lent_profile n cycle masks.now deadlines.now [] 0) result.looped result.order }
+    ensures { Ordered (lent_profile n cycle masks.now deadlines.now [] 0) (is_none result) (unwrap_or result (replicate most_actions 0)) }
 {
     if by_number(masks, deadlines, cycle, n) {
         let mut order = [0u8; 64];
         number(n, &mut order);
-        return Arranged {
-            looped: false,
-            order,
-        };
+        return Some(order);
     }
     let mut urgency = [0u32; 64];
     if urgencies(masks, deadlines, cycle, n, &mut urgency) {
-        return Arranged {
-            looped: true,
-            order: [0u8; 64],
-        };
+        return None;
     }
-    let order = arrange(masks, &urgency, n);
-    Arranged {
-        looped: false,
-        order,
-    }
+    Some(arrange(masks, &urgency, n))
 }
 
 // ---- refusals 8 and 9
@@ -137,14 +121,14 @@ pub fn fit(
     true
 }
 
-// Refusal 8 or 9, 0 for neither, and but for 8 the actions in order; all else of the order is 0.
-#[derive(Drop)]
+// Of masks without a loop: the actions in order, then 0, and whether no permitted order meets all deadlines at level 0 worst times.
+#[derive(Clone, Copy)]
 pub struct Judgement {
-    pub refusal: Fault,
     pub order: [u8; 64],
+    pub unfit: bool,
 }
 
-// 8 where the masks contain a loop, with the lowest action on one, else 9 where no permitted order meets all deadlines at level 0 worst times.
+// 8 where the masks contain a loop, with the lowest action on one. Whether 9 is to be given is told beside the order.
 pub fn judge(
     masks: &[u64],
     deadlines: &[u32],
@@ -152,29 +136,15 @@ pub fn judge(
     worst: &[u32],
     stride: usize,
     n: usize,
-) -> Judgement
+) -> Result<Judgement, Blame>
     requires { Masked n masks.now × Timed n deadlines.now worst.now stride }
     ensures { Verdict
-        (lent_profile n cycle masks.now deadlines.now worst.now stride) result.refusal result.order }
+        (lent_profile n cycle masks.now deadlines.now worst.now stride) (verdict result) (judged_order result) }
 {
-    let arranged = ordered(masks, deadlines, cycle, n);
-    let order = arranged.order;
-    if arranged.looped {
-        let looped = first_looped(masks, n);
-        let refusal = Fault {
-            number: rules::REFUSED_LOOP,
-            action: looped as u32,
-        };
-        return Judgement { refusal, order };
-    }
-    let number = if fit(&order, deadlines, cycle, worst, stride, n) {
-        0
-    } else {
-        rules::REFUSED_UNFIT
+    let Some(order) = ordered(masks, deadlines, cycle, n) else {
+        let a = first_looped(masks, n).unwrap();
+        return Err(Blame::on(Reason::Loop, a));
     };
-    let refusal = Fault {
-        number,
-        action: rules::NO_ACTION,
-    };
-    Judgement { refusal, order }
+    let unfit = !fit(&order, deadlines, cycle, worst, stride, n);
+    Ok(Judgement { order, unfit })
 }

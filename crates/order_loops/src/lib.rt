@@ -5,7 +5,7 @@ ghost use Rattle.std.specs.Prelude.{◌≡◌, true, ◌↔◌, List, ℕ, ◌+�
 ghost use Rattle.rules.specs.Numbers.{most_actions};
 ghost use Rattle.rules.specs.Image.{has};
 ghost use Rattle.rules.specs.Order.{OnLoop};
-ghost use Rattle.rules.specs.Refusals.{LowestFault};
+ghost use Rattle.rules.specs.Refusals.{Lowest};
 ghost use Rattle.sets.specs.Sets.{comes_before};
 ghost use Rattle.order_loops.specs.Looped.{Rows};
 
@@ -73,14 +73,14 @@ fn looped(masks: &[u64], n: usize) -> u64
     set
 }
 
-// The lowest action on a loop, n where there is none.
-pub fn first_looped(masks: &[u64], n: usize) -> usize
+// The lowest action on a loop, if there is one.
+pub fn first_looped(masks: &[u64], n: usize) -> Option<usize>
     requires { (n ≤ most_actions) × (n ≤ length masks.now) }
-    ensures { LowestFault (OnLoop n (comes_before masks.now)) n result }
+    ensures { Lowest (OnLoop n (comes_before masks.now)) n result }
 {
     let set = looped(masks, n);
     if set == 0 {
-        return n;
+        return None;
     }
-    lowest(set)
+    Some(lowest(set))
 }

@@ -4,7 +4,7 @@ use Prim.Native.Nat.{ℕ, zero, suc, ◌+◌, ◌-◌, ◌*◌, ◌/◌, ◌%◌
 use mathlib.Core.Path.{◌≡◌, refl, ap, sym, subst, ◌∙◌}
 use mathlib.Core.Bool.{Bool, true, false, not, cond, false≢true}
 use mathlib.Core.List.{List, [], ◌∷◌, ◌++◌, map, append-nil, append_assoc, map-append}
-use mathlib.Core.Logic.{inl, inr, ◌↔◌, ◌≢◌}
+use mathlib.Core.Logic.{inl, inr, ◌↔◌}
 use native.Mathlib.Nat.{add-zero, add-suc, suc-mul, add-mul, mul-div_left, mul-add-div_right, le_refl, mul-le-mul_right, mul-pos, mul-mod_left, div-add-mod'}
 use native.Mathlib.Decide.{dec_le}
 use native.Mathlib.Omega.{arith}

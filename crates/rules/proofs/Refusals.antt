@@ -11,7 +11,7 @@ use Rattle.rules.specs.Numbers.{most_actions}
 use Rattle.rules.specs.Image.{profile}
 use Rattle.rules.specs.declared.Fault.{Fault}
 use Rattle.rules.specs.Refusals.{LowestFault, Ground, ◌when◌, ◌blames◌below◌, First, AtFault, Refuses, Test, first, Count, Range, Table, Looped, Unfit, Short, Version, Length, Spare, loop_checks, image_checks, Accepted}
-use Rattle.rules.proofs.Faults.{some-fault, no_fault, lowest-one, lowest-alike, named-below, named_none}
+use Rattle.rules.proofs.Faults.{some-fault, no_fault, lowest-one, lowest-alike, named-below}
 
 -- ---- the row settles the number
 

@@ -3,6 +3,7 @@ pub mod Words
 pub mod Image
 pub mod Order
 pub mod Limits
+pub mod Reasons
 pub mod Refusals
 pub mod Run
 pub mod Dry

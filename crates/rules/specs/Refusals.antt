@@ -1,5 +1,5 @@
 -- Numbers of refusal.
-use Rattle.std.specs.Prelude.{ℕ, suc, ◌≤◌, ◌<◌, ◌≡◌, Bool, true, cond, List, [], ◌∷◌, ◌++◌, ◌⊎◌, ◌≢◌, eqb, length}
+use Rattle.std.specs.Prelude.{ℕ, suc, ◌≤◌, ◌<◌, ◌≡◌, Bool, true, cond, List, [], ◌∷◌, ◌++◌, ◌⊎◌, ◌≢◌, eqb, length, Option, None, Some as found}
 use Rattle.rules.specs.Numbers.{most_actions, most_levels, last_clock, longest_time, policy_2008, policy_2005, first_version, header_bytes, refused_short, refused_version, refused_count, refused_length, refused_spare, refused_range, refused_table, refused_loop, refused_unfit, refused_name, refused_room, refused_policy}
 use Rattle.rules.specs.Words.{Some}
 use Rattle.rules.specs.Image.{Profile, has, version, header_spare, spare_of, image_bytes, profile}
@@ -13,6 +13,11 @@ pub record LowestFault (Faulty : ℕ → Type 0) (n r : ℕ) : Type 0 where
   pub most : r ≤ n
   pub fault : r < n → Faulty r
   pub before : (a : ℕ) → a < r → Faulty a → ⊥
+
+-- The same where none may be at fault.
+abbrev pub Lowest : (ℕ → Type 0) → ℕ → Option ℕ → Type 0
+Lowest Faulty n None = LowestFault Faulty n n
+Lowest Faulty n (found a) = LowestFault Faulty n a × (a < n)
 
 -- ---- in which order
 

@@ -2,6 +2,10 @@
 // themselves are mathematics: see specs/ for the definitions and proofs/ for their laws.
 #![tactic(auto)]
 
+ghost use Rattle.std.specs.Prelude.{◌≡◌, ◌<◌, ℕ, None, Some};
+ghost use Rattle.rules.specs.Numbers.{most_actions};
+ghost use Rattle.rules.specs.Reasons.{number_of, fault_of, number, fault};
+
 // ---- ranges
 
 // Actions of a profile: 1 to this many.
@@ -92,18 +96,82 @@ pub struct Body {
     pub policy: u32,
 }
 
+// The counts of a profile, as the header of its image says them.
+#[derive(Clone, Copy, PartialEq, Eq)]
+pub struct Counts {
+    pub n: usize,
+    pub levels: usize,
+    pub cycle: u32,
+}
+
 // ---- refusals
 
-// What a call answers of a refusal: its number, 0 for none.
+// Why a call is refused. Each reason has a number of its own, which C and the programs say.
+#[derive(Clone, Copy, PartialEq, Eq)]
+pub enum Reason {
+    Short = 1,
+    Version = 2,
+    Count = 3,
+    Length = 4,
+    Spare = 5,
+    Range = 6,
+    Table = 7,
+    Loop = 8,
+    Unfit = 9,
+    Finished = 10,
+    Turn = 11,
+    Back = 12,
+    Clock = 13,
+    Trace = 14,
+    Name = 15,
+    Duration = 16,
+    Room = 17,
+    Reading = 18,
+    Repeats = 19,
+    Policy = 20,
+}
+
+// The reason why an image, or what is written, is refused, with the lowest action at fault for it where there is one.
+#[derive(Clone, Copy, PartialEq, Eq)]
+pub struct Blame {
+    pub reason: Reason,
+    pub action: Option<u32>,
+}
+
+impl From<Reason> for Blame {
+    ghost from_gives = { λ reason blame. blame ≡ record { reason = reason; action = None } };
+
+    fn from(reason: Reason) -> Self {
+        Blame {
+            reason,
+            action: None,
+        }
+    }
+}
+
+impl Blame {
+    // With an action at fault.
+    pub fn on(reason: Reason, action: usize) -> Self
+        requires { action < most_actions }
+        ensures { result ≡ record { reason = reason; action = Some action } }
+    {
+        Blame {
+            reason,
+            action: Some(action as u32),
+        }
+    }
+}
+
+// What a call answers to C of a refusal: its number, 0 for none.
 #[repr(C)]
-#[derive(Drop)]
+#[derive(Clone, Copy, PartialEq, Eq)]
 pub struct Refusal {
     pub number: u32,
 }
 
-// What a call that takes an image, or writes one, answers of it: with 5 to 8 also the lowest action at fault.
+// What a call that takes an image, or writes one, answers to C of it: with 5 to 8 also the lowest action at fault.
 #[repr(C)]
-#[derive(Drop)]
+#[derive(Clone, Copy, PartialEq, Eq)]
 pub struct Fault {
     pub number: u32,
     pub action: u32,
@@ -151,3 +219,51 @@ pub const REFUSED_READING: u32 = 18;
 pub const REFUSED_REPEATS: u32 = 19;
 
 pub const REFUSED_POLICY: u32 = 20;
+
+impl From<Reason> for Refusal {
+    ghost from_gives = { λ reason refusal. refusal.number ≡ number_of reason };
+
+    fn from(reason: Reason) -> Self {
+        Refusal {
+            number: reason as u32,
+        }
+    }
+}
+
+impl From<Blame> for Fault {
+    ghost from_gives = { λ blame fault. fault ≡ fault_of blame };
+
+    fn from(blame: Blame) -> Self {
+        Fault {
+            number: blame.reason as u32,
+            action: blame.action.unwrap_or(NO_ACTION),
+        }
+    }
+}
+
+impl Refusal {
+    // That of a call which gives nothing else.
+    pub fn of(outcome: Result<(), Reason>) -> Self
+        ensures { result.number ≡ number outcome }
+    {
+        match outcome {
+            Ok(()) => Refusal { number: 0 },
+            Err(reason) => Refusal::from(reason),
+        }
+    }
+}
+
+impl Fault {
+    // The same with the action at fault.
+    pub fn of(outcome: Result<(), Blame>) -> Self
+        ensures { result ≡ fault outcome }
+    {
+        match outcome {
+            Ok(()) => Fault {
+                number: 0,
+                action: NO_ACTION,
+            },
+            Err(blame) => Fault::from(blame),
+        }
+    }
+}

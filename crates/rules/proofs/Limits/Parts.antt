@@ -1,6 +1,6 @@
 -- The limits of the average sums and of the safe sums worked from the last position back: each has a row from the row after it, and the safe sums need
 -- only that row's number at level 0, which is the limit there, of either policy. Assumes nothing.
-use Prim.Native.Nat.{ℕ, suc, ◌+◌, ◌-◌, ◌≤◌, ◌<◌}
+use Prim.Native.Nat.{ℕ, suc, ◌+◌, ◌≤◌, ◌<◌}
 use mathlib.Core.Path.{◌≡◌, subst}
 use mathlib.Core.Logic.{◌↔◌}
 use native.Mathlib.Nat.{le_refl, le_antisymm}

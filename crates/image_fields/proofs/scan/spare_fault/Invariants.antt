@@ -1,4 +1,4 @@
-use Prim.Native.Nat.{◌≤◌, ◌-◌}
+use Prim.Native.Nat.{◌≤◌}
 use Rattle.rules.specs.Refusals.{SpareFault}
 use Rattle.rules.proofs.Faults.{Faultless}
 use Rattle.image_fields.proofs.scan.spare_fault.Given as goal
@@ -6,5 +6,3 @@ use Rattle.image_fields.proofs.scan.spare_fault.Given as goal
 abbrev pub invariant-loop-a : goal.invariant-loop-a
 invariant-loop-a l = (l.a ≤ l.n) × Faultless (SpareFault l.image) l.a
 
-abbrev pub decreases-loop-a : goal.decreases-loop-a
-decreases-loop-a l = l.n - l.a
