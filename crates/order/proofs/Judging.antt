@@ -1,15 +1,16 @@
 -- Refusals 8 and 9 from the urgencies, the placed actions and the test along them.
 use mathlib.Core.Path.{◌≡◌, refl, sym, subst, ◌∙◌}
-use mathlib.Core.Bool.{Bool, true, false}
+use mathlib.Core.Bool.{Bool, true, false, not, cond}
 use mathlib.Core.Logic.{◌↔◌}
 use mathlib.Core.List.{List, []}
 use Prim.Native.Nat.{ℕ, ◌≤◌, ◌<◌}
 use native.Mathlib.Omega.{arith}
 use lib.ListN.{get_or, replicate}
+use Rattle.std.specs.Prelude.{Option, None, Some as found, IsSome}
 use Rattle.rules.specs.Numbers.{most_actions, refused_loop, refused_unfit}
 use Rattle.rules.specs.Image.{Profile, due}
 use Rattle.rules.specs.Order.{Order, Loop, TheOrder, Fit}
-use Rattle.rules.specs.Refusals.{LowestFault, ◌when◌, ◌blames◌below◌, LoopFault, Looped, Unfit}
+use Rattle.rules.specs.Refusals.{LowestFault, Lowest, ◌when◌, ◌blames◌below◌, LoopFault, Looped, Unfit}
 use Rattle.rules.specs.declared.Fault.{Fault}
 use Rattle.rules.proofs.Tests.{not-both}
 use Rattle.rules.proofs.Faults.{some-fault}
@@ -64,6 +65,11 @@ module _ {F : Profile} {looped : Bool} {l : List ℕ} (x : Ordered F looped l) w
     looped = λ q. x.none e;
   }
 
+  -- and there is one
+  pub some_looped : looped ≡ true → (r : Option ℕ) → Lowest (LoopFault F) F.n r → IsSome r
+  some_looped e None low = absurd (omega (arith, (some-fault low).1 (x.loop.0 e)))
+  some_looped e (found a) low = refl
+
   module _ (straight : looped ≡ false) where
     pub listed_below : (j : ℕ) → j < F.n → get_or l j 0 < F.n
     listed_below j m = let w = x.whole straight in subst (λ (a : ℕ). a < F.n) (sym (w.2 j m)) (w.0.at_lt j m)
@@ -90,6 +96,12 @@ module _ {F : Profile} {looped : Bool} {l : List ℕ} (x : Ordered F looped l) w
         rest = x.rest;
         looped = λ z. absurd (omega arith);
       }
+
+  -- where there is none, what a test along the order says
+  pub verdict_told : looped ≡ false → (r : Bool) → TellsFit F l r
+      → Verdict F (record { number = cond (not r) refused_unfit 0; action = most_actions }) l
+  verdict_told straight true tells = verdict_fit straight tells refl
+  verdict_told straight false tells = verdict_unfit straight tells refl
 
 -- A verdict on slices that were filled from F is one on F.
 pub verdict_alike : {F G : Profile} {f : Fault} {l : List ℕ} → Alike F G → Verdict G f l → Verdict F f l

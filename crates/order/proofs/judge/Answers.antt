@@ -1,26 +1,19 @@
-use Rattle.order.specs.Lent.{lent_profile}
-use Rattle.order.specs.Judged.{Ordered}
-use Rattle.order.proofs.Judging.{ordered-timed, verdict_loop, verdict_fit, verdict_unfit}
+use mathlib.Core.Path.{refl}
+use Rattle.order.proofs.Judging.{ordered-timed, verdict_loop, some_looped, verdict_told}
 use Rattle.order.proofs.judge.Goals as goal
-use Rattle.order.proofs.judge.Goals.{After-ordered-arranged}
 
--- the profile that the slices say, and its order
-known : (c : After-ordered-arranged)
-    → Ordered (lent_profile c.args.n c.args.cycle c.args.masks.now c.args.deadlines.now c.args.worst.now c.args.stride) c.ordered-arranged.result.looped c.ordered-arranged.result.order
-known c =
+pub unwrap-a-requires : goal.unwrap-a-requires
+unwrap-a-requires c =
     let s = c.args in
-    ordered-timed s.n s.cycle s.masks.now s.deadlines.now s.worst.now s.stride c.ordered-arranged.ensures
+    some_looped (ordered-timed s.n s.cycle s.masks.now s.deadlines.now s.worst.now s.stride (c.in_default.ensures)) refl c.first_looped.result c.first_looped.ensures
 
-pub returns-then-arranged : goal.returns-then-arranged
-returns-then-arranged c =
-    verdict_loop (known (goal.at.returns-then-arranged c).After-ordered-arranged) c.if-arranged.true c.requires.0.few c.first_looped-looped.ensures
+pub returns-in_default : goal.returns-in_default
+returns-in_default c =
+    let s = c.args in
+    let known = ordered-timed s.n s.cycle s.masks.now s.deadlines.now s.worst.now s.stride (c.in_default.ensures) in
+    rw c.on.ensures (verdict_loop known refl c.requires.0.few (rw c.unwrap-a.ensures at c.first_looped.ensures).0)
 
-pub returns-then-fit : goal.returns-then-fit
-returns-then-fit c =
-    let masks = c.args.masks.now in
-    verdict_fit (known (goal.at.returns-then-fit c).After-ordered-arranged) c.if-arranged.false (c.fit.ensures masks) c.if-fit.true
-
-pub returns-else-fit : goal.returns-else-fit
-returns-else-fit c =
-    let masks = c.args.masks.now in
-    verdict_unfit (known (goal.at.returns-else-fit c).After-ordered-arranged) c.if-arranged.false (c.fit.ensures masks) c.if-fit.false
+pub returns : goal.returns
+returns c =
+    let s = c.args in
+    verdict_told (ordered-timed s.n s.cycle s.masks.now s.deadlines.now s.worst.now s.stride (c.in-Some.ensures)) refl c.fit-unfit.result (c.fit-unfit.ensures s.masks.now)

@@ -17,4 +17,4 @@ pub returns : goal.returns
 returns c =
     let s = c.args in
     ordered-placed s.n s.cycle s.masks.now s.deadlines.now c.urgencies.ensures.looped c.if-urgencies.false
-    c.urgencies.ensures.urgent c.arrange-order.ensures
+    c.urgencies.ensures.urgent c.arrange.ensures
