@@ -1,7 +1,7 @@
 // What a decision reads of the lent tables, whoever wrote them: the level given and the coast granted.
 #![tactic(auto)]
 
-ghost use Rattle.std.specs.Prelude.{◌≡◌, false, [], suc, ◌+◌, ◌*◌, ◌<◌, ◌≤◌, min, pos, length, get_or};
+ghost use Rattle.std.specs.Prelude.{◌≡◌, false, [], suc, ◌+◌, ◌*◌, ◌<◌, ◌≤◌, pos, length, get_or};
 ghost use Rattle.std.specs.Int.Signed.{le_z};
 ghost use Rattle.rules.specs.Numbers.{longest_coast};
 ghost use Rattle.rules.specs.Words.{last_passing};
@@ -21,25 +21,12 @@ pub fn last_within(table: &[i32], from: usize, many: usize, t: u32) -> usize
     requires { from + many ≤ length table.now }
     ensures { result ≡ last_passing (λ k. le_z (pos t) (get_or table.now (from + k) (pos 0))) many }
 {
-    let mut k = many;
-    while 0 < k {
-        k -= 1;
+    for k in (0..many).rev() {
         if within(table, from + k, t) {
             return k;
         }
     }
     0
-}
-
-// The lesser of what is left of the cycle and the longest coast.
-fn most(rest: usize) -> usize
-    ensures { result ≡ min longest_coast rest }
-{
-    if rest < rules::LONGEST_COAST {
-        rest
-    } else {
-        rules::LONGEST_COAST
-    }
 }
 
 // What a decision at a position and time for the level given leaves to coast: one less than the greatest r that qualifies. At the top level that
@@ -59,22 +46,20 @@ pub fn left_granted(
     ensures { result ≡ left_granted longest_coast
         (lent n levels (record { order = []; limits = limits.now; worst = []; bounds = bounds.now })) t position level }
 {
-    let end = most(n - position);
+    let end = rules::LONGEST_COAST.min(n - position);
     let from = (position * levels + level) * rules::LONGEST_COAST;
     let above = level + 1;
     if above == levels {
         return last_within(bounds, from, end, t) as u32;
     }
     let mut left = 0;
-    let mut x = 1;
-    while x < end {
+    for x in 1..end {
         if within(limits, (position + x) * levels + above, t) {
             return left;
         }
         if within(bounds, from + x, t) {
             left = x as u32;
         }
-        x += 1;
     }
     left
 }

@@ -1,4 +1,4 @@
-use Prim.Native.Nat.{ℕ, ◌+◌, ◌≤◌}
+use Prim.Native.Nat.{ℕ, ◌+◌}
 use mathlib.Core.Path.{◌≡◌}
 use mathlib.Core.Bool.{Bool}
 use mathlib.Core.List.{List}
@@ -12,7 +12,4 @@ abbrev pub passes : List ℤ → ℕ → ℕ → ℕ → Bool
 passes table from t k = le_z (pos t) (get_or table (from + k) (pos 0))
 
 abbrev pub invariant-loop-k : goal.invariant-loop-k
-invariant-loop-k l = (l.k ≤ l.many) × (last_passing (passes l.table l.from l.t) l.many ≡ last_passing (passes l.table l.from l.t) l.k)
-
-abbrev pub decreases-loop-k : goal.decreases-loop-k
-decreases-loop-k l = l.k
+invariant-loop-k l = last_passing (passes l.table l.from l.t) l.many ≡ last_passing (passes l.table l.from l.t) l.k

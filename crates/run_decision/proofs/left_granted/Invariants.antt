@@ -1,11 +1,7 @@
-use Prim.Native.Nat.{◌-◌, ◌≤◌}
 use mathlib.Core.List.{[]}
 use Rattle.run_decision.proofs.Granting.{Going}
 use Rattle.run_decision.proofs.left_granted.Given as goal
 
 abbrev pub invariant-loop-x : goal.invariant-loop-x
 invariant-loop-x l =
-    (l.x ≤ l.end) × Going l.n l.levels (record { order = []; limits = l.limits; worst = []; bounds = l.bounds }) l.t l.position l.level l.x l.left
-
-abbrev pub decreases-loop-x : goal.decreases-loop-x
-decreases-loop-x l = l.end - l.x
+    Going l.n l.levels (record { order = []; limits = l.limits; worst = []; bounds = l.bounds }) l.t l.position l.level l.x l.left
