@@ -9,7 +9,7 @@ ghost use Rattle.speed_stretch.specs.Stretch.{NoStretch, Lengthens, SmallStretch
 
 use rules::Fault;
 
-#[derive(Drop)]
+#[derive(Clone, Copy)]
 pub enum Reading {
     Ratio(f64),
     Spent,
@@ -17,7 +17,7 @@ pub enum Reading {
 }
 
 // Of some positions in a row, at one level: the sum of their averages, the sum of their worst times at level 0, and their margin.
-#[derive(Drop)]
+#[derive(Clone, Copy)]
 pub struct Stretch {
     pub average: u32,
     pub worst0: u32,
@@ -43,10 +43,7 @@ pub fn longer(s: Stretch, average: u32, worst: u32, worst0: u32) -> Stretch
     let sum = average + s.average;
     let safe = worst + s.worst0;
     let rest = worst0 + s.worst0;
-    let mut margin = s.margin;
-    if sum + margin < safe {
-        margin = safe - sum;
-    }
+    let margin = safe.saturating_sub(sum).max(s.margin);
     Stretch {
         average: sum,
         worst0: rest,
@@ -58,7 +55,7 @@ pub fn longer(s: Stretch, average: u32, worst: u32, worst0: u32) -> Stretch
 pub fn quotient(average: u32, room: u32) -> f64
     ensures { result ≡ quotient average room }
 {
-    average as f64 / room as f64
+    f64::from(average) / f64::from(room)
 }
 
 // The reading with room deadline - margin - t: the sum of the two last is compared with the first, so that no number has a sign.

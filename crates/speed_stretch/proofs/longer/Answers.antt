@@ -3,8 +3,5 @@ use native.Mathlib.Omega.{arith}
 use Rattle.speed_stretch.proofs.Stretches.{lengthened}
 use Rattle.speed_stretch.proofs.longer.Goals as goal
 
-pub returns-then-sum-margin : goal.returns-then-sum-margin
-returns-then-sum-margin c = λ S j i k q after l a w z of. lengthened S j k q l _ _ (rw after at of) (omega arith) (omega arith) (omega arith)
-
-pub returns-else-sum-margin : goal.returns-else-sum-margin
-returns-else-sum-margin c = λ S j i k q after l a w z of. lengthened S j k q l _ _ (rw after at of) (omega arith) (omega arith) (omega arith)
+pub returns : goal.returns
+returns c = λ S j i k q after l a w z of. lengthened S j k q l _ _ (rw after at of) (omega arith) (omega arith) (omega arith)
