@@ -19,12 +19,10 @@ pub fn take_columns(
     requires { HasRecords image.now levels n × (n ≤ length masks.old) × (n ≤ length deadlines.old) × (n ≤ length worst.old) }
     ensures { Columns image.now n masks.new deadlines.new worst.new }
 {
-    let mut a = 0;
-    while a < n {
+    for a in 0..n {
         masks[a] = read::mask_at(image, levels, a);
         deadlines[a] = read::deadline_at(image, levels, a);
         worst[a] = read::worst_at(image, levels, a, 0);
-        a += 1;
     }
 }
 
@@ -42,10 +40,8 @@ pub fn take_row(
     ensures averages_after { averages.new ≡ splice averages.old from (tab (average_of image.now a) levels) }
     ensures worst_after { worst.new ≡ splice worst.old from (tab (worst_of image.now a) levels) }
 {
-    let mut q = 0;
-    while q < levels {
+    for q in 0..levels {
         averages[from + q] = read::average_at(image, levels, a, q);
         worst[from + q] = read::worst_at(image, levels, a, q);
-        q += 1;
     }
 }

@@ -12,25 +12,9 @@ use crate::{column, read};
 pub fn count_out(n: usize, levels: usize, cycle: u32) -> bool
     ensures { (result ≡ true) ↔ CountOut n levels cycle }
 {
-    if n < 1 {
-        return true;
-    }
-    if rules::MOST_ACTIONS < n {
-        return true;
-    }
-    if levels < 1 {
-        return true;
-    }
-    if rules::MOST_LEVELS < levels {
-        return true;
-    }
-    if cycle < 1 {
-        return true;
-    }
-    if rules::LAST_CLOCK < cycle {
-        return true;
-    }
-    false
+    !(1..=rules::MOST_ACTIONS).contains(&n)
+        || !(1..=rules::MOST_LEVELS).contains(&levels)
+        || !(1..=rules::LAST_CLOCK).contains(&cycle)
 }
 
 // 5: a spare bit of the record is set.
@@ -51,10 +35,7 @@ pub fn out_of_range(mask: u64, deadline: u32, cycle: u32, n: usize) -> bool
     requires { n ≤ most_actions }
     ensures { (result ≡ true) ↔ OutOfRange n cycle mask deadline }
 {
-    if cycle < deadline {
-        return true;
-    }
-    !sets::below(mask, n)
+    cycle < deadline || !sets::below(mask, n)
 }
 
 pub fn range_fault(masks: &[u64], deadlines: &[u32], cycle: u32, n: usize) -> Option<usize>
@@ -73,16 +54,7 @@ pub fn range_fault(masks: &[u64], deadlines: &[u32], cycle: u32, n: usize) -> Op
 pub fn level_breaks(average: u32, worst: u32, average_before: u32, worst_before: u32) -> bool
     ensures { (result ≡ true) ↔ LevelBreaks average worst average_before worst_before }
 {
-    if worst < average {
-        return true;
-    }
-    if average < average_before {
-        return true;
-    }
-    if worst < worst_before {
-        return true;
-    }
-    false
+    worst < average || average < average_before || worst < worst_before
 }
 
 // 7, of one action: its times, which stand in both tables from index `from` on, break the rule at some level.
@@ -93,8 +65,7 @@ pub fn row_breaks(averages: &[u32], worst: &[u32], from: usize, levels: usize) -
     // The times at the level before. Level 0 has none, and no time is below 0.
     let mut average_before = 0;
     let mut worst_before = 0;
-    let mut q = 0;
-    while q < levels {
+    for q in 0..levels {
         let average = averages[from + q];
         let longest = worst[from + q];
         if level_breaks(average, longest, average_before, worst_before) {
@@ -102,7 +73,6 @@ pub fn row_breaks(averages: &[u32], worst: &[u32], from: usize, levels: usize) -
         }
         average_before = average;
         worst_before = longest;
-        q += 1;
     }
     false
 }

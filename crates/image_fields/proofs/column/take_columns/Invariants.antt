@@ -1,5 +1,5 @@
 use mathlib.Core.Path.{◌≡◌}
-use Prim.Native.Nat.{◌≤◌, ◌-◌}
+use Prim.Native.Nat.{◌≤◌}
 use lib.ListN.{length}
 use Rattle.image_fields.specs.Reading.{Columns}
 use Rattle.image_fields.proofs.column.take_columns.Given as goal
@@ -11,6 +11,3 @@ invariant-loop-a l =
     × (length l.deadlines ≡ length l.initial.deadlines)
     × (length l.worst ≡ length l.initial.worst)
     × Columns l.image l.a l.masks l.deadlines l.worst
-
-abbrev pub decreases-loop-a : goal.decreases-loop-a
-decreases-loop-a l = l.n - l.a

@@ -1,5 +1,5 @@
 use mathlib.Core.Path.{◌≡◌}
-use Prim.Native.Nat.{◌-◌, ◌≤◌}
+use Prim.Native.Nat.{◌≤◌}
 use lib.ListN.{length}
 use Rattle.rules.specs.Words.{tab}
 use Rattle.rules.specs.Image.{average_of, worst_of}
@@ -13,6 +13,3 @@ invariant-loop-q l =
     × (length l.worst ≡ length l.initial.worst)
     × (l.averages ≡ splice l.initial.averages l.from (tab (average_of l.image l.a) l.q))
     × (l.worst ≡ splice l.initial.worst l.from (tab (worst_of l.image l.a) l.q))
-
-abbrev pub decreases-loop-q : goal.decreases-loop-q
-decreases-loop-q l = l.levels - l.q

@@ -1,5 +1,5 @@
 use mathlib.Core.Path.{◌≡◌}
-use Prim.Native.Nat.{◌-◌, ◌≤◌}
+use Prim.Native.Nat.{◌≤◌}
 use Rattle.rules.proofs.Faults.{Faultless}
 use Rattle.image_fields.specs.Faults.{row}
 use Rattle.image_fields.proofs.Faults.{before, Breaks}
@@ -11,6 +11,3 @@ invariant-loop-q l =
     × (l.average_before ≡ before (row l.averages l.from) l.q)
     × (l.worst_before ≡ before (row l.worst l.from) l.q)
     × Faultless (Breaks (row l.averages l.from) (row l.worst l.from)) l.q
-
-abbrev pub decreases-loop-q : goal.decreases-loop-q
-decreases-loop-q l = l.levels - l.q

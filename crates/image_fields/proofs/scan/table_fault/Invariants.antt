@@ -6,4 +6,3 @@ use Rattle.image_fields.proofs.scan.table_fault.Given as goal
 
 abbrev pub invariant-loop-a : goal.invariant-loop-a
 invariant-loop-a l = (l.a ≤ l.n) × Faultless (λ k. RowBreaks l.levels (average_of l.image k) (worst_of l.image k)) l.a
-
