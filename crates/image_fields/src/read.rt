@@ -10,7 +10,7 @@ pub fn header(image: &[u8]) -> Header
     requires { 6 ≤ length image.now }
     ensures { HeaderOf image.now result }
 {
-    let bits = fields::be48(image, 0);
+    let bits = fields::big_endian::<6>(image, 0);
     Header {
         version: (bits / rules::VERSION_WORTH) as u32,
         n: (bits / rules::ACTIONS_WORTH % rules::ACTIONS_SAID) as usize,
@@ -34,7 +34,7 @@ pub fn mask_at(image: &[u8], levels: usize, a: usize) -> u64
     requires { HasRecord image.now levels a }
     ensures { result ≡ mask_of image.now a }
 {
-    fields::be64(image, record_at(levels, a))
+    fields::big_endian::<8>(image, record_at(levels, a))
 }
 
 pub fn deadline_at(image: &[u8], levels: usize, a: usize) -> u32

@@ -23,8 +23,8 @@ fn put_level(image: &mut [u8], at: usize, average: u32, worst: u32)
     requires { at + 6 ≤ length image.old }
     ensures { image.new ≡ splice image.old at (bytes 3 average ++ bytes 3 worst) }
 {
-    fields::put24(image, at, average);
-    fields::put24(image, at + 3, worst);
+    fields::put_be(image, at, u64::from(average), 3);
+    fields::put_be(image, at + 3, u64::from(worst), 3);
 }
 
 // The levels of action a.
@@ -36,15 +36,13 @@ fn put_levels(image: &mut [u8], at: usize, levels: usize, averages: &[u32], wors
         (record { masks = []; deadlines = []; averages = averages.now; worst = worst.now })) a) levels) }
 {
     let row = a * levels;
-    let mut q = 0;
-    while q < levels {
+    for q in 0..levels {
         put_level(
             image,
             at + q * rules::LEVEL_BYTES,
             averages[row + q],
             worst[row + q],
         );
-        q += 1;
     }
 }
 
@@ -66,13 +64,10 @@ fn put_record(
         a) }
 {
     let at = record_at(levels, a);
-    fields::put64(image, at, masks[a]);
+    fields::put_be(image, at, masks[a], 8);
     // The two low bits are spare.
-    fields::put32(
-        image,
-        at + rules::DEADLINE_AT,
-        deadlines[a] * rules::DEADLINE_WORTH,
-    );
+    let deadline = u64::from(deadlines[a] * rules::DEADLINE_WORTH);
+    fields::put_be(image, at + rules::DEADLINE_AT, deadline, 4);
     put_levels(image, at + rules::HEAD_BYTES, levels, averages, worst, a);
 }
 
@@ -93,10 +88,8 @@ fn put_records(
         (record { masks = masks.now; deadlines = deadlines.now; averages = averages.now; worst = worst.now })))
         n) }
 {
-    let mut a = 0;
-    while a < n {
+    for a in 0..n {
         put_record(image, levels, masks, deadlines, averages, worst, a);
-        a += 1;
     }
 }
 
@@ -107,11 +100,8 @@ fn put_header(image: &mut [u8], n: usize, levels: usize, cycle: u32)
         (record { masks = []; deadlines = []; averages = []; worst = [] })))) }
 {
     let counts = (rules::VERSION_BEFORE + n as u64) * rules::LEVELS_SAID + levels as u64;
-    fields::put48(
-        image,
-        0,
-        counts * rules::LEVELS_WORTH + cycle as u64 * rules::CYCLE_WORTH,
-    );
+    let header = counts * rules::LEVELS_WORTH + u64::from(cycle) * rules::CYCLE_WORTH;
+    fields::put_be(image, 0, header, 6);
 }
 
 // The whole image.

@@ -31,10 +31,10 @@ fn four(s: &[u8], at: usize) -> u32
     requires { at + 4 ≤ length s.now }
     ensures { result % 256 ≡ get_or s.now at 0 }
 {
-    fields::wide32(s[at])
-        + fields::wide32(s[at + 1]) * 256
-        + fields::wide32(s[at + 2]) * 65_536
-        + fields::wide32(s[at + 3]) * 16_777_216
+    u32::from(s[at])
+        + u32::from(s[at + 1]) * 256
+        + u32::from(s[at + 2]) * 65_536
+        + u32::from(s[at + 3]) * 16_777_216
 }
 
 // Whether each of the first `cells` entries is at most 16,777,215, used or not: whether its first byte is 0. The bits of all are joined, so that

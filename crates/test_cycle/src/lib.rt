@@ -319,7 +319,7 @@ fn say_bytes<R: Print>(rt: &R, words: &[u8], row: [u8; 24], shown: u32) -> io::R
     rt.write_all(words)?;
     let mut k = 0;
     while k < end {
-        say_number(rt, b" ", fields::wide32(row[k]))?;
+        say_number(rt, b" ", u32::from(row[k]))?;
         k += 1;
     }
     Ok(())

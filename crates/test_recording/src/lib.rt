@@ -209,7 +209,7 @@ fn fill(frame: &mut [u8], row: [u32; 24], from: usize, levels: usize)
     let mut k = 0;
     while k < frame.len() / rules::DURATION_BYTES {
         let at = k * rules::DURATION_BYTES;
-        fields::put32(frame, at, duration(row, from, k / levels));
+        fields::put_be(frame, at, u64::from(duration(row, from, k / levels)), 4);
         k += 1;
     }
 }

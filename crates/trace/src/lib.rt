@@ -34,7 +34,7 @@ pub fn record_at(trace: &[u8], r: usize) -> Entry
     requires { r * entry_bytes + entry_bytes ≤ length trace.now }
     ensures { IsRecord trace.now r result }
 {
-    let first = fields::wide32(trace[r * rules::ENTRY_BYTES]);
+    let first = u32::from(trace[r * rules::ENTRY_BYTES]);
     let rest = fields::be32(trace, r * rules::ENTRY_BYTES + 1);
     Entry {
         open: first / OPEN_WORTH == 1,

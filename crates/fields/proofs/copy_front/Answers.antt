@@ -1,14 +1,20 @@
--- The first k bytes are copied. Assumes nothing.
-use native.Mathlib.Omega.{arith}
-use borrow.Author.Rules.{rules}
-use Rattle.fields.proofs.Cats.{cat-none}
-use Rattle.fields.proofs.Tabs.{tab-more}
+-- The first n bytes of a list are the table of them. Assumes nothing.
+use mathlib.Core.Path.{◌≡◌, ◌∙◌}
+use mathlib.Core.List.{List, ◌++◌}
+use Prim.Native.Nat.{ℕ, ◌≤◌}
+use native.Mathlib.Nat.{zero-add}
+use lib.ListN.{length, get_or, take, drop}
+use lib.Seq.{length-take-le, get_or-take}
+use Rattle.rules.specs.Words.{tab}
+use Rattle.fields.specs.Fields.{splice}
+use Rattle.fields.proofs.Tabs.{tab-is, length-tab}
 use Rattle.fields.proofs.copy_front.Goals as goal
 
-pub loop-k-init : goal.loop-k-init
-loop-k-init c = (search rules, search rules, cat-none _ _ _)
+copied : (out from : List ℕ) {front : List ℕ} (n : ℕ) → n ≤ length from → front ≡ take n from → front ++ drop n out ≡ splice out 0 (tab (λ k. get_or from k 0) n)
+unfolding splice
+copied out from n h is =
+    let taken : take n from ≡ tab (λ k. get_or from k 0) n = tab-is (λ k. get_or from k 0) (take n from) 0 n (length-take-le n from h) (λ k b. get_or-take n from k 0 b) in
+    rw (zero-add, length-tab (λ k. get_or from k 0) n, is ∙ taken)
 
-pub loop-k-preserved : goal.loop-k-preserved
-loop-k-preserved c =
-    let t = c.loop-k in
-    (search rules, search rules, tab-more _ _ 0 t.k t.k (omega arith) (omega arith) t.invariant.1 (search rules) t.invariant.2)
+pub returns : goal.returns
+returns c = copied _ _ c.args.n c.requires.0 c.copy_from_slice.ensures.after

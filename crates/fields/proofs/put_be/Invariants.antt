@@ -8,6 +8,3 @@ use Rattle.fields.proofs.put_be.Given as goal
 abbrev pub invariant-loop-j : goal.invariant-loop-j
 invariant-loop-j l =
     (l.j ≤ l.w) × (length l.out ≡ length l.initial.out) × (l.out ≡ splice l.initial.out (l.at + l.j) (bytes (l.w - l.j) l.v)) × (l.rest ≡ l.v / 256 ^ (l.w - l.j))
-
-abbrev pub decreases-loop-j : goal.decreases-loop-j
-decreases-loop-j l = l.j

@@ -4,4 +4,4 @@ use Rattle.image_pack.proofs.put_header.Goals as goal
 
 pub returns : goal.returns
 unfolding of_tables header_of
-returns c = c.put48.ensures
+returns c = rw c.from.ensures at c.put_be.ensures

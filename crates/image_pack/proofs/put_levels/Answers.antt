@@ -10,7 +10,7 @@ use Rattle.image_laws.proofs.Sizes.{length-level}
 use Rattle.image_pack.proofs.put_levels.Goals as goal
 
 pub loop-q-init : goal.loop-q-init
-loop-q-init c = (search rules, search rules, cat-none _ _ _)
+loop-q-init c = (search rules, cat-none _ _ _)
 
 pub loop-q-preserved : goal.loop-q-preserved
 unfolding of_tables level_image
@@ -18,6 +18,5 @@ loop-q-preserved c =
     let x = c.args in
     let F : Profile = of_records x.levels (record { masks = []; deadlines = []; averages = x.averages.now; worst = x.worst.now }) in (
       search rules,
-      search rules,
-      cat-more (level_image F x.a) 6 (length-level F x.a) _ _ _ _ (omega arith) refl c.loop-q.invariant.2 c.put_level.ensures,
+      cat-more (level_image F x.a) 6 (length-level F x.a) _ _ _ _ (omega arith) refl c.loop-q.invariant.1 c.put_level.ensures,
     )

@@ -1,4 +1,3 @@
-use Prim.Native.Nat.{◌-◌, ◌≤◌}
 use mathlib.Core.Path.{◌≡◌}
 use mathlib.Core.List.{[]}
 use lib.ListN.{length}
@@ -10,11 +9,7 @@ use Rattle.image_pack.proofs.put_levels.Given as goal
 
 abbrev pub invariant-loop-q : goal.invariant-loop-q
 invariant-loop-q l =
-    (l.q ≤ l.levels)
-    × (length l.image ≡ length l.initial.image)
+    (length l.image ≡ length l.initial.image)
     × (l.image
     ≡ splice l.initial.image l.at
     (cat (level_image (of_records l.levels (record { masks = []; deadlines = []; averages = l.averages; worst = l.worst })) l.a) l.q))
-
-abbrev pub decreases-loop-q : goal.decreases-loop-q
-decreases-loop-q l = l.levels - l.q

@@ -6,14 +6,14 @@ use Rattle.image_pack.proofs.Sizes.{record_end}
 use Rattle.image_pack.proofs.Images.{record_written}
 use Rattle.image_pack.proofs.put_record.Goals as goal
 
-pub put64-requires : goal.put64-requires
-put64-requires c = omega (arith, record_end c.args.levels c.args.a)
+pub put_be-requires : goal.put_be-requires
+put_be-requires c = omega (arith, record_end c.args.levels c.args.a)
 
 pub overflow_add-at : goal.overflow_add-at
 overflow_add-at c = omega (arith, record_end c.args.levels c.args.a)
 
-pub put32-requires : goal.put32-requires
-put32-requires c = omega (arith, record_end c.args.levels c.args.a)
+pub put_be-requires-2 : goal.put_be-requires-2
+put_be-requires-2 c = omega (arith, record_end c.args.levels c.args.a)
 
 pub overflow_add-at-2 : goal.overflow_add-at-2
 overflow_add-at-2 c = omega (arith, record_end c.args.levels c.args.a)
@@ -27,4 +27,4 @@ returns c =
     let x = c.args in
     let T : ProfileTables = record { masks = x.masks.now; deadlines = x.deadlines.now; averages = x.averages.now; worst = x.worst.now } in
     record_written (of_records x.levels T) _ x.a _
-    c.record_at-at.ensures c.requires.levels_in_bounds.0 c.put64.auto.out c.put64.ensures c.put32.ensures c.put_levels.ensures
+    c.record_at-at.ensures c.requires.levels_in_bounds.0 c.put_be.auto.out c.put_be.ensures (rw c.from-deadline.ensures at c.put_be-2.ensures) c.put_levels.ensures

@@ -11,7 +11,7 @@ use Rattle.image_pack.proofs.Sizes.{roomy_first, image-first, record_end}
 use Rattle.image_pack.proofs.put_records.Goals as goal
 
 pub loop-a-init : goal.loop-a-init
-loop-a-init c = (search rules, search rules, cat-none _ _ _)
+loop-a-init c = (search rules, cat-none _ _ _)
 
 pub put_record-requires : goal.put_record-requires
 put_record-requires c =
@@ -28,8 +28,7 @@ loop-a-preserved c =
     let T : ProfileTables = record { masks = x.masks.now; deadlines = x.deadlines.now; averages = x.averages.now; worst = x.worst.now } in
     let F : Profile = of_records x.levels T in (
       search rules,
-      search rules,
       cat-more (record_image F) (record_bytes x.levels) (length_record F) _ _ _ a
           (omega (arith, record_end x.levels a, image-first (a + 1) x.n x.levels (omega arith)))
-          refl c.loop-a.invariant.2 c.put_record.ensures,
+          refl c.loop-a.invariant.1 c.put_record.ensures,
     )

@@ -1,4 +1,3 @@
-use Prim.Native.Nat.{◌-◌, ◌≤◌}
 use mathlib.Core.Path.{◌≡◌}
 use lib.ListN.{length}
 use Rattle.rules.specs.Words.{cat}
@@ -10,11 +9,7 @@ use Rattle.image_pack.proofs.put_records.Given as goal
 
 abbrev pub invariant-loop-a : goal.invariant-loop-a
 invariant-loop-a l =
-    (l.a ≤ l.n)
-    × (length l.image ≡ length l.initial.image)
+    (length l.image ≡ length l.initial.image)
     × (l.image
     ≡ splice l.initial.image header_bytes
     (cat (record_image (of_records l.levels (record { masks = l.masks; deadlines = l.deadlines; averages = l.averages; worst = l.worst }))) l.a))
-
-abbrev pub decreases-loop-a : goal.decreases-loop-a
-decreases-loop-a l = l.n - l.a

@@ -5,7 +5,7 @@ use Rattle.trace.proofs.record_at.Goals as goal
 pub returns : goal.returns
 returns c =
     let x = c.args in
-    let first = c.wide32-first.ensures.0 in
+    let first = c.from-first.ensures in
     let (rest, low) = c.be32-rest.ensures in
     record {
       opened = opened x.trace.now x.r _ _ first rest low;

@@ -2,10 +2,10 @@ use borrow.Author.Rules.{rules}
 use Rattle.rules.specs.Image.{record_bytes, mask_of}
 use Rattle.image_fields.proofs.read.mask_at.Goals as goal
 
-pub be64-requires : goal.be64-requires
+pub big_endian-requires : goal.big_endian-requires
 unfolding record_bytes
-be64-requires c = search rules
+big_endian-requires c = search rules
 
 pub returns : goal.returns
 unfolding mask_of
-returns c = rw (c.be64.ensures.0, c.record_at.ensures, c.requires.said)
+returns c = rw (c.big_endian.ensures.0, c.record_at.ensures, c.requires.said)
