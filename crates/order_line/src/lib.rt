@@ -15,10 +15,8 @@ pub fn lower_alone(masks: &[u64], n: usize) -> bool
     ensures { (result ≡ true) ↔ LowerAlone n masks.now }
 {
     let mut higher: u64 = 0;
-    let mut a: usize = 0;
-    while a < n {
+    for a in 0..n {
         higher = higher | (masks[a] >> a);
-        a += 1;
     }
     higher == 0
 }
@@ -29,10 +27,8 @@ pub fn number(n: usize, at: &mut [u8; 64])
     ensures by_index { (k : ℕ) → k < n → get_or at.new k 0 ≡ k }
     ensures rest { (k : ℕ) → n ≤ k → get_or at.new k 0 ≡ get_or at.old k 0 }
 {
-    let mut k: usize = 0;
-    while k < n {
+    for k in 0..n {
         at[k] = k as u8;
-        k += 1;
     }
 }
 

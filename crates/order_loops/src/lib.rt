@@ -18,11 +18,7 @@ fn copied(masks: &[u64], n: usize) -> [u64; 64]
     ensures each { (a : ℕ) → a < n → get_or result a 0 ≡ get_or masks.now a 0 }
 {
     let mut all = [0u64; 64];
-    let mut a: usize = 0;
-    while a < n {
-        all[a] = masks[a];
-        a += 1;
-    }
+    all[..n].copy_from_slice(&masks[..n]);
     all
 }
 
@@ -32,13 +28,11 @@ fn through(all: &mut [u64; 64], n: usize, k: usize)
     ensures { (masks : List ℕ) → Rows masks n k all.old → Rows masks n (k + 1) all.new }
 {
     let far = all[k];
-    let mut b: usize = 0;
-    while b < n {
+    for b in 0..n {
         let near = all[b];
         if member(near, k) {
             all[b] = near | far;
         }
-        b += 1;
     }
 }
 
@@ -48,10 +42,8 @@ fn closed(masks: &[u64], n: usize) -> [u64; 64]
     ensures { Rows masks.now n n result }
 {
     let mut all = copied(masks, n);
-    let mut k: usize = 0;
-    while k < n {
+    for k in 0..n {
         through(&mut all, n, k);
-        k += 1;
     }
     all
 }
@@ -63,12 +55,10 @@ fn looped(masks: &[u64], n: usize) -> u64
 {
     let all = closed(masks, n);
     let mut set: u64 = 0;
-    let mut a: usize = 0;
-    while a < n {
+    for a in 0..n {
         if member(all[a], a) {
             set = with(set, a);
         }
-        a += 1;
     }
     set
 }

@@ -1,5 +1,5 @@
 -- An urgency handed on to each member of a set, lowest first.
-use mathlib.Core.Path.{◌≡◌, refl, sym, ap, subst, ◌∙◌}
+use mathlib.Core.Path.{◌≡◌, sym, ap, subst, ◌∙◌}
 use mathlib.Core.Bool.{Bool, true, false, not, ◌&&◌, and-true, and-false, and-not_self}
 use mathlib.Core.Logic.{◌⊎◌, inl, inr}
 use mathlib.Core.List.{List}
@@ -61,14 +61,10 @@ module _ {mask x t b t' : ℕ} {u v : List ℕ} (h : Handing mask x u v t) (low 
       each j l (inr n) = same j n ∙ h.handed.each j l
           ∙ sym (ap (λ (y : Bool). lowered y x (get_or u j 0)) (ap (λ (y : Bool). has mask j && not y) (kept w j n)))
 
-  -- b was less urgent
-  pub handing_take : x < get_or v b 0 → Handing mask x u (set v b x) t'
-  handing_take m = handing_more (length-set v b x ∙ h.handed.long) (λ j n. get_or-set_other v b j x 0 (λ e. n (sym e)))
-      (get_or-set_same v b x 0 (omega (arith, h.handed.long, low.small)) ∙ omega (arith, before_b))
-
-  -- b was as urgent
-  pub handing_keep : get_or v b 0 ≤ x → Handing mask x u v t'
-  handing_keep m = handing_more h.handed.long (λ j n. refl) (omega (arith, before_b))
+  -- b gets its due
+  pub handing_min : {y : ℕ} → y ≡ min x (get_or v b 0) → Handing mask x u (set v b y) t'
+  handing_min {y} e = handing_more (length-set v b y ∙ h.handed.long) (λ j n. get_or-set_other v b j y 0 (λ q. n (sym q)))
+      (get_or-set_same v b y 0 (omega (arith, h.handed.long, low.small)) ∙ e ∙ ap (min x) before_b)
 
 -- ---- what came of it
 

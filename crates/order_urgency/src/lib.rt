@@ -27,10 +27,8 @@ fn dues(deadlines: &[u32], cycle: u32, n: usize, u: &mut [u32; 64])
     ensures long { length u.new ≡ most_actions }
     ensures each { (a : ℕ) → a < n → get_or u.new a 0 ≡ due (lent_profile n cycle [] deadlines.now [] 0) a }
 {
-    let mut a: usize = 0;
-    while a < n {
+    for a in 0..n {
         u[a] = due(deadlines[a], cycle);
-        a += 1;
     }
 }
 
@@ -44,10 +42,8 @@ pub fn one_deadline(deadlines: &[u32], cycle: u32, n: usize) -> bool
     }
     let first = due(deadlines[0], cycle);
     let mut other: u32 = 0;
-    let mut a: usize = 0;
-    while a < n {
+    for a in 0..n {
         other = other | (due(deadlines[a], cycle) ^ first);
-        a += 1;
     }
     other == 0
 }
@@ -62,9 +58,7 @@ fn hand_each(to: u64, x: u32, u: &mut [u32; 64])
     let mut t = to;
     while t != 0 {
         let b = lowest(t);
-        if x < u[b] {
-            u[b] = x;
-        }
+        u[b] = x.min(u[b]);
         t = above_lowest(t);
     }
 }
@@ -74,9 +68,7 @@ fn give(masks: &[u64], t: u64, b: usize, x: u32, u: &mut [u32; 64]) -> u64
     requires { (b < most_actions) × (b < length masks.now) × (length u.old ≡ most_actions) }
     ensures { Given masks.now t b x u.old u.new result }
 {
-    if x < u[b] {
-        u[b] = x;
-    }
+    u[b] = x.min(u[b]);
     without(t & !masks[b], b)
 }
 
@@ -133,9 +125,7 @@ fn last_first(masks: &[u64], order: &[u8; 64], n: usize, u: &mut [u32; 64])
     ensures { Spread n masks.now u.old u.new }
 {
     let all = all_below(n);
-    let mut k = n;
-    while 0 < k {
-        k -= 1;
+    for k in (0..n).rev() {
         let a = order[k] as usize;
         let x = u[a];
         hand_on(masks, masks[a] & all, x, u);

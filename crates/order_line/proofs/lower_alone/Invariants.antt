@@ -1,11 +1,7 @@
-use Prim.Native.Nat.{◌-◌, ◌≤◌}
 use lib.ListN.{get_or}
 use Rattle.sets.specs.Sets.{Below}
 use Rattle.order_line.proofs.Numbering.{Tested}
 use Rattle.order_line.proofs.lower_alone.Given as goal
 
 abbrev pub invariant-loop-a : goal.invariant-loop-a
-invariant-loop-a l = (l.a ≤ l.n) × Tested (λ b. Below (get_or l.masks b 0) b) l.a l.higher
-
-abbrev pub decreases-loop-a : goal.decreases-loop-a
-decreases-loop-a l = l.n - l.a
+invariant-loop-a l = Tested (λ b. Below (get_or l.masks b 0) b) l.a l.higher

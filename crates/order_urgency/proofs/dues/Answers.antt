@@ -7,7 +7,6 @@ use Rattle.order_urgency.proofs.dues.Goals as goal
 pub loop-a-preserved : goal.loop-a-preserved
 unfolding due
 loop-a-preserved c = (
-  omega arith,
-  simp length-set c.loop-a.invariant.1,
-  filled_more _ c.loop-a.a c.due.result c.loop-a.u (omega (arith, c.loop-a.invariant.1)) c.loop-a.invariant.2 c.due.ensures,
+  simp length-set c.loop-a.invariant.0,
+  filled_more _ c.loop-a.a c.due.result c.loop-a.u (omega (arith, c.loop-a.invariant.0)) c.loop-a.invariant.1 c.due.ensures,
 )

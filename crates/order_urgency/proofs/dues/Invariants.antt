@@ -1,6 +1,5 @@
 use mathlib.Core.Path.{◌≡◌}
 use mathlib.Core.List.{[]}
-use Prim.Native.Nat.{◌-◌, ◌≤◌}
 use lib.ListN.{length}
 use Rattle.rules.specs.Image.{due}
 use Rattle.order_urgency.specs.Lent.{lent_profile}
@@ -8,7 +7,4 @@ use Rattle.sets.proofs.Lists.{Filled}
 use Rattle.order_urgency.proofs.dues.Given as goal
 
 abbrev pub invariant-loop-a : goal.invariant-loop-a
-invariant-loop-a l = (l.a ≤ l.n) × (length l.u ≡ 64) × Filled (due (lent_profile l.n l.cycle [] l.deadlines [] 0)) l.a l.u
-
-abbrev pub decreases-loop-a : goal.decreases-loop-a
-decreases-loop-a l = l.n - l.a
+invariant-loop-a l = (length l.u ≡ 64) × Filled (due (lent_profile l.n l.cycle [] l.deadlines [] 0)) l.a l.u

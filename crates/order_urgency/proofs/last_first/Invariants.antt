@@ -1,4 +1,4 @@
-use Prim.Native.Nat.{◌≤◌, ◌<◌}
+use Prim.Native.Nat.{◌<◌}
 use lib.ListN.{get_or}
 use Rattle.rules.specs.Order.{Order, Permitted}
 use Rattle.sets.specs.Sets.{comes_before}
@@ -8,7 +8,4 @@ use Rattle.order_urgency.proofs.last_first.Given as goal
 
 abbrev pub invariant-loop-k : goal.invariant-loop-k
 invariant-loop-k l =
-    (l.k ≤ l.n) × ((o : Order l.n) → Permitted (comes_before l.masks) o → Lists l.order o → Turns l.n l.masks (λ a. get_or l.initial.u a 0) (λ a. o.pos a < l.k) l.u)
-
-abbrev pub decreases-loop-k : goal.decreases-loop-k
-decreases-loop-k l = l.k
+    ((o : Order l.n) → Permitted (comes_before l.masks) o → Lists l.order o → Turns l.n l.masks (λ a. get_or l.initial.u a 0) (λ a. o.pos a < l.k) l.u)

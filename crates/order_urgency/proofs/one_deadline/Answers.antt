@@ -16,9 +16,9 @@ pub loop-a-preserved : goal.loop-a-preserved
 unfolding due
 loop-a-preserved c =
     let same = same-exact c.due.result c.due-first.result in
-    (omega arith, tested-more _ _ _ _ (λ e. sym c.due.ensures ∙ same.0 e, λ e. same.1 (c.due.ensures ∙ e)) c.loop-a.invariant.1)
+    tested-more _ _ _ _ (λ e. sym c.due.ensures ∙ same.0 e, λ e. same.1 (c.due.ensures ∙ e)) c.loop-a.invariant
 
 pub returns : goal.returns
 unfolding due
 returns c =
-    one_end (said (goal.at.returns c).Start) (omega (arith, c.if-n-eq0.false)) c.loop-a-test.false c.loop-a.invariant.0 c.due-first.ensures c.loop-a.invariant.1
+    one_end (said (goal.at.returns c).Start) (omega (arith, c.if-n-eq0.false)) c.loop-a-test.false c.loop-a.auto.a-end c.due-first.ensures c.loop-a.invariant
