@@ -51,9 +51,7 @@ pub fn unpack(
     ensures averages_after { averages.new ≡ splice averages.old 0 (rows (average_of image.now) n levels) }
     ensures worst_after { worst.new ≡ splice worst.old 0 (rows (worst_of image.now) n levels) }
 {
-    let mut a = 0;
-    while a < n {
+    for a in 0..n {
         unpack_record(image, levels, a, masks, deadlines, averages, worst);
-        a += 1;
     }
 }

@@ -11,6 +11,7 @@ use lib.Signed.{lt_z, le_z, mag}
 use mir.Syntax.{w32}
 use mir.Val.{to_z, of_z}
 use mir.Facts.{to_z-of_z}
+use Rattle.std.specs.Int.{int_min}
 use Rattle.rules.specs.Words.{minZ}
 use Rattle.rules.specs.Limits.{absent}
 use Rattle.rules.proofs.Limits.Signed.{AtMost, at-most-min, settled}
@@ -38,6 +39,10 @@ pub as_is : (z : ℤ) → mag z < 2147483648 → to_z w32 (of_z w32 z) ≡ z
 as_is z h = to_z-of_z {w = w32} (record { sfits = h })
 
 -- ---- which is the lesser
+
+-- as `min` has it
+pub min-is : (x y : ℤ) → int_min x y ≡ minZ x y
+min-is x y = grind arith
 
 pub lesser_left : (a b : ℤ) → ((t c : ℕ) → AtMost t c a → AtMost t c b) → minZ a b ≡ a
 lesser_left a b h = settled (minZ a b) a (λ t c. ((λ m. ((at-most-min t c a b).0 m).0), (λ m. (at-most-min t c a b).1 (m, h t c m))))

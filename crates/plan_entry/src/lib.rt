@@ -10,12 +10,6 @@ ghost use Rattle.fields.specs.Fields.{splice};
 ghost use Rattle.plan_entry.specs.Rows.{latest_start, Held, limit_of, carried_of, after_last, SmallStart};
 ghost use Rattle.plan_entry.specs.Bounds.{bound_by, bounds_by, bound_in, signed_end, Spares};
 
-fn lesser(a: i32, b: i32) -> i32
-    ensures { result ≡ minZ a b }
-{
-    if a <= b { a } else { b }
-}
-
 // The latest start of what takes `time` and ends by `limit`.
 pub fn minus(limit: i32, time: u32) -> i32
     requires { mag limit + time < signed_end }
@@ -31,7 +25,7 @@ fn latest_start(deadline: u32, after: i32, time: u32) -> i32
     requires { SmallStart deadline after time }
     ensures { result ≡ latest_start deadline after time }
 {
-    minus(lesser(deadline as i32, after), time)
+    minus((deadline as i32).min(after), time)
 }
 
 // What the row after it carries, held to a deadline: in 2005 the averages are tested against that too. In 2008 the safe test is enough, so that
@@ -48,11 +42,8 @@ pub fn held_to(
         return next;
     }
     let mut held = [0i32; rules::MOST_LEVELS];
-    let mut q = 0;
-    while q < rules::MOST_LEVELS {
-        let after = next[q];
-        held[q] = lesser(deadline as i32, after);
-        q += 1;
+    for q in 0..rules::MOST_LEVELS {
+        held[q] = (deadline as i32).min(next[q]);
     }
     held
 }
@@ -63,7 +54,7 @@ pub fn limit_of(deadline: u32, first: i32, worst: u32, room: i32) -> i32
     ensures { result ≡ limit_of deadline first worst room }
 {
     let safe = latest_start(deadline, first, worst);
-    lesser(room, safe)
+    room.min(safe)
 }
 
 // What a row carries on to the position before it: the limit, but in 2005 the averages alone. The worst times are met at level 0, where it is
@@ -99,7 +90,7 @@ fn bound_of(limit: i32, worst: u32, after: i32) -> i32
     requires { Spares worst after }
     ensures { result ≡ bound_by limit worst after }
 {
-    lesser(limit, minus(after, spent_before(worst, after)))
+    limit.min(minus(after, spent_before(worst, after)))
 }
 
 // The sixteen of an entry from those of the position after it, which are one action less.
@@ -108,11 +99,8 @@ fn bounds_by(limit: i32, worst: u32, after: [i32; rules::LONGEST_COAST], out: &m
     ensures { out.new ≡ splice out.old at (bounds_by limit worst (λ k. get_or after k (pos 0))) }
 {
     out[at] = limit;
-    let mut k = 0;
-    while k + 1 < rules::LONGEST_COAST {
-        let bound = bound_of(limit, worst, after[k]);
-        out[at + 1 + k] = bound;
-        k += 1;
+    for k in 0..rules::LONGEST_COAST - 1 {
+        out[at + 1 + k] = bound_of(limit, worst, after[k]);
     }
 }
 
@@ -122,12 +110,7 @@ fn sixteen(bounds: &[i32], at: usize) -> [i32; rules::LONGEST_COAST]
     ensures { (k : ℕ) → k < longest_coast → get_or result k (pos 0) ≡ get_or bounds.now (at + k) (pos 0) }
 {
     let mut row = [0i32; rules::LONGEST_COAST];
-    let mut k = 0;
-    while k < rules::LONGEST_COAST {
-        let bound = bounds[at + k];
-        row[k] = bound;
-        k += 1;
-    }
+    row.copy_from_slice(&bounds[at..at + rules::LONGEST_COAST]);
     row
 }
 

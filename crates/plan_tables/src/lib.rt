@@ -31,8 +31,7 @@ fn work_row(
 {
     let first = held[0];
     let mut here = [0i32; rules::MOST_LEVELS];
-    let mut q = 0;
-    while q < levels {
+    for q in 0..levels {
         let average = read::average_at(image, levels, a, q);
         let longest = read::worst_at(image, levels, a, q);
         let after = held[q];
@@ -42,7 +41,6 @@ fn work_row(
         limits[from + q] = limit;
         worst[from + q] = longest;
         plan_entry::bounds_of(limit, longest, from + q, levels, entries, bounds);
-        q += 1;
     }
     here
 }
@@ -68,9 +66,7 @@ fn work(
 {
     let entries = n * levels;
     let mut next = plan_entry::after_last();
-    let mut i = n;
-    while 0 < i {
-        i -= 1;
+    for i in (0..n).rev() {
         let a = actions[i] as usize;
         let from = i * levels;
         let due = read::due_at(image, levels, a, cycle);

@@ -9,7 +9,7 @@ use Rattle.image_fields.proofs.Reading.{has_record}
 use Rattle.image_read.proofs.unpack.Goals as goal
 
 pub loop-a-init : goal.loop-a-init
-loop-a-init c = (search rules, search rules, search rules, search rules, search rules, cat-none _ _ _, cat-none _ _ _, cat-none _ _ _, cat-none _ _ _)
+loop-a-init c = (search rules, search rules, search rules, search rules, cat-none _ _ _, cat-none _ _ _, cat-none _ _ _, cat-none _ _ _)
 
 pub loop-a-preserved : goal.loop-a-preserved
 loop-a-preserved c =
@@ -21,11 +21,10 @@ loop-a-preserved c =
       search rules,
       search rules,
       search rules,
-      search rules,
-      cat-more _ 1 (λ k. refl) _ 0 _ i.a (omega arith) (omega arith) i.invariant.5 e.masks_after,
-      cat-more _ 1 (λ k. refl) _ 0 _ i.a (omega arith) (omega arith) i.invariant.6 e.deadlines_after,
-      cat-more _ x.levels (λ k. length-tab _ x.levels) _ 0 _ i.a (omega arith) (omega arith) i.invariant.7 e.averages_after,
-      cat-more _ x.levels (λ k. length-tab _ x.levels) _ 0 _ i.a (omega arith) (omega arith) i.invariant.8 e.worst_after,
+      cat-more _ 1 (λ k. refl) _ 0 _ i.a (omega arith) (omega arith) i.invariant.4 e.masks_after,
+      cat-more _ 1 (λ k. refl) _ 0 _ i.a (omega arith) (omega arith) i.invariant.5 e.deadlines_after,
+      cat-more _ x.levels (λ k. length-tab _ x.levels) _ 0 _ i.a (omega arith) (omega arith) i.invariant.6 e.averages_after,
+      cat-more _ x.levels (λ k. length-tab _ x.levels) _ 0 _ i.a (omega arith) (omega arith) i.invariant.7 e.worst_after,
     )
 
 pub unpack_record-requires-clause-has_record : goal.unpack_record-requires-clause-has_record

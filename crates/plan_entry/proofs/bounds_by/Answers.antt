@@ -17,18 +17,17 @@ use Rattle.plan_entry.proofs.Signed.{as_is}
 use Rattle.plan_entry.proofs.bounds_by.Goals as goal
 
 pub loop-k-init : goal.loop-k-init
-loop-k-init c = (search rules, search rules, cat-none _ _ _)
+loop-k-init c = (search rules, cat-none _ _ _)
 
 pub loop-k-preserved : goal.loop-k-preserved
 loop-k-preserved c =
     let a = c.args in
     let t = c.loop-k in
     let near : mag (get_or a.after t.k (pos 0)) < 2147483648 = omega arith in
-    let is = rw (as_is _ near) at c.bound_of-bound.ensures in (
-      search rules,
-      omega (arith, t.invariant.1, length-set t.out (a.at + 1 + t.k) (to_z w32 (of_z w32 c.bound_of-bound.result))),
-      tab-more _ _ (a.at + 1) (a.at + 1 + t.k) t.k (simp length-set (omega arith)) (omega arith) t.invariant.1
-          (as_is c.bound_of-bound.result c.bound_of-bound.type_inv ∙ is) t.invariant.2,
+    let is = rw (as_is _ near) at c.bound_of.ensures in (
+      omega (arith, t.invariant.0, length-set t.out (a.at + 1 + t.k) (to_z w32 (of_z w32 c.bound_of.result))),
+      tab-more _ _ (a.at + 1) (a.at + 1 + t.k) t.k (simp length-set (omega arith)) (omega arith) t.invariant.0
+          (as_is c.bound_of.result c.bound_of.type_inv ∙ is) t.invariant.1,
     )
 
 pub returns : goal.returns
@@ -38,4 +37,4 @@ returns c =
     let limit : to_z w32 (of_z w32 a.limit) ≡ a.limit = to_z-of_z c.ranges.limit in
     let first = set-splice a.out.now a.at (to_z w32 (of_z w32 a.limit)) (omega arith) in
     rw limit at (splice-join a.out.now a.at (to_z w32 (of_z w32 a.limit) ∷ []) _ (a.at + 1) (omega arith) (omega arith) first
-    (cat_done _ _ (a.at + 1) t.k 15 (omega arith) t.invariant.2))
+    (cat_done _ _ (a.at + 1) t.k 15 (omega arith) t.invariant.1))

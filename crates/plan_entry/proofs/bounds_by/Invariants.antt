@@ -1,5 +1,5 @@
 use mathlib.Core.Path.{◌≡◌}
-use Prim.Native.Nat.{◌+◌, ◌-◌, ◌≤◌}
+use Prim.Native.Nat.{◌+◌}
 use lib.IntN.{pos}
 use lib.ListN.{length, get_or}
 use Rattle.rules.specs.Words.{tab}
@@ -9,7 +9,4 @@ use Rattle.plan_entry.proofs.bounds_by.Given as goal
 
 abbrev pub invariant-loop-k : goal.invariant-loop-k
 invariant-loop-k l =
-    (l.k ≤ 15) × (length l.out ≡ length l.initial.out) × (l.out ≡ splice l.initial.out (l.at + 1) (tab (λ x. bound_by l.limit l.worst (get_or l.after x (pos 0))) l.k))
-
-abbrev pub decreases-loop-k : goal.decreases-loop-k
-decreases-loop-k l = 16 - l.k
+    (length l.out ≡ length l.initial.out) × (l.out ≡ splice l.initial.out (l.at + 1) (tab (λ x. bound_by l.limit l.worst (get_or l.after x (pos 0))) l.k))

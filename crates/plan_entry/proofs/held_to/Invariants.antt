@@ -1,5 +1,4 @@
 use mathlib.Core.Path.{◌≡◌}
-use Prim.Native.Nat.{◌-◌, ◌≤◌}
 use lib.IntN.{pos}
 use lib.ListN.{length, get_or, replicate}
 use Rattle.rules.specs.Words.{minZ, tab}
@@ -8,7 +7,4 @@ use Rattle.plan_entry.proofs.held_to.Given as goal
 
 abbrev pub invariant-loop-q : goal.invariant-loop-q
 invariant-loop-q l =
-    (l.q ≤ 8) × (length l.held ≡ 8) × (l.held ≡ splice (replicate 8 (pos 0)) 0 (tab (λ x. minZ (pos l.deadline) (get_or l.next x (pos 0))) l.q))
-
-abbrev pub decreases-loop-q : goal.decreases-loop-q
-decreases-loop-q l = 8 - l.q
+    (length l.held ≡ 8) × (l.held ≡ splice (replicate 8 (pos 0)) 0 (tab (λ x. minZ (pos l.deadline) (get_or l.next x (pos 0))) l.q))

@@ -30,11 +30,11 @@ kept c =
     let done = length-cat (sixteens a.image.now a.levels a.a a.due a.held a.from a.entries a.bounds.now) 16
     (λ p. ap suc (length-tab _ 15)) t.q in
     bound-kept a.bounds.now _ (a.from * 16) a.entries (a.from + t.q + a.levels)
-    (omega (arith, done, c.requires.inside, c.requires.room.bounds_room)) (omega (arith, done)) t.invariant.8
+    (omega (arith, done, c.requires.inside, c.requires.room.bounds_room)) (omega (arith, done)) t.invariant.7
 
 pub loop-q-init : goal.loop-q-init
 loop-q-init c =
-    (search rules, search rules, search rules, search rules, search rules, cat-none _ _ _, cat-none _ _ _, cat-none _ _ _, cat-none _ _ _)
+    (search rules, search rules, search rules, search rules, cat-none _ _ _, cat-none _ _ _, cat-none _ _ _, cat-none _ _ _)
 
 pub bounds_of-requires-clause-by_index : goal.bounds_of-requires-clause-by_index
 bounds_of-requires-clause-by_index c k h =
@@ -68,13 +68,12 @@ loop-q-preserved c =
       search rules,
       search rules,
       search rules,
-      search rules,
-      done.auto.out ∙ t.invariant.4,
-      tab-more _ _ 0 t.q t.q (omega arith) (omega arith) t.invariant.1 carried_is t.invariant.5,
-      tab-more _ _ a.from (a.from + t.q) t.q (omega (arith, room.limits_room)) (omega arith) t.invariant.2 limit_is t.invariant.6,
-      tab-more _ _ a.from (a.from + t.q) t.q (omega (arith, room.worst_room)) (omega arith) t.invariant.3 longest t.invariant.7,
+      done.auto.out ∙ t.invariant.3,
+      tab-more _ _ 0 t.q t.q (omega arith) (omega arith) t.invariant.0 carried_is t.invariant.4,
+      tab-more _ _ a.from (a.from + t.q) t.q (omega (arith, room.limits_room)) (omega arith) t.invariant.1 limit_is t.invariant.5,
+      tab-more _ _ a.from (a.from + t.q) t.q (omega (arith, room.worst_room)) (omega arith) t.invariant.2 longest t.invariant.6,
       cat-more (sixteens a.image.now a.levels a.a a.due a.held a.from a.entries a.bounds.now) 16
-          (λ p. ap suc (length-tab _ 15)) a.bounds.now (a.from * 16) ((a.from + t.q) * 16) t.q (omega arith) (omega arith) t.invariant.8
+          (λ p. ap suc (length-tab _ 15)) a.bounds.now (a.from * 16) ((a.from + t.q) * 16) t.q (omega arith) (omega arith) t.invariant.7
           (bounds-stored t.bounds ((a.from + t.q) * 16) limit_is longest (λ k h. kept (goal.at.loop-q-preserved c).In-loop-q k) done.ensures),
     )
 
@@ -85,8 +84,8 @@ returns c =
     let t = c.loop-q in
     let all : t.q ≡ a.levels = omega arith in
     record {
-      row_is = cat_done _ _ 0 t.q a.levels all t.invariant.5;
-      limits_are = cat_done _ _ a.from t.q a.levels all t.invariant.6;
-      worst_is = cat_done _ _ a.from t.q a.levels all t.invariant.7;
-      bounds_are = cat_done _ _ (a.from * 16) t.q a.levels all t.invariant.8;
+      row_is = cat_done _ _ 0 t.q a.levels all t.invariant.4;
+      limits_are = cat_done _ _ a.from t.q a.levels all t.invariant.5;
+      worst_is = cat_done _ _ a.from t.q a.levels all t.invariant.6;
+      bounds_are = cat_done _ _ (a.from * 16) t.q a.levels all t.invariant.7;
     }

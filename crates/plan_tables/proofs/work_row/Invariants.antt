@@ -1,6 +1,6 @@
 use mathlib.Core.Path.{◌≡◌}
 use mathlib.Core.List.{List}
-use Prim.Native.Nat.{ℕ, ◌+◌, ◌-◌, ◌*◌, ◌≤◌}
+use Prim.Native.Nat.{ℕ, ◌+◌, ◌*◌}
 use lib.IntN.{ℤ, pos}
 use lib.ListN.{length, replicate}
 use Rattle.rules.specs.Words.{cat, tab}
@@ -22,8 +22,7 @@ sixteens s L a due held from entries bounds q =
 
 abbrev pub invariant-loop-q : goal.invariant-loop-q
 invariant-loop-q l =
-    (l.q ≤ l.levels)
-    × (length l.here ≡ 8)
+    (length l.here ≡ 8)
     × (length l.limits ≡ length l.initial.limits)
     × (length l.worst ≡ length l.initial.worst)
     × (length l.bounds ≡ length l.initial.bounds)
@@ -31,6 +30,3 @@ invariant-loop-q l =
     × (l.limits ≡ splice l.initial.limits l.from (tab (limits_of l.held (average_of l.image l.a) (worst_of l.image l.a) l.due) l.q))
     × (l.worst ≡ splice l.initial.worst l.from (tab (worst_of l.image l.a) l.q))
     × (l.bounds ≡ splice l.initial.bounds (l.from * 16) (cat (sixteens l.image l.levels l.a l.due l.held l.from l.entries l.initial.bounds) l.q))
-
-abbrev pub decreases-loop-q : goal.decreases-loop-q
-decreases-loop-q l = l.levels - l.q
