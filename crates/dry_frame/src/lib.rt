@@ -93,7 +93,7 @@ pub fn dry_frame(
     if order.len() < n {
         return unblamed(rules::REFUSED_ROOM);
     }
-    let dried = run::dry::dry_run(
+    let dried = Dried::from(run::dry::dry_run(
         n,
         planned.levels,
         &limits,
@@ -102,7 +102,7 @@ pub fn dry_frame(
         durations,
         given,
         marks,
-    );
+    ));
     if dried.refusal.number != 0 {
         return unblamed(dried.refusal.number);
     }

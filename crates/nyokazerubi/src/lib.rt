@@ -134,7 +134,7 @@ pub fn nyokazerubi_dry_run(
         durations.now (record { levels = given.old; decided = marks.old })
         (record { levels = given.new; decided = marks.new }) result }
 {
-    run::dry::dry_run(
+    Dried::from(run::dry::dry_run(
         n,
         levels,
         limits,
@@ -143,7 +143,7 @@ pub fn nyokazerubi_dry_run(
         durations,
         given,
         marks,
-    )
+    ))
 }
 
 // A frame run dry, from an image.

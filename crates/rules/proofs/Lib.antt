@@ -2,6 +2,7 @@ pub mod Sums
 pub mod Terms
 pub mod Tests
 pub mod Differences
+pub mod Reasons
 pub mod Refusals
 pub mod Faults
 pub mod Order

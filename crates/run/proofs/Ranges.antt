@@ -3,8 +3,11 @@ use Prim.Native.Nat.{ℕ, ◌*◌, ◌≤◌}
 use mathlib.Core.Path.{◌≡◌, refl, sym, ◌∙◌}
 use mathlib.Core.Bool.{Bool, true, false, not, cond, ◌&&◌, ◌||◌, true≢false}
 use native.Mathlib.Nat.{mul-le-mul}
+use native.Mathlib.Omega.{arith}
 use lib.Dec.{leb, ltb, eqb}
 use borrow.Author.Tests.{ltb-true, ltb-false, leb-true, le-leb, lt-leb}
+use Rattle.std.specs.Int.{from_bool}
+use Rattle.rules.specs.Words.{one_if}
 use Rattle.rules.specs.Refusals.{first}
 use Rattle.rules.specs.Run.{Run, in_range, start_refusal}
 use Rattle.rules.proofs.Tests.{failed, not-both, and-true}
@@ -73,6 +76,11 @@ unfit-counts n L e c =
 
 pub out_of_range : (r : Run) → (InRange r → ⊥) → false ≡ in_range r
 out_of_range r out = sym (failed (in_range r) (λ h. out (in_range_facts r h)))
+
+-- a mark as a number
+pub mark-number : (b : Bool) → (from_bool b ≡ one_if b) × (one_if b ≤ 1)
+mark-number true = (refl, omega arith)
+mark-number false = (refl, omega arith)
 
 -- the products of a record in range fit
 pub few-cells : (r : Run) → in_range r ≡ true → r.n * r.levels ≤ 512

@@ -1,10 +1,13 @@
 -- The dry run's call: what it writes and answers.
-use Rattle.std.specs.Prelude.{ℕ, ◌*◌, ◌≡◌, false, List, [], ◌∷◌, length}
+use Rattle.std.specs.Prelude.{ℕ, ◌*◌, ◌≡◌, false, List, [], ◌∷◌, length, Result, Ok, Err}
 use Rattle.rules.specs.Numbers.{longest_coast}
 use Rattle.rules.specs.Limits.{LentTables}
+use Rattle.rules.specs.Reasons.{number_of}
 use Rattle.rules.specs.Refusals.{First, kept}
 use Rattle.rules.specs.Dry.{dry_levels, dry_marks, dry_end, dry_call}
+use Rattle.rules.specs.declared.Reason.{Reason}
 use Rattle.fields.specs.Fields.{splice}
+use Rattle.run.specs.declared.dry.Dry.{Dry}
 use Rattle.run.specs.declared.dry.Dried.{Dried}
 
 -- The two lists that the dry run writes, as they are lent: a level and a decided mark (1 or 0) for each position.
@@ -22,6 +25,11 @@ dry_rooms n L T durations lists =
     ∷ (length lists.levels, n)
     ∷ (length lists.decided, n)
     ∷ []
+
+-- What is told of a dry run, laid flat: its number of refusal, 0 for none, and with a refusal 0 and no.
+abbrev pub dried : Result Dry Reason → Dried
+dried (Ok d) = record { refusal = record { number = 0 }; decisions = d.decisions; end = d.end; overrun = d.overrun; late = d.late }
+dried (Err reason) = record { refusal = record { number = number_of reason }; decisions = 0; end = 0; overrun = false; late = false }
 
 -- The answer r, and what the two lists hold before and after: n levels and n decided marks, their tails kept, and with a refusal all of it.
 pub record Dries (n L : ℕ) (T : LentTables) (durations : List ℕ) (before after : DryLists) (r : Dried) : Type 0 where

@@ -2,25 +2,58 @@
 ghost use Rattle.std.specs.Prelude.{◌≡◌, [], ◌+◌, ◌≤◌, ◌<◌, leb, length, get_or};
 ghost use Rattle.rules.specs.Numbers.{longest_time};
 ghost use Rattle.rules.specs.Words.{all_pass};
+ghost use Rattle.rules.specs.Reasons.{number};
 ghost use Rattle.rules.specs.Refusals.{First};
 ghost use Rattle.rules.specs.Run.{ended};
 ghost use Rattle.rules.specs.Dry.{cell, dry_call};
 ghost use Rattle.run.specs.Calls.{run_of};
-ghost use Rattle.run.specs.Dry.{dry_rooms, Dries};
+ghost use Rattle.run.specs.Dry.{dry_rooms, dried, Dries};
 ghost use Rattle.run.specs.Cycle.{Waiting, Running, Rest};
 
 use crate::Run;
-use rules::Refusal;
+use rules::{Reason, Refusal};
 
-// The refusal; the decisions made, the clock at the end, and the two marks.
+// What a cycle run dry comes to: the decisions made, the clock at the end, and the two marks.
+#[derive(Clone, Copy)]
+pub struct Dry {
+    pub decisions: u32,
+    pub end: u32,
+    pub overrun: bool,
+    pub late: bool,
+}
+
+// The same laid flat for C, behind the refusal. With one these are 0 or no.
 #[repr(C)]
-#[derive(Drop)]
+#[derive(Clone, Copy)]
 pub struct Dried {
     pub refusal: Refusal,
     pub decisions: u32,
     pub end: u32,
     pub overrun: bool,
     pub late: bool,
+}
+
+impl From<Result<Dry, Reason>> for Dried {
+    ghost from_gives = { λ outcome flat. flat ≡ dried outcome };
+
+    fn from(outcome: Result<Dry, Reason>) -> Self {
+        match outcome {
+            Ok(dry) => Dried {
+                refusal: Refusal { number: 0 },
+                decisions: dry.decisions,
+                end: dry.end,
+                overrun: dry.overrun,
+                late: dry.late,
+            },
+            Err(reason) => Dried {
+                refusal: Refusal::from(reason),
+                decisions: 0,
+                end: 0,
+                overrun: false,
+                late: false,
+            },
+        }
+    }
 }
 
 // The running action takes its duration at its level, and ends.
@@ -121,10 +154,8 @@ pub fn all_short(durations: &[u32], cells: usize) -> bool
     ensures { result ≡ all_pass (λ k. leb (get_or durations.now k 0) longest_time) cells }
 {
     let mut all = 0;
-    let mut k = 0;
-    while k < cells {
-        all = all | durations[k];
-        k += 1;
+    for duration in &durations[..cells] {
+        all |= *duration;
     }
     all <= rules::LONGEST_TIME
 }
@@ -139,13 +170,13 @@ fn dry_refusal(
     durations: &[u32],
     given: &[u8],
     marks: &[u8],
-) -> u32
+) -> Result<(), Reason>
     ensures { First (dry_call n levels durations.now (dry_rooms n levels
         (record { order = []; limits = limits.now; worst = worst.now; bounds = bounds.now })
-        durations.now (record { levels = given.now; decided = marks.now }))) result }
+        durations.now (record { levels = given.now; decided = marks.now }))) (number result) }
 {
     if !crate::counts_fit(n, levels) {
-        return rules::REFUSED_COUNT;
+        return Err(Reason::Count);
     }
     let cells = n * levels;
     if (limits.len() < cells)
@@ -155,12 +186,12 @@ fn dry_refusal(
         | (given.len() < n)
         | (marks.len() < n)
     {
-        return rules::REFUSED_ROOM;
+        return Err(Reason::Room);
     }
     if all_short(durations, cells) {
-        return 0;
+        return Ok(());
     }
-    rules::REFUSED_DURATION
+    Err(Reason::Duration)
 }
 
 // The dry run: a level and a decided mark for each position, and decisions, end, overrun and late. A refusal leaves both slices untouched.
@@ -173,28 +204,18 @@ pub fn dry_run(
     durations: &[u32],
     given: &mut [u8],
     marks: &mut [u8],
-) -> Dried
+) -> Result<Dry, Reason>
     ensures { Dries n levels (record { order = []; limits = limits.now; worst = worst.now; bounds = bounds.now })
         durations.now (record { levels = given.old; decided = marks.old })
-        (record { levels = given.new; decided = marks.new }) result }
+        (record { levels = given.new; decided = marks.new }) (dried result) }
 {
-    let number = dry_refusal(n, levels, limits, worst, bounds, durations, given, marks);
-    if number != 0 {
-        return Dried {
-            refusal: Refusal { number },
-            decisions: 0,
-            end: 0,
-            overrun: false,
-            late: false,
-        };
-    }
+    dry_refusal(n, levels, limits, worst, bounds, durations, given, marks)?;
     let run = crate::begun(n as u32, levels as u32);
     let last = decide(limits, worst, bounds, durations, given, marks, run);
-    Dried {
-        refusal: Refusal { number: 0 },
+    Ok(Dry {
         decisions: last.decisions,
         end: last.clock,
         overrun: last.overrun,
         late: last.late,
-    }
+    })
 }

@@ -5,16 +5,17 @@
 ghost use Rattle.std.specs.Prelude.{◌≡◌, not, [], ◌+◌, ◌*◌, ◌<◌, ◌≤◌, eqb};
 ghost use Rattle.rules.specs.Numbers.{most_actions, longest_coast};
 ghost use Rattle.rules.specs.Words.{one_if};
+ghost use Rattle.rules.specs.Reasons.{number};
 ghost use Rattle.rules.specs.Run.{in_range, begun, coast, decide, ended, fits, lent, start_refusal, start, ask_refusal, ask, report_refusal, report};
 ghost use Rattle.run.specs.Calls.{run_of, answer_of, next_of, start_of, Open};
 
-use rules::Refusal;
+use rules::{Reason, Refusal};
 
 pub mod dry;
 
 // The fields and their ranges are `in_range` of the rules. The three marks stand last, so that there is no gap between fields.
 #[repr(C)]
-#[derive(Clone, Copy)]
+#[derive(Clone, Copy, PartialEq, Eq)]
 pub struct Run {
     pub n: u32,
     pub levels: u32,
@@ -30,13 +31,13 @@ pub struct Run {
 
 // What a start answers: the record begun, and the refusal.
 #[repr(C)]
-#[derive(Drop)]
+#[derive(Clone, Copy)]
 pub struct Started {
     pub run: Run,
     pub refusal: Refusal,
 }
 
-#[derive(Drop)]
+#[derive(Clone, Copy)]
 pub enum Answer {
     Refused(Refusal),
     Given {
@@ -48,7 +49,7 @@ pub enum Answer {
 }
 
 // What an asking answers, with the next record.
-#[derive(Drop)]
+#[derive(Clone, Copy)]
 pub struct Asked {
     pub run: Run,
     pub answer: Answer,
@@ -56,14 +57,14 @@ pub struct Asked {
 
 // What a report answers: the next record, and the refusal.
 #[repr(C)]
-#[derive(Drop)]
+#[derive(Clone, Copy)]
 pub struct Reported {
     pub run: Run,
     pub refusal: Refusal,
 }
 
 // A decision made: the record with the action running, and whether no level fits.
-#[derive(Drop)]
+#[derive(Clone, Copy)]
 pub struct Decided {
     pub run: Run,
     pub late: bool,
@@ -93,7 +94,7 @@ pub fn begun(n: u32, levels: u32) -> Run
     }
 }
 
-// Whether n and L are in their ranges.
+// Whether n and L are in their ranges. A test and no refusal of its own: a start answers 3 to it, a record 11.
 pub fn counts_fit(n: usize, levels: usize) -> bool
     ensures { result ≡ eqb (start_refusal n levels) 0 }
 {
@@ -108,9 +109,7 @@ impl Run {
         if !counts_fit(n, levels) {
             return Started {
                 run: begun(0, 0),
-                refusal: Refusal {
-                    number: rules::REFUSED_COUNT,
-                },
+                refusal: Refusal::from(Reason::Count),
             };
         }
         Started {
@@ -137,7 +136,7 @@ impl Run {
         if rules::LONGEST_COAST <= left as usize {
             return false;
         }
-        let asked = position + one_if(self.running);
+        let asked = position + u32::from(self.running);
         if n < left + asked {
             return false;
         }
@@ -208,12 +207,12 @@ impl Run {
     }
 
     // Fields out of range 11, room 17, an action runs 11, all done 10.
-    fn ask_refusal(self, order: &[u8], limits: &[i32], bounds: &[i32]) -> u32
-        ensures { result ≡ ask_refusal
+    fn ask_refusal(self, order: &[u8], limits: &[i32], bounds: &[i32]) -> Result<(), Reason>
+        ensures { number result ≡ ask_refusal
             (record { order = order.now; limits = limits.now; worst = []; bounds = bounds.now }) (run_of self) }
     {
         if !self.in_range() {
-            return rules::REFUSED_TURN;
+            return Err(Reason::Turn);
         }
         let n = self.n as usize;
         let cells = n * self.levels as usize;
@@ -221,15 +220,15 @@ impl Run {
             | (limits.len() < cells)
             | (bounds.len() < cells * rules::LONGEST_COAST)
         {
-            return rules::REFUSED_ROOM;
+            return Err(Reason::Room);
         }
         if self.running {
-            return rules::REFUSED_TURN;
+            return Err(Reason::Turn);
         }
         if self.position == self.n {
-            return rules::REFUSED_FINISHED;
+            return Err(Reason::Finished);
         }
-        0
+        Ok(())
     }
 
     // Asking takes no clock and sets the action running. A refusal gives back the record.
@@ -237,11 +236,10 @@ impl Run {
         ensures { answer_of result ≡ ask
             (record { order = order.now; limits = limits.now; worst = []; bounds = bounds.now }) (run_of self) }
     {
-        let number = self.ask_refusal(order, limits, bounds);
-        if number != 0 {
+        if let Err(reason) = self.ask_refusal(order, limits, bounds) {
             return Asked {
                 run: self,
-                answer: Answer::Refused(Refusal { number }),
+                answer: Answer::Refused(Refusal::from(reason)),
             };
         }
         let position = self.position as usize;
@@ -271,36 +269,35 @@ impl Run {
     }
 
     // Fields out of range 11, room 17, none runs 11, back 12, above the clock limit 13.
-    fn report_refusal(self, clock: u32, worst: &[u32]) -> u32
-        ensures { result ≡ report_refusal worst.now clock (run_of self) }
+    fn report_refusal(self, clock: u32, worst: &[u32]) -> Result<(), Reason>
+        ensures { number result ≡ report_refusal worst.now clock (run_of self) }
     {
         if !self.in_range() {
-            return rules::REFUSED_TURN;
+            return Err(Reason::Turn);
         }
         if worst.len() < self.n as usize * self.levels as usize {
-            return rules::REFUSED_ROOM;
+            return Err(Reason::Room);
         }
         if !self.running {
-            return rules::REFUSED_TURN;
+            return Err(Reason::Turn);
         }
         if clock < self.clock {
-            return rules::REFUSED_BACK;
+            return Err(Reason::Back);
         }
         if rules::LAST_CLOCK < clock {
-            return rules::REFUSED_CLOCK;
+            return Err(Reason::Clock);
         }
-        0
+        Ok(())
     }
 
     // The end of the running action, by the clock since the cycle began. A refusal gives back the record.
     pub fn report(self, clock: u32, worst: &[u32]) -> Reported
         ensures { next_of result ≡ report worst.now clock (run_of self) }
     {
-        let number = self.report_refusal(clock, worst);
-        if number != 0 {
+        if let Err(reason) = self.report_refusal(clock, worst) {
             return Reported {
                 run: self,
-                refusal: Refusal { number },
+                refusal: Refusal::from(reason),
             };
         }
         let at = (self.position * self.levels + self.level) as usize;

@@ -292,7 +292,7 @@ fn dried<R: Print>(
     let mut marks = [9u8; 24];
     let e = part(level_room, 24);
     let f = part(mark_room, 24);
-    let answer = run::dry::dry_run(
+    let answer = run::dry::Dried::from(run::dry::dry_run(
         n,
         levels,
         limits,
@@ -301,7 +301,7 @@ fn dried<R: Print>(
         durations,
         &mut given[0..e],
         &mut marks[0..f],
-    );
+    ));
     say_number(rt, b" refusal ", answer.refusal.number)?;
     say_bytes(rt, b", levels", given, shown)?;
     say_bytes(rt, b", marks", marks, shown)?;

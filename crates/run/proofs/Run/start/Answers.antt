@@ -15,7 +15,7 @@ pub returns-then-not-counts_fit : goal.returns-then-not-counts_fit
 unfolding start
 returns-then-not-counts_fit c =
     let h = sym c.if-not-counts_fit.ensures in
-    past _ _ _ h (rw (sym (unfit-three _ _ h), c.begun.ensures))
+    past _ _ _ h (rw (c.from.ensures, sym (unfit-three _ _ h), c.begun.ensures))
 
 pub overflow_cast-n : goal.overflow_cast-n
 overflow_cast-n c = omega (arith, counted (goal.at.overflow_cast-n c).Else-not-counts_fit)

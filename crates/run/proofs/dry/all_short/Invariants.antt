@@ -1,4 +1,3 @@
-use Prim.Native.Nat.{◌-◌, ◌≤◌}
 use mathlib.Core.Path.{◌≡◌}
 use lib.Dec.{leb}
 use Rattle.rules.specs.Numbers.{longest_time}
@@ -6,8 +5,5 @@ use Rattle.rules.specs.Words.{all_pass}
 use Rattle.rules.specs.Recording.{short}
 use Rattle.run.proofs.dry.all_short.Given as goal
 
-abbrev pub invariant-loop-k : goal.invariant-loop-k
-invariant-loop-k l = (l.k ≤ l.cells) × (all_pass (short l.durations) l.k ≡ leb l.all longest_time)
-
-abbrev pub decreases-loop-k : goal.decreases-loop-k
-decreases-loop-k l = l.cells - l.k
+abbrev pub invariant-loop-duration : goal.invariant-loop-duration
+invariant-loop-duration l = all_pass (short l.fn.durations) l.duration-index ≡ leb l.all longest_time
