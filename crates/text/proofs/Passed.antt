@@ -3,69 +3,41 @@ use Prim.Native.Nat.{ℕ, zero, suc, ◌+◌, ◌*◌, ◌-◌, ◌≤◌, ◌<�
 use mathlib.Core.Path.{◌≡◌, refl, sym, ap, ◌∙◌}
 use mathlib.Core.Bool.{Bool, true, false, cond, ◌&&◌}
 use mathlib.Core.List.{List, [], ◌∷◌}
+use mathlib.Core.Logic.{◌≢◌}
 use native.Mathlib.Numerals.{add-one}
 use native.Mathlib.Omega.{arith}
-use borrow.Author.Tests.{eq-eqb, ne_eqb, le-leb, leb-true}
+use borrow.Author.Tests.{eq-eqb, ne_eqb}
 use lib.Dec.{leb}
+use Rattle.std.specs.Bool.{MatchBool}
+use Rattle.std.specs.List.{AllWithin, HoldsAt}
 use lib.ListN.{length, drop, get_or, drop_of_length-le}
 use lib.Seq.{drop-cons}
 use Rattle.text.specs.Words.{from_first, after_first, from_word, digits_say, capped, only_digits}
 
-no_digit : (x : ℕ) → (48 ≤ x → x ≤ 57 → ⊥) → (leb 48 x && leb x 57) ≡ false
-no_digit x h = by (leb 48 x) (leb x 57) refl refl
-  where
-    by : (p q : Bool) → leb 48 x ≡ p → leb x 57 ≡ q → (leb 48 x && leb x 57) ≡ false
-    by true true a b = absurd (h (leb-true 48 x a) (leb-true x 57 b))
-    by true false a b = rw (a, b)
-    by false q a b = rw a
+-- whether a byte is a digit
+abbrev pub is_digit : ℕ → Bool
+is_digit x = leb 48 x && leb x 57
 
 module _ (s : List ℕ) (i : ℕ) where
   split : i < length s → drop i s ≡ get_or s i 0 ∷ drop (i + 1) s
   split h = rw add-one (drop-cons s i 0 h)
 
-  pub first-here : (b : ℕ) → i < length s → get_or s i 0 ≡ b → drop i s ≡ from_first b (drop i s)
-  unfolding from_first
-  first-here b h e = rw (split h, eq-eqb (get_or s i 0) b e)
-
-  pub first-later : (b : ℕ) → i < length s → (get_or s i 0 ≡ b → ⊥) → from_first b (drop i s) ≡ from_first b (drop (i + 1) s)
-  unfolding from_first
-  first-later b h e = rw (split h, ne_eqb (get_or s i 0) b e)
-
-  pub first_nowhere : (b : ℕ) → length s ≤ i → drop i s ≡ from_first b (drop i s)
-  unfolding from_first
-  first_nowhere b h = rw (drop_of_length-le s h)
-
-  pub digit-here : (v d : ℕ) → i < length s → 48 ≤ get_or s i 0 → get_or s i 0 ≤ 57 → d + 48 ≡ get_or s i 0
+  pub digit-here : (v d : ℕ) → i < length s → is_digit (get_or s i 0) ≡ true → d ≡ get_or s i 0 - 48
       → digits_say v (drop i s) ≡ digits_say (v * 10 + d) (drop (i + 1) s)
   unfolding digits_say
-  digit-here v d h low high e =
-      let less : get_or s i 0 - 48 ≡ d = omega arith in
-      rw (split h, le-leb 48 (get_or s i 0) low, le-leb (get_or s i 0) 57 high, less)
+  digit-here v d h is e = rw (split h, is, e)
 
-  pub digits_end : (v : ℕ) → i < length s → (48 ≤ get_or s i 0 → get_or s i 0 ≤ 57 → ⊥) → digits_say v (drop i s) ≡ v
+  pub digits_end : (v : ℕ) → i < length s → is_digit (get_or s i 0) ≡ false → digits_say v (drop i s) ≡ v
   unfolding digits_say
-  digits_end v h n = rw (split h, no_digit (get_or s i 0) n)
+  digits_end v h is = rw (split h, is)
 
   pub text-end : (v : ℕ) → length s ≤ i → digits_say v (drop i s) ≡ v
   unfolding digits_say
   text-end v h = rw (drop_of_length-le s h)
 
-  pub only_here : i < length s → 48 ≤ get_or s i 0 → get_or s i 0 ≤ 57 → only_digits (drop i s) ≡ only_digits (drop (i + 1) s)
-  unfolding only_digits
-  only_here h low high = rw (split h, le-leb 48 (get_or s i 0) low, le-leb (get_or s i 0) 57 high)
-
-  pub only-ends : i < length s → (48 ≤ get_or s i 0 → get_or s i 0 ≤ 57 → ⊥) → only_digits (drop i s) ≡ false
-  unfolding only_digits
-  only-ends h n = rw (split h, no_digit (get_or s i 0) n)
-
-  pub only_none : length s ≤ i → only_digits (drop i s) ≡ true
-  unfolding only_digits
-  only_none h = rw (drop_of_length-le s h)
-
-pub word_after : (k : ℕ) (s : List ℕ) → 0 < k → from_word k s ≡ from_word (k - 1) (after_first 32 s)
+pub word_after : (k j : ℕ) (s : List ℕ) → j < k → from_word (k - j) s ≡ from_word (k - (j + 1)) (after_first 32 s)
 unfolding from_word
-word_after zero s h = absurd (omega arith)
-word_after (suc k) s h = let e : suc k - 1 ≡ k = omega arith in rw e
+word_after k j s l = let e : k - j ≡ suc (k - (j + 1)) = omega arith in rw e
 
 -- the digits after v and after what it is capped to say the same, capped
 pub capped-once : (v : ℕ) (s : List ℕ) → capped (digits_say (capped v) s) ≡ capped (digits_say v s)
@@ -84,3 +56,39 @@ capped-once v (x ∷ xs) =
     by : (t : Bool) (a b : ℕ) → capped a ≡ capped b → capped (cond t a (capped v)) ≡ capped (cond t b v)
     by true a b e = e
     by false a b e = omega arith
+
+-- ---- the first of a byte
+
+pub first_at : (b i : ℕ) (s : List ℕ) → i < length s → get_or s i 0 ≡ b → ((k : ℕ) → k < i → get_or s k 0 ≢ b) → drop i s ≡ from_first b s
+unfolding from_first
+first_at b i [] l is before = absurd (omega arith)
+first_at b zero (x ∷ xs) l is before = rw (eq-eqb x b is)
+first_at b (suc i) (x ∷ xs) l is before =
+    rw (ne_eqb x b (before 0 (omega arith))) (first_at b i xs (omega arith) is (λ k h. before (suc k) (omega arith)))
+
+pub first_nowhere : (b : ℕ) (s : List ℕ) → ((k : ℕ) → k < length s → get_or s k 0 ≢ b) → [] ≡ from_first b s
+unfolding from_first
+first_nowhere b [] none = refl
+first_nowhere b (x ∷ xs) none = rw (ne_eqb x b (none 0 (omega arith))) (first_nowhere b xs (λ k h. none (suc k) (omega arith)))
+
+-- ---- digits alone
+
+all_digits : (s : List ℕ) → ((k : ℕ) → k < length s → is_digit (get_or s k 0) ≡ true) → only_digits s ≡ true
+unfolding only_digits
+all_digits [] h = refl
+all_digits (x ∷ xs) h = rw (h 0 (omega arith), all_digits xs (λ k l. h (suc k) (omega arith)))
+
+one-other : (s : List ℕ) (k : ℕ) → k < length s → is_digit (get_or s k 0) ≡ false → only_digits s ≡ false
+unfolding only_digits
+one-other [] k l h = absurd (omega arith)
+one-other (x ∷ xs) zero l h = rw h
+one-other (x ∷ xs) (suc k) l h = rw (one-other xs k (omega arith) h) (none (is_digit x))
+  where
+    none : (b : Bool) → (b && false) ≡ false
+    none true = refl
+    none false = refl
+
+pub settled : (s : List ℕ) (r : Bool)
+    → MatchBool r (AllWithin (λ x. is_digit x ≡ true) s 0 (length s)) ((k : ℕ) × (k < length s) × HoldsAt (λ x. is_digit x ≡ false) s k) → r ≡ only_digits s
+settled s true h = sym (all_digits s (λ k l. h k 0 (omega arith) l))
+settled s false h = sym (one-other s h.0 h.1 (h.2 0))

@@ -1,7 +1,6 @@
 // Numbers and lines put into a lent buffer. `at` counts the bytes that are written already; each function writes after them and answers the
 // new count. What does not fit is left out.
-ghost use Rattle.std.specs.Prelude.{◌+◌, ◌%◌, ◌≡◌, true, [], ◌∷◌, pos};
-ghost use Rattle.std.specs.Int.Signed.{lt_z, mag};
+ghost use Rattle.std.specs.Prelude.{◌%◌, [], ◌∷◌};
 ghost use Rattle.io.specs.Counts.{IsPrefixLen};
 ghost use Rattle.text.specs.Digits.{digit, decimal, signed};
 ghost use Rattle.text.specs.Put.{Puts};
@@ -22,10 +21,8 @@ pub fn put_bytes(out: &mut [u8], at: usize, from: &[u8]) -> usize
     ensures { Puts out.old at from.now out.new result }
 {
     let mut to = at;
-    let mut i = 0;
-    while i < from.len() {
-        to = put_byte(&mut *out, to, from[i]);
-        i += 1;
+    for b in from {
+        to = put_byte(&mut *out, to, *b);
     }
     to
 }
@@ -52,15 +49,7 @@ pub fn put_number(out: &mut [u8], at: usize, n: u32) -> usize
     requires { IsPrefixLen at out.old }
     ensures { Puts out.old at (decimal n) out.new result }
 {
-    put_long(out, at, n as u64)
-}
-
-// How far below 0 a negative number is. The least one has no counterpart above 0 of its own type, the one after it has.
-fn below_zero(z: i64) -> u64
-    requires { lt_z z (pos 0) ≡ true }
-    ensures { result ≡ mag z + 1 }
-{
-    (0 - (z + 1)) as u64 + 1
+    put_long(out, at, u64::from(n))
 }
 
 // A number of up to 64 bits that may be negative.
@@ -68,16 +57,17 @@ pub fn put_signed_long(out: &mut [u8], at: usize, z: i64) -> usize
     requires { IsPrefixLen at out.old }
     ensures { Puts out.old at (signed z) out.new result }
 {
+    let size = z.unsigned_abs();
     if 0 <= z {
-        return put_long(out, at, z as u64);
+        return put_long(out, at, size);
     }
     let next = put_byte(&mut *out, at, b'-');
-    put_long(out, next, below_zero(z))
+    put_long(out, next, size)
 }
 
 pub fn put_signed(out: &mut [u8], at: usize, z: i32) -> usize
     requires { IsPrefixLen at out.old }
     ensures { Puts out.old at (signed z) out.new result }
 {
-    put_signed_long(out, at, z as i64)
+    put_signed_long(out, at, i64::from(z))
 }

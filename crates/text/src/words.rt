@@ -1,8 +1,7 @@
 // Lines of words, as files of outside values have them: a line ends in a newline, one space stands between two words.
-ghost use Rattle.std.specs.Prelude.{◌+◌, ◌≤◌, ◌<◌, ◌≡◌, length, drop};
+ghost use Rattle.std.specs.Prelude.{◌≤◌, ◌<◌, ◌≡◌, IfSome, length, drop};
 ghost use Rattle.io.specs.Counts.{IsPrefixLen};
-ghost use Rattle.text.specs.Words.{from_first, after_first, from_word, digits_say, only_digits, whole_number, is_number};
-ghost use Rattle.text.specs.Words.{capped as Words·capped};
+ghost use Rattle.text.specs.Words.{from_first, after_first, from_word, digits_say, capped, only_digits, whole_number, is_number};
 
 // Where the byte stands first, from index `from` on; the length where it does not.
 pub fn find(text: &[u8], from: usize, byte: u8) -> usize
@@ -10,14 +9,10 @@ pub fn find(text: &[u8], from: usize, byte: u8) -> usize
     ensures lower_bound { (from ≤ result) × (result ≤ length text.now) }
     ensures text_value { drop result text.now ≡ from_first byte (drop from text.now) }
 {
-    let mut at = from;
-    while at < text.len() {
-        if text[at] == byte {
-            return at;
-        }
-        at += 1;
+    match text[from..].iter().position(|b| *b == byte) {
+        Some(k) => from + k,
+        None => text.len(),
     }
-    at
 }
 
 // The index after that; the length where it stands nowhere.
@@ -39,57 +34,24 @@ pub fn word(line: &[u8], k: usize) -> usize
     ensures line_value { drop result line.now ≡ from_word k line.now }
 {
     let mut at = 0;
-    let mut left = k;
-    while 0 < left {
+    for _word in 0..k {
         at = next(line, at, b' ');
-        left -= 1;
     }
     at
 }
 
-// The value of a digit, hexadecimal in lower case; 16 for any other byte. The bytes 48 to 57 are 0 to 9.
-fn digit(b: u8) -> u64
-    ensures upper_bound { result ≤ 16 }
-    ensures result_value { (48 ≤ b → b ≤ 57 → result + 48 ≡ b) × (result ≤ 9 → (48 ≤ b) × (b ≤ 57)) }
-{
-    if b < b'0' {
-        return 16;
-    }
-    if b <= b'9' {
-        return (b - b'0') as u64;
-    }
-    if b < b'a' {
-        return 16;
-    }
-    if b <= b'f' {
-        return (b - b'a' + 10) as u64;
-    }
-    16
-}
-
-// A value that is too large for 32 bits counts as the largest one that is not.
-fn capped(value: u64) -> u32
-    ensures { result ≡ Words·capped value }
-{
-    if value < 4_294_967_295 {
-        return value as u32;
-    }
-    4_294_967_295
-}
-
-// Word k as a decimal number, read up to the first byte that is no digit: 0 where it begins with none.
+// Word k as a decimal number, read up to the first byte that is no digit: 0 where it begins with none. A value that is too large for 32 bits
+// counts as the largest one that is not.
 pub fn number(line: &[u8], k: usize) -> u32
-    ensures { result ≡ Words·capped (digits_say 0 (from_word k line.now)) }
+    ensures { result ≡ capped (digits_say 0 (from_word k line.now)) }
 {
     let mut value: u32 = 0;
-    let mut at = word(line, k);
-    while at < line.len() {
-        let d = digit(line[at]);
-        if 9 < d {
+    for at in word(line, k)..line.len() {
+        let b = line[at];
+        if !b.is_ascii_digit() {
             return value;
         }
-        value = capped(value as u64 * 10 + d);
-        at += 1;
+        value = value.saturating_mul(10).saturating_add(u32::from(b - b'0'));
     }
     value
 }
@@ -97,14 +59,7 @@ pub fn number(line: &[u8], k: usize) -> u32
 fn only_digits(text: &[u8]) -> bool
     ensures { result ≡ only_digits text.now }
 {
-    let mut at = 0;
-    while at < text.len() {
-        if 9 < digit(text[at]) {
-            return false;
-        }
-        at += 1;
-    }
-    true
+    text.iter().all(|b| b.is_ascii_digit())
 }
 
 // The decimal number that all of a text says: 0 where it has any byte that is no digit, or none.
@@ -112,56 +67,46 @@ pub fn whole_number(text: &[u8]) -> u32
     ensures { result ≡ whole_number text.now }
 {
     if only_digits(text) {
-        return number(text, 0);
+        number(text, 0)
+    } else {
+        0
     }
-    0
 }
 
 // Whether it is one, so that a text that is none is told from the number 0.
 pub fn is_number(text: &[u8]) -> bool
     ensures { result ≡ is_number text.now }
 {
-    if text.len() == 0 {
-        return false;
-    }
-    only_digits(text)
+    !text.is_empty() && only_digits(text)
 }
 
-// The byte that two hexadecimal digits say; 256 where they are not there.
-fn pair(line: &[u8], at: usize) -> u64
-    ensures { result ≤ 255 → at + 2 ≤ length line.now }
+// The value of a hexadecimal digit in lower case.
+fn hex_digit(b: u8) -> Option<u8>
+    ensures { IfSome result (λ d. d < 16) }
 {
-    if line.len() <= at {
-        return 256;
+    match b {
+        b'0'..=b'9' => Some(b - b'0'),
+        b'a'..=b'f' => Some(b - b'a' + 10),
+        _ => None,
     }
-    if line.len() <= at + 1 {
-        return 256;
-    }
-    let high = digit(line[at]);
-    let low = digit(line[at + 1]);
-    if 15 < high {
-        return 256;
-    }
-    if 15 < low {
-        return 256;
-    }
-    high * 16 + low
+}
+
+// The byte that two of them say.
+fn pair(line: &[u8], at: usize) -> Option<u8> {
+    let high = hex_digit(*line.get(at)?)?;
+    let low = hex_digit(*line.get(at + 1)?)?;
+    Some(high * 16 + low)
 }
 
 // The bytes that word 0 says in hexadecimal, as many as fit; answers how many.
 pub fn bytes(line: &[u8], out: &mut [u8]) -> usize
     ensures { IsPrefixLen result out.new }
 {
-    let mut n = 0;
-    let mut at = 0;
-    while n < out.len() {
-        let byte = pair(line, at);
-        if 255 < byte {
-            return n;
+    for n in 0..out.len() {
+        match pair(line, n * 2) {
+            Some(byte) => out[n] = byte,
+            None => return n,
         }
-        out[n] = byte as u8;
-        n += 1;
-        at += 2;
     }
-    n
+    out.len()
 }

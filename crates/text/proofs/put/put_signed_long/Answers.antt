@@ -15,5 +15,5 @@ negative c = rw (to_z-of_z c.ranges.z) at c.if-z-ge0.false
 pub returns : goal.returns
 returns c =
     put_as
-    (as_negative c.args.z c.below_zero.result (negative (goal.at.returns c).Else-z-ge0) (rw (to_z-of_z c.ranges.z) at c.below_zero.ensures))
+    (as_negative c.args.z c.unsigned_abs-size.result (negative (goal.at.returns c).Else-z-ge0) (rw (to_z-of_z c.ranges.z) at c.unsigned_abs-size.ensures.value))
     (put_then c.requires.0 c.put_byte-next.ensures c.put_long-2.ensures)

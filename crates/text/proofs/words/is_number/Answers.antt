@@ -1,16 +1,15 @@
 -- A text of no byte is no number; any other is one where there are digits alone. Assumes nothing.
 use mathlib.Core.Path.{sym, ap, ◌∙◌}
-use mathlib.Core.Bool.{Bool, false, cond}
-use borrow.Author.Tests.{eq-eqb, ne_eqb}
+use mathlib.Core.Bool.{Bool, false, cond, not}
 use Rattle.text.specs.Words.{only_digits, is_number}
 use Rattle.text.proofs.words.is_number.Goals as goal
 
-pub returns-then-text-eq0 : goal.returns-then-text-eq0
+pub returns-then-not-is_empty : goal.returns-then-not-is_empty
 unfolding is_number
-returns-then-text-eq0 c = sym (ap (λ (t : Bool). cond t false (only_digits c.args.text.now)) (eq-eqb _ 0 c.if-text-eq0.true))
+returns-then-not-is_empty c =
+    c.only_digits.ensures ∙ sym (ap (λ (t : Bool). cond t false (only_digits c.args.text.now)) (sym c.is_empty.ensures ∙ c.if-not-is_empty.true))
 
-pub returns : goal.returns
+pub returns-else-not-is_empty : goal.returns-else-not-is_empty
 unfolding is_number
-returns c =
-    c.only_digits.ensures
-    ∙ sym (ap (λ (t : Bool). cond t false (only_digits c.args.text.now)) (ne_eqb _ 0 c.if-text-eq0.false))
+returns-else-not-is_empty c =
+    ap not c.if-not-is_empty.false ∙ sym (ap (λ (t : Bool). cond t false (only_digits c.args.text.now)) (sym c.is_empty.ensures ∙ c.if-not-is_empty.false))
