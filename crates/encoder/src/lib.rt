@@ -64,12 +64,10 @@ fn column(table: [[[u32; 2]; LEVELS]; ACTIONS], which: usize) -> [u32; ENTRIES]
     ensures { result ≡ column table which }
 {
     let mut times: [u32; ENTRIES] = [0; ENTRIES];
-    let mut k: usize = 0;
-    while k < ENTRIES {
+    for k in 0..ENTRIES {
         let action = table[k / LEVELS];
         let level = action[k % LEVELS];
         times[k] = level[which];
-        k += 1;
     }
     times
 }

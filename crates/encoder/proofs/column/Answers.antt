@@ -10,16 +10,15 @@ use Rattle.encoder.specs.Times.{column}
 use Rattle.encoder.proofs.column.Goals as goal
 
 pub loop-k-init : goal.loop-k-init
-loop-k-init c = (omega arith, refl, cat-none _ _ 0)
+loop-k-init c = (refl, cat-none _ _ 0)
 
 pub loop-k-preserved : goal.loop-k-preserved
 loop-k-preserved c =
     let i = c.loop-k in (
-      omega arith,
-      simp length-set i.invariant.1,
-      tab-more _ _ 0 i.k i.k (omega arith) (omega arith) i.invariant.1 refl i.invariant.2,
+      simp length-set i.invariant.0,
+      tab-more _ _ 0 i.k i.k (omega arith) (omega arith) i.invariant.0 refl i.invariant.1,
     )
 
 pub returns : goal.returns
 unfolding cat splice column
-returns c = cat_done _ _ 0 c.loop-k.k 72 (omega arith) c.loop-k.invariant.2
+returns c = cat_done _ _ 0 c.loop-k.k 72 (omega arith) c.loop-k.invariant.1

@@ -1,6 +1,6 @@
 use mathlib.Core.Path.{◌≡◌}
 use mathlib.Core.List.{List, []}
-use Prim.Native.Nat.{ℕ, ◌/◌, ◌%◌, ◌-◌, ◌≤◌}
+use Prim.Native.Nat.{ℕ, ◌/◌, ◌%◌}
 use lib.ListN.{length, get_or}
 use Rattle.rules.specs.Words.{tab}
 use Rattle.fields.specs.Fields.{splice}
@@ -11,7 +11,4 @@ abbrev pub entry : List (List (List ℕ)) → ℕ → ℕ → ℕ
 entry table which k = get_or (get_or (get_or table (k / 8) []) (k % 8) []) which 0
 
 abbrev pub invariant-loop-k : goal.invariant-loop-k
-invariant-loop-k l = (l.k ≤ 72) × (length l.times ≡ 72) × (l.times ≡ splice l.initial.times 0 (tab (entry l.table l.which) l.k))
-
-abbrev pub decreases-loop-k : goal.decreases-loop-k
-decreases-loop-k l = 72 - l.k
+invariant-loop-k l = (length l.times ≡ 72) × (l.times ≡ splice l.initial.times 0 (tab (entry l.table l.which) l.k))
