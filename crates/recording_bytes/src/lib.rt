@@ -15,26 +15,20 @@ pub fn take_durations(bytes: &[u8], durations: &mut [u32]) -> usize
         ≡ splice durations.old 0 (tab (λ k. be bytes.now (k * duration_bytes) duration_bytes) result) }
 {
     let said = bytes.len() / rules::DURATION_BYTES;
-    let room = durations.len();
-    let count = if said < room { said } else { room };
-    let mut k = 0;
-    while k < count {
+    let count = said.min(durations.len());
+    for k in 0..count {
         durations[k] = fields::be32(bytes, k * rules::DURATION_BYTES);
-        k += 1;
     }
     count
 }
 
-// Four bytes as one number, the first the lowest, summed up by what each is worth: a compiler makes one load of it. The first alone is asked
+// Four bytes as one number, the first the lowest: a compiler makes one load of it. The first alone is asked
 // for, but by itself it would be picked out of each entry, one after another.
 fn four(s: &[u8], at: usize) -> u32
     requires { at + 4 ≤ length s.now }
     ensures { result % 256 ≡ get_or s.now at 0 }
 {
-    u32::from(s[at])
-        + u32::from(s[at + 1]) * 256
-        + u32::from(s[at + 2]) * 65_536
-        + u32::from(s[at + 3]) * 16_777_216
+    u32::from_le_bytes([s[at], s[at + 1], s[at + 2], s[at + 3]])
 }
 
 // Whether each of the first `cells` entries is at most 16,777,215, used or not: whether its first byte is 0. The bits of all are joined, so that
@@ -44,10 +38,8 @@ pub fn all_short(frame: &[u8], cells: usize) -> bool
     ensures { result ≡ all_pass (λ k. eqb (get_or frame.now (k * duration_bytes) 0) 0) cells }
 {
     let mut all = 0;
-    let mut k = 0;
-    while k < cells {
-        all = all | four(frame, k * rules::DURATION_BYTES);
-        k += 1;
+    for k in 0..cells {
+        all |= four(frame, k * rules::DURATION_BYTES);
     }
     all % 256 == 0
 }

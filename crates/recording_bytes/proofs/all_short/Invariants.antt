@@ -1,4 +1,4 @@
-use Prim.Native.Nat.{◌-◌, ◌%◌, ◌≤◌}
+use Prim.Native.Nat.{◌%◌}
 use mathlib.Core.Path.{◌≡◌}
 use lib.Dec.{eqb}
 use Rattle.rules.specs.Words.{all_pass}
@@ -6,7 +6,4 @@ use Rattle.recording_bytes.proofs.Entries.{clear}
 use Rattle.recording_bytes.proofs.all_short.Given as goal
 
 abbrev pub invariant-loop-k : goal.invariant-loop-k
-invariant-loop-k l = (l.k ≤ l.cells) × (all_pass (clear l.frame) l.k ≡ eqb (l.all % 256) 0)
-
-abbrev pub decreases-loop-k : goal.decreases-loop-k
-decreases-loop-k l = l.cells - l.k
+invariant-loop-k l = all_pass (clear l.frame) l.k ≡ eqb (l.all % 256) 0
