@@ -1,5 +1,6 @@
 -- The order of an image's actions, judged on its columns.
 use mathlib.Core.Path.{◌≡◌, refl, ◌∙◌}
+use mathlib.Core.Bool.{Bool, true, false, cond, false≢true}
 use mathlib.Core.List.{List, [], ◌∷◌}
 use mathlib.Core.Logic.{inl, inr, ◌↔◌, ◌≢◌}
 use Prim.Native.Nat.{ℕ}
@@ -58,7 +59,16 @@ module _ {s : List ℕ} {h : Header} {m d w : List ℕ} (x : Opened s h) (y : Co
   pub verdict : {f : Fault} {l : List ℕ} → Verdict (lent_profile h.n h.cycle m d w 1) f l → Verdict (profile s) f l
   verdict v = verdict_alike (alike_back alike) v
 
--- without a refusal the header's counts are found, and the actions in order
+-- The number that a judgement says is not 8, and 9 where it says unfit.
+pub no_loop : (b : Bool) → cond b refused_unfit 0 ≢ refused_loop
+no_loop true = λ e. omega (arith, e)
+no_loop false = λ e. omega (arith, e)
+
+pub nine_if : (b : Bool) → (b ≡ true) ↔ (cond b refused_unfit 0 ≡ refused_unfit)
+nine_if true = ((λ e. refl), (λ e. refl))
+nine_if false = ((λ e. absurd (false≢true e)), (λ e. absurd (omega (arith, e))))
+
+-- what the header and a judgement say is found
 pub found : {s : List ℕ} {h : Header} {r : Checked} {f : Fault} → HeaderOf s h → Verdict (profile s) f r.order → f.number ≢ refused_loop
     → r.n ≡ h.n → r.levels ≡ h.levels → r.cycle ≡ h.cycle → Found s r
 unfolding profile

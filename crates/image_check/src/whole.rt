@@ -42,12 +42,7 @@ fn check_spare(image: &[u8], head: Header) -> Result<(), Blame>
 }
 
 // 5 to 7.
-fn check_records(
-    image: &[u8],
-    head: Header,
-    masks: &[u64],
-    deadlines: &[u32],
-) -> Result<(), Blame>
+fn check_records(image: &[u8], head: Header, masks: &[u64], deadlines: &[u32]) -> Result<(), Blame>
     requires opened { Opened image.now head }
     requires column { Column (mask_of image.now) head.n masks.now × Column (deadline_of image.now) head.n deadlines.now }
     ensures { Refuses (record_checks image.now) (fault result) }
@@ -75,11 +70,12 @@ fn checked_columns(
 {
     check_records(image, head, masks, deadlines)?;
     let judged = order::judge(masks, deadlines, head.cycle, worst, 1, head.n)?;
+    let order = judged.order;
     Ok(Checked {
         n: head.n,
         levels: head.levels,
         cycle: head.cycle,
-        order: judged.order,
+        order,
         unfit: judged.unfit,
     })
 }

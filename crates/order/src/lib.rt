@@ -2,7 +2,7 @@
 // A deadline of 0 stands for the cycle.
 #![tactic(auto)]
 
-ghost use Rattle.std.specs.Prelude.{◌≡◌, true, ◌↔◌, List, [], ℕ, ◌≤◌, ◌<◌, length, get_or, is_none, unwrap_or, replicate};
+ghost use Rattle.std.specs.Prelude.{◌≡◌, true, ◌↔◌, List, [], ℕ, ◌≤◌, ◌<◌, length, get_or, is_none, unwrap_or, replicate, IfErr};
 ghost use Rattle.rules.specs.Numbers.{most_actions};
 ghost use Rattle.rules.specs.Order.{Loop};
 ghost use Rattle.sets.specs.Sets.{Below, comes_before};
@@ -138,8 +138,9 @@ pub fn judge(
     n: usize,
 ) -> Result<Judgement, Blame>
     requires { Masked n masks.now × Timed n deadlines.now worst.now stride }
-    ensures { Verdict
+    ensures verdict { Verdict
         (lent_profile n cycle masks.now deadlines.now worst.now stride) (verdict result) (judged_order result) }
+    ensures looped { IfErr result (λ b. b.reason ≡ Reason.Loop) }
 {
     let Some(order) = ordered(masks, deadlines, cycle, n) else {
         let a = first_looped(masks, n).unwrap();

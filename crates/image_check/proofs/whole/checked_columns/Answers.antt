@@ -1,57 +1,43 @@
-use mathlib.Core.Path.{refl}
-use native.Mathlib.Omega.{arith}
-use borrow.Author.Tests.{eq-eqb, eqb-true}
-use Rattle.rules.specs.Image.{profile}
-use Rattle.rules.specs.Refusals.{First}
-use Rattle.rules.proofs.Refusals.{first-goes_on, none_named, refuses-stops, refuses-goes_on}
+use mathlib.Core.Path.{refl, ap}
+use Rattle.rules.specs.Reasons.{number_of}
+use Rattle.rules.proofs.Reasons.{some_number, handed_up}
+use Rattle.rules.proofs.Refusals.{refuses-stops, refuses-goes_on, first-goes_on, none-at_fault}
 use Rattle.fields.proofs.Bytes.{Bytes}
-use Rattle.order.specs.Judged.{Verdict}
-use Rattle.image_check.specs.Checks.{record_checks, loop-check}
+use Rattle.image_check.specs.Checks.{record_checks, loop_check, rest_checks, BodyAnswers}
 use Rattle.image_check.proofs.Checks.{record_numbered, rest-numbered}
-use Rattle.image_check.proofs.Ordering.{masked, timed, verdict, found, loop-given, none-given, unfit-told}
-use Rattle.image_check.proofs.Answers.{refused-body, accepted-answers}
+use Rattle.image_check.proofs.Ordering.{masked, timed, verdict as on_profile, found, loop-given, none-given, unfit-told, no_loop, nine_if}
+use Rattle.image_check.proofs.Answers.{refused_body}
 use Rattle.image_check.proofs.whole.checked_columns.Goals as goal
-use Rattle.image_check.proofs.whole.checked_columns.Goals.{After-judge-judged, Else-refusal-ne0}
 
--- none of 5 to 7 is given
-none : (c : Else-refusal-ne0) → First (record_checks c.args.image.now) 0
-none c = rw c.if-refusal-ne0.false at c.record_refusal-refusal.ensures.number
-
--- 8, 9 or none, of the profile
-judged : (c : After-judge-judged)
-    → let s = c.args.image.now in
-    Verdict (profile s) c.judge-judged.result.refusal c.judge-judged.result.order
-judged c = let pre = c.requires in verdict pre.0 pre.1 c.judge-judged.ensures
-
-pub returns-then-refusal-ne0 : goal.returns-then-refusal-ne0
-returns-then-refusal-ne0 c =
+pub returns-in_err-check_records : goal.returns-in_err-check_records
+returns-in_err-check_records c =
     let s = c.args.image.now in
-    refused-body c.record_refusal-refusal.result
-    (refuses-stops (record_checks s) (loop-check s) c.record_refusal-refusal.result c.record_refusal-refusal.ensures c.if-refusal-ne0.true)
-    c.if-refusal-ne0.true c.refused.ensures
+    let given = refuses-stops (record_checks s) (loop_check s) _ c.in_err-check_records.ensures (some_number _) in
+    handed_up (BodyAnswers (rest_checks s) s) c.from_residual.result c.from_residual.ensures.1 (λ b e. refused_body b (rw (← e) at given))
 
-pub judge-judged-requires : goal.judge-judged-requires
-judge-judged-requires c =
+pub judge-requires : goal.judge-requires
+judge-requires c =
     let bytes : Bytes c.args.image.now = λ k. (c.type_inv.image k).fits in
-    (masked c.requires.0 c.requires.1 (none (goal.at.judge-judged-requires c).Else-refusal-ne0), timed c.requires.0 c.requires.1 bytes)
+    (masked c.requires.0 c.requires.1 c.in_ok-check_records.ensures.number, timed c.requires.0 c.requires.1 bytes)
 
-pub returns-then-judgement-eq-REFUSED_LOOP : goal.returns-then-judgement-eq-REFUSED_LOOP
-returns-then-judgement-eq-REFUSED_LOOP c =
-    let eight = c.if-judgement-eq-REFUSED_LOOP.true in
+pub returns-in_err-judged : goal.returns-in_err-judged
+returns-in_err-judged c =
     let s = c.args.image.now in
-    let f = c.judge-judged.result.refusal in
-    refused-body f (refuses-goes_on (record_checks s) (loop-check s) f (record_numbered s) (none (goal.at.returns-then-judgement-eq-REFUSED_LOOP c).Else-refusal-ne0) (loop-given (judged (goal.at.returns-then-judgement-eq-REFUSED_LOOP c).After-judge-judged) eight))
-    (λ z. omega (arith, eight)) c.refused-then-judgement-eq-REFUSED_LOOP.ensures
+    let eight = loop-given (on_profile c.requires.0 c.requires.1 c.in_err-judged.ensures.verdict) (ap number_of c.in_err-judged.ensures.looped) in
+    let given = refuses-goes_on (record_checks s) (loop_check s) _ (record_numbered s) c.in_ok-check_records.ensures.number eight in
+    handed_up (BodyAnswers (rest_checks s) s) c.from_residual-in_err-judged.result c.from_residual-in_err-judged.ensures.1 (λ b e. refused_body b (rw (← e) at given))
 
 pub returns : goal.returns
 returns c =
-    let record-refusal = c.record_refusal-refusal in
     let s = c.args.image.now in
-    let told = unfit-told (judged (goal.at.returns c).After-judge-judged) c.if-judgement-eq-REFUSED_LOOP.false in
-    let passed = first-goes_on (record_checks s) (loop-check s) 0 (record_numbered s) (none (goal.at.returns c).Else-refusal-ne0) (none-given (judged (goal.at.returns c).After-judge-judged) c.if-judgement-eq-REFUSED_LOOP.false) in
-    let nobody = none_named (record_checks s) record-refusal.result (record_numbered s) record-refusal.ensures c.if-refusal-ne0.false in
+    let judged = on_profile c.requires.0 c.requires.1 c.in_ok-judged.ensures.verdict in
+    let told = nine_if c.in_ok-judged.judged.unfit in
+    let loopless = no_loop c.in_ok-judged.judged.unfit in
+    let passed = first-goes_on (record_checks s) (loop_check s) 0 (record_numbered s) c.in_ok-check_records.ensures.number (none-given judged loopless) in
     record {
-      answers = accepted-answers (rest-numbered s) passed c.if-refusal-ne0.false nobody
-          (found c.requires.0.header (judged (goal.at.returns c).After-judge-judged) c.if-judgement-eq-REFUSED_LOOP.false refl refl refl);
-      unfit = λ _. ((λ e. told.0 (eqb-true _ _ e)), (λ u. eq-eqb _ _ (told.1 u)));
+      answers = record {
+        given = record { number = passed; action = none-at_fault (rest_checks s) (rest-numbered s) passed };
+        accepted = found c.requires.0.header judged loopless refl refl refl;
+      };
+      unfit = ((λ e. (unfit-told judged loopless).0 (told.0 e)), (λ u. told.1 ((unfit-told judged loopless).1 u)));
     }
