@@ -1,18 +1,25 @@
 -- The calls for a limit and a coast bound of a body repeated: what they answer, on lent summaries whoever wrote them, and on planning's.
-use Rattle.std.specs.Prelude.{ℕ, zero, suc, ◌+◌, ◌-◌, ◌*◌, ◌≤◌, ◌<◌, max, ◌≡◌, Bool, true, false, cond, ◌&&◌, List, [], eqb, pos, ◌-ℤ◌, length}
+use Rattle.std.specs.Prelude.{ℕ, zero, suc, ◌+◌, ◌-◌, ◌*◌, ◌≤◌, ◌<◌, max, ◌≡◌, Bool, true, false, cond, ◌&&◌, List, [], eqb, ℤ, pos, ◌-ℤ◌, length, Result, Ok, Err}
 use Rattle.std.specs.Int.Signed.{le_z, mag}
 use Rattle.rules.specs.Numbers.{most_actions, most_levels, last_clock, most_repeats, longest_coast, policy_2005, summary_numbers}
 use Rattle.rules.specs.Image.{Profile}
 use Rattle.rules.specs.Order.{Order, TheOrder}
 use Rattle.rules.specs.Limits.{tables, limit_by, planned}
 use Rattle.rules.specs.Refusals.{kept}
+use Rattle.rules.specs.Reasons.{number_of}
 use Rattle.rules.specs.Repeat.{unrolled, Sums, stretch_at, LentBody, positions, lent_plan, PlannedBody, body_limit_refusal, body_bound_refusal, bound_or_absent}
 use Rattle.rules.specs.declared.Body.{Body}
+use Rattle.rules.specs.declared.Reason.{Reason}
 use Rattle.repeat_limits.specs.declared.Limited.{Limited}
 use Rattle.repeat_limits.specs.declared.Later.{Later}
 use Rattle.repeat_limits.specs.declared.Room.{Room}
 
 -- ---- the calls
+
+-- what C is answered of a limit or a coast bound
+abbrev pub limited : Result ℤ Reason → Limited
+limited (Ok limit) = record { refusal = record { number = 0 }; limit = limit }
+limited (Err reason) = record { refusal = record { number = number_of reason }; limit = pos 0 }
 
 -- The limit by the lent summaries; where planning wrote them, that of the unrolled system, by whatever order is its own.
 pub record LimitAnswers (b : Body) (summaries : List ℕ) (i q : ℕ) (r : Limited) : Type 0 where

@@ -6,27 +6,39 @@ ghost use Rattle.std.specs.Prelude.{◌≡◌, [], ◌≢◌, ℕ, suc, ◌+◌,
 ghost use Rattle.std.specs.Int.Signed.{mag};
 ghost use Rattle.rules.specs.Numbers.{most_repeats, longest_coast, summary_numbers};
 ghost use Rattle.rules.specs.Refusals.{first};
+ghost use Rattle.rules.specs.Reasons.{number};
 ghost use Rattle.rules.specs.Repeat.{needed, last_mix, stretch_at, rest_lent, positions, lent_each, lent_plan, body_tests, known_tests, body_limit_refusal, body_bound_refusal};
 ghost use Rattle.repeat_laws.specs.Standing.{Standing};
-ghost use Rattle.repeat_limits.specs.Limits.{signed_above, most_entry, greatest_mix, greatest_reach, CountsIn, Stands, Summed, later_of, BodiesAfter, Before, mix_before, LeavesRoom, Nears, room_left, fits_in, MoreAfter, Spans, Coasts, Passes, LimitAnswers, BoundAnswers};
+ghost use Rattle.repeat_limits.specs.Limits.{limited, signed_above, most_entry, greatest_mix, greatest_reach, CountsIn, Stands, Summed, later_of, BodiesAfter, Before, mix_before, LeavesRoom, Nears, room_left, fits_in, MoreAfter, Spans, Coasts, Passes, LimitAnswers, BoundAnswers};
 
-use rules::{Body, Refusal};
+use rules::{Body, Reason, Refusal};
 
-// What the limit or the coast bound asked for is; with a refusal it is 0.
+// What C is answered of a limit or a coast bound; with a refusal it is 0.
 #[repr(C)]
-#[derive(Drop)]
+#[derive(Clone, Copy)]
 pub struct Limited {
     pub refusal: Refusal,
     pub limit: i64,
 }
 
-// ---- the sums
+impl From<Result<i64, Reason>> for Limited {
+    ghost from_gives = { λ answer flat. flat ≡ limited answer };
 
-fn greater(a: u64, b: u64) -> u64
-    ensures { result ≡ max a b }
-{
-    if a < b { b } else { a }
+    fn from(answer: Result<i64, Reason>) -> Self {
+        match answer {
+            Ok(limit) => Limited {
+                refusal: Refusal { number: 0 },
+                limit,
+            },
+            Err(reason) => Limited {
+                refusal: Refusal::from(reason),
+                limit: 0,
+            },
+        }
+    }
 }
+
+// ---- the sums
 
 // One number less another, whichever is the greater.
 fn less(a: u64, b: u64) -> i64
@@ -34,12 +46,6 @@ fn less(a: u64, b: u64) -> i64
     ensures { result ≡ pos a -ℤ pos b }
 {
     a as i64 - b as i64
-}
-
-fn lesser(a: u64, b: u64) -> u64
-    ensures { result ≡ min a b }
-{
-    if a < b { a } else { b }
 }
 
 // Number k of entry x: 0 is A, 1 is W, 2 is M, 3 is V.
@@ -81,7 +87,7 @@ fn bodies_after(policy: u32, summaries: &[u32], q: usize, after: u64) -> Later
     }
     let average = number_at(summaries, q, 0);
     let lowest = number_at(summaries, q, 1);
-    let mix = number_at(summaries, q, 2) + (after - 1) * greater(average, lowest);
+    let mix = number_at(summaries, q, 2) + (after - 1) * average.max(lowest);
     let all = after * lowest;
     Later {
         counts: true,
@@ -98,7 +104,7 @@ fn mix_before(summaries: &[u32], x: usize, later: Later) -> u64
 {
     let mix = number_at(summaries, x, 2);
     if later.counts {
-        return greater(mix + later.lowest, number_at(summaries, x, 0) + later.mix);
+        return (mix + later.lowest).max(number_at(summaries, x, 0) + later.mix);
     }
     mix
 }
@@ -181,7 +187,7 @@ pub fn room_nearer(policy: u32, summaries: &[u32], q: usize, after: u64, room: R
         let average = given(mix, AMPLE);
         return Room { mix, average };
     }
-    let most = greater(number_at(summaries, q, 0), lowest);
+    let most = number_at(summaries, q, 0).max(lowest);
     let average = given(room.average, most);
     Room { mix, average }
 }
@@ -268,14 +274,12 @@ fn reach(
     let mut most = mix_before(summaries, place * levels + level, later);
     let mut spent: u64 = 0;
     let mut spot = Spot { place, after };
-    let mut k = 1;
-    while k < length {
+    for _k in 1..length {
         spent += worst[spot.place * levels + level] as u64;
         spot = next_spot(body, spot.place, spot.after);
         later = bodies_still(body.policy, summaries, level, spot, later);
         let here = mix_before(summaries, spot.place * levels + level, later);
-        most = greater(most, spent + here);
-        k += 1;
+        most = most.max(spent + here);
     }
     most
 }
@@ -340,7 +344,7 @@ fn least_reach(
     }
     let first = mix_from(body.policy, summaries, place * levels + level, level, after);
     let last = last_reach(body, summaries, place, after, level, length);
-    lesser(each, greater(first, last))
+    each.min(first.max(last))
 }
 
 // ---- refusals
@@ -364,8 +368,8 @@ fn body_in(body: Body) -> bool
 }
 
 // 3 and 19.
-pub fn body_refusal(body: Body) -> u32
-    ensures { result ≡ first (body_tests body) }
+pub fn body_refusal(body: Body) -> Result<(), Reason>
+    ensures { number result ≡ first (body_tests body) }
 {
     let n = body.n;
     let levels = body.levels;
@@ -377,46 +381,43 @@ pub fn body_refusal(body: Body) -> u32
         | (cycle < 1)
         | (rules::LAST_CLOCK < cycle)
     {
-        return rules::REFUSED_COUNT;
+        return Err(Reason::Count);
     }
     let repeats = body.repeats;
     if (repeats < 1) | (rules::MOST_REPEATS < repeats) {
-        return rules::REFUSED_REPEATS;
+        return Err(Reason::Repeats);
     }
-    0
+    Ok(())
 }
 
 // And 20.
-pub fn known_refusal(body: Body) -> u32
-    ensures { result ≡ first (known_tests body) }
+pub fn known_refusal(body: Body) -> Result<(), Reason>
+    ensures { number result ≡ first (known_tests body) }
 {
     if !body_in(body) {
         return body_refusal(body);
     }
     let policy = body.policy;
     if (policy != rules::POLICY_2008) & (policy != rules::POLICY_2005) {
-        return rules::REFUSED_POLICY;
+        return Err(Reason::Policy);
     }
-    0
+    Ok(())
 }
 
 // Those of the body, 17, then 18.
-fn limit_refusal(body: Body, summaries: &[u32], position: usize, level: usize) -> u32
-    ensures { result ≡ body_limit_refusal body summaries.now position level }
+fn limit_refusal(body: Body, summaries: &[u32], position: usize, level: usize) -> Result<(), Reason>
+    ensures { number result ≡ body_limit_refusal body summaries.now position level }
 {
-    let number = known_refusal(body);
-    if number != 0 {
-        return number;
-    }
+    known_refusal(body)?;
     let n = body.n as usize;
     let levels = body.levels as usize;
     if summaries.len() < n * levels * rules::SUMMARY_NUMBERS {
-        return rules::REFUSED_ROOM;
+        return Err(Reason::Room);
     }
     if (body.repeats as usize * n <= position) | (levels <= level) {
-        return rules::REFUSED_READING;
+        return Err(Reason::Reading);
     }
-    0
+    Ok(())
 }
 
 // Those of the limit with the room of the worst times, and a length outside 1 to 16 is 18 too.
@@ -427,28 +428,25 @@ fn bound_refusal(
     position: usize,
     level: usize,
     length: usize,
-) -> u32
-    ensures { result ≡ body_bound_refusal body (record { order = []; summaries = summaries.now; worst = worst.now })
+) -> Result<(), Reason>
+    ensures { number result ≡ body_bound_refusal body (record { order = []; summaries = summaries.now; worst = worst.now })
         position level length }
 {
-    let number = known_refusal(body);
-    if number != 0 {
-        return number;
-    }
+    known_refusal(body)?;
     let n = body.n as usize;
     let levels = body.levels as usize;
     let cells = n * levels;
     if (summaries.len() < cells * rules::SUMMARY_NUMBERS) | (worst.len() < cells) {
-        return rules::REFUSED_ROOM;
+        return Err(Reason::Room);
     }
     if (body.repeats as usize * n <= position)
         | (levels <= level)
         | (length < 1)
         | (rules::LONGEST_COAST < length)
     {
-        return rules::REFUSED_READING;
+        return Err(Reason::Reading);
     }
-    0
+    Ok(())
 }
 
 // ---- the calls
@@ -468,20 +466,11 @@ fn limit_at(body: Body, summaries: &[u32], position: usize, level: usize) -> i64
 }
 
 // The limit at an unrolled position and a level, any values.
-pub fn limit(body: Body, summaries: &[u32], position: usize, level: usize) -> Limited
-    ensures { LimitAnswers body summaries.now position level result }
+pub fn limit(body: Body, summaries: &[u32], position: usize, level: usize) -> Result<i64, Reason>
+    ensures { LimitAnswers body summaries.now position level (limited result) }
 {
-    let number = limit_refusal(body, summaries, position, level);
-    if number != 0 {
-        return Limited {
-            refusal: Refusal { number },
-            limit: 0,
-        };
-    }
-    Limited {
-        refusal: Refusal { number: 0 },
-        limit: limit_at(body, summaries, position, level),
-    }
+    limit_refusal(body, summaries, position, level)?;
+    Ok(limit_at(body, summaries, position, level))
 }
 
 // The coast bound at an unrolled position, a level and a length, any values; absent where the coast would go past the last position.
@@ -492,29 +481,17 @@ pub fn bound(
     position: usize,
     level: usize,
     length: usize,
-) -> Limited
+) -> Result<i64, Reason>
     ensures { BoundAnswers body (record { order = []; summaries = summaries.now; worst = worst.now })
-        position level length result }
+        position level length (limited result) }
 {
-    let number = bound_refusal(body, summaries, worst, position, level, length);
-    if number != 0 {
-        return Limited {
-            refusal: Refusal { number },
-            limit: 0,
-        };
-    }
+    bound_refusal(body, summaries, worst, position, level, length)?;
     if body.repeats as usize * body.n as usize - position < length {
-        return Limited {
-            refusal: Refusal { number: 0 },
-            limit: rules::ABSENT_LONG,
-        };
+        return Ok(rules::ABSENT_LONG);
     }
     let spot = spot_of(body, position);
     let most = least_reach(
         body, summaries, worst, spot.place, spot.after, level, length,
     );
-    Limited {
-        refusal: Refusal { number: 0 },
-        limit: less(body.cycle as u64, most),
-    }
+    Ok(less(body.cycle as u64, most))
 }

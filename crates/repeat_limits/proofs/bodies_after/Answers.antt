@@ -12,10 +12,10 @@ returns c =
     let average = c.number_at-average.ensures in
     let lowest = c.number_at-lowest.ensures in
     let mix = c.number_at-2.ensures in
-    let most : c.greater.result ≤ most_entry = omega (arith, c.greater.ensures, average.small, lowest.small) in
+    let most : c.max.result ≤ most_entry = omega (arith, c.max.ensures, average.small, lowest.small) in
     record {
       few_lowest = times-small a.after _ c.requires.1 lowest.small;
       few_mix = later-small a.after _ _ some c.requires.1 most mix.small;
-      is = rw c.greater.ensures (read-later a.policy c.if-policy-eq-POLICY_2005.false {l = a.summaries.now} {q = a.q}
+      is = rw c.max.ensures (read-later a.policy c.if-policy-eq-POLICY_2005.false {l = a.summaries.now} {q = a.q}
           (record { average_is = average.is; lowest_is = lowest.is; mix_is = mix.is }) a.after some);
     }

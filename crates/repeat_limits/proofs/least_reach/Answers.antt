@@ -25,6 +25,6 @@ returns-clause-is c i h =
     let room = c.requires.spans in
     let left = rest-left room.counts.some_action h in
     let so = told a.body.levels a.level a.length (a.after * a.body.n + (a.body.n - a.place)) c.if-level-levels.false room.most room.room in
-    rw (c.lesser.ensures, c.greater.ensures)
+    rw (c.min.ensures, c.max.ensures)
     (by_either a.body (record { order = []; summaries = a.summaries.now; worst = a.worst.now }) i a.level a.length each.result (each.ensures.is i h) so.0 (omega (arith, so.1, left))
     (c.mix_from-first.ensures.mixed ∙ standing_mix a.summaries.now a.level h) (c.last_reach-last.ensures.is i h))

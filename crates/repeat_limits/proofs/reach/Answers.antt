@@ -5,7 +5,6 @@ use mathlib.Core.List.{[]}
 use native.Mathlib.Nat.{mul-le-mul_right}
 use native.Mathlib.Omega.{arith}
 use lib.ListN.{get_or}
-use borrow.Author.Rules.{rules}
 use Rattle.rules.specs.Repeat.{LentBody, positions}
 use Rattle.repeat_laws.specs.Standing.{Standing}
 use Rattle.repeat_limits.specs.Limits.{Summed}
@@ -23,10 +22,10 @@ module _ (c : In-loop-k) where
 
   -- from the position that stands there: where the last one walked to stands, and that one more follows
   walked : let a = c.args in let l = c.loop-k in
-      Reaching a.body lent ((a.body.repeats - 1 - a.after) * a.body.n + a.place) a.level l.k l.spot.place l.spot.after l.spent l.most
-  walked = c.loop-k.invariant.3 _ (from-stands c.requires.spans)
+      Reaching a.body lent ((a.body.repeats - 1 - a.after) * a.body.n + a.place) a.level l._k l.spot.place l.spot.after l.spent l.most
+  walked = c.loop-k.invariant.2 _ (from-stands c.requires.spans)
 
-  follows : let a = c.args in suc ((a.body.repeats - 1 - a.after) * a.body.n + a.place + (c.loop-k.k - 1)) < positions a.body
+  follows : let a = c.args in suc ((a.body.repeats - 1 - a.after) * a.body.n + a.place + (c.loop-k._k - 1)) < positions a.body
   follows = omega (arith, room_left c.requires.spans (from-stands c.requires.spans), walked.some, c.loop-k-test.true)
 
   -- the entry read, and the worst time read there
@@ -34,23 +33,23 @@ module _ (c : In-loop-k) where
   entry = entry_there c.requires.spans walked.stands
 
   -- at most sixteen positions
-  few : c.loop-k.k * 4294967295 ≤ 15 * 4294967295
-  few = let l : c.loop-k.k ≤ 15 = omega (arith, c.requires.spans.most, c.loop-k-test.true) in mul-le-mul_right 4294967295 l
+  few : c.loop-k._k * 4294967295 ≤ 15 * 4294967295
+  few = let l : c.loop-k._k ≤ 15 = omega (arith, c.requires.spans.most, c.loop-k-test.true) in mul-le-mul_right 4294967295 l
 
   -- the worst times added
   passed : let a = c.args in
-      c.loop-k.spent + get_or a.worst.now (c.loop-k.spot.place * a.body.levels + a.level) 0 ≤ c.loop-k.k * 4294967295
+      c.loop-k.spent + get_or a.worst.now (c.loop-k.spot.place * a.body.levels + a.level) 0 ≤ c.loop-k._k * 4294967295
   passed =
       let a = c.args in
-      omega (arith, c.type_inv.worst (c.loop-k.spot.place * a.body.levels + a.level), c.loop-k.invariant.1, walked.some)
+      omega (arith, c.type_inv.worst (c.loop-k.spot.place * a.body.levels + a.level), c.loop-k.invariant.0, walked.some)
 
 -- where the next one stands
 module _ (c : After-next_spot-spot) where
   next-stands : let a = c.args in
-      Standing a.body (suc ((a.body.repeats - 1 - a.after) * a.body.n + a.place + (c.loop-k.k - 1)))
+      Standing a.body (suc ((a.body.repeats - 1 - a.after) * a.body.n + a.place + (c.loop-k._k - 1)))
       c.next_spot-spot.result.place c.next_spot-spot.result.after
-  next-stands = c.next_spot-spot.ensures.stands _ (c.loop-k.invariant.3 _ (from-stands c.requires.spans)).stands
-      (omega (arith, room_left c.requires.spans (from-stands c.requires.spans), (c.loop-k.invariant.3 _ (from-stands c.requires.spans)).some, c.loop-k-test.true))
+  next-stands = c.next_spot-spot.ensures.stands _ (c.loop-k.invariant.2 _ (from-stands c.requires.spans)).stands
+      (omega (arith, room_left c.requires.spans (from-stands c.requires.spans), (c.loop-k.invariant.2 _ (from-stands c.requires.spans)).some, c.loop-k-test.true))
 
   next-entry : Entry c.args.body c.next_spot-spot.result.place c.args.level
   next-entry = entry_there c.requires.spans next-stands
@@ -66,7 +65,6 @@ pub loop-k-init : goal.loop-k-init
 loop-k-init c =
     let a = c.args in
     let later = c.bodies_after-later.ensures in (
-      c.requires.spans.some,
       omega arith,
       omega (arith, c.mix_before-most.ensures.small),
       (λ i h. reaching_one _ _ i _ h (joined (a.place * a.body.levels + a.level) later c.mix_before-most.ensures.mixed)),
@@ -110,12 +108,11 @@ loop-k-preserved c =
     let l = c.loop-k in
     let a = c.args in
     let later = c.bodies_still-later.ensures in (
-      search rules,
       omega (arith, passed w, (walked w).some),
-      omega (arith, passed w, l.invariant.2, (walked w).some, c.mix_before-here.ensures.small, c.greater-most.ensures),
+      omega (arith, passed w, l.invariant.1, (walked w).some, c.mix_before-here.ensures.small, c.max-most.ensures),
       (λ i h.
-          let R = l.invariant.3 i h in
-          rw (c.greater-most.ensures, joined (c.next_spot-spot.result.place * a.body.levels + a.level) later c.mix_before-here.ensures.mixed)
+          let R = l.invariant.2 i h in
+          rw (c.max-most.ensures, joined (c.next_spot-spot.result.place * a.body.levels + a.level) later c.mix_before-here.ensures.mixed)
           (reaching_more _ _ i _ R (c.next_spot-spot.ensures.stands _ R.stands (omega (arith, room_left c.requires.spans h, R.some))))),
       later,
     )
@@ -123,5 +120,5 @@ loop-k-preserved c =
 pub returns-clause-is : goal.returns-clause-is
 returns-clause-is c i h =
     let l = c.loop-k in
-    let all : l.k ≡ c.args.length = omega (arith, l.invariant.0, c.loop-k-test.false) in
-    reaching_all _ _ i _ c.args.length (l.invariant.3 i h) all
+    let all : l._k ≡ c.args.length = omega (arith, l.invariant.0, c.loop-k-test.false) in
+    reaching_all _ _ i _ c.args.length (l.invariant.2 i h) all

@@ -100,6 +100,6 @@ returns c cycle begins is =
     rw (
       mix_is c.requires fits c.given-mix.ensures c.number_at-lowest.ensures.is,
       some c.requires fits mixed left c.given-average-2.ensures
-          (greater-of c.greater-most.ensures (first-number a.summaries.now a.q c.number_at-2.ensures.is) c.number_at-lowest.ensures.is),
+          (greater-of c.max-most.ensures (first-number a.summaries.now a.q c.number_at-2.ensures.is) c.number_at-lowest.ensures.is),
     )
     (given-some a.policy whole a.after a.room mixed left ∙ nearer cycle begins whole a.policy a.after c.requires.some is)
