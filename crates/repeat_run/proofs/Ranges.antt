@@ -3,14 +3,19 @@ use Prim.Native.Nat.{ℕ, ◌+◌, ◌*◌, ◌%◌, ◌≤◌, ◌<◌}
 use mathlib.Core.Path.{◌≡◌, refl, sym, ap}
 use mathlib.Core.Bool.{Bool, true, false, not, cond, ◌||◌}
 use mathlib.Core.List.{List}
+use mathlib.Core.Logic.{◌≢◌}
 use native.Mathlib.Nat.{mul-le-mul_right}
 use native.Mathlib.Omega.{arith}
 use lib.Dec.{eqb, ltb, lit<}
 use lib.ListN.{length}
-use borrow.Author.Tests.{eqb-true, eq-eqb, ltb-false, eqb-false, not-false}
+use borrow.Author.Tests.{eqb-true, eq-eqb, ne_eqb, ltb-false, eqb-false, not-false}
 use Rattle.rules.specs.Numbers.{summary_numbers}
 use Rattle.rules.specs.Words.{every, one_if}
+use Rattle.std.specs.Prelude.{Result, Ok, Err}
+use Rattle.std.specs.Result.{is_ok, is_err}
 use Rattle.rules.specs.Refusals.{first}
+use Rattle.rules.specs.Reasons.{number}
+use Rattle.rules.specs.declared.Reason.{Reason}
 use Rattle.rules.specs.Run.{Run, in_cycle}
 use Rattle.rules.specs.Repeat.{LentBody, positions, body_tests, body_in_range, body_ask_refusal, body_report_refusal}
 use Rattle.rules.specs.declared.Body.{Body}
@@ -18,8 +23,22 @@ use Rattle.rules.proofs.Tests.{failed, and-true, neither}
 use Rattle.rules.proofs.Calls.{InCycle, in_cycle_facts, facts_in_cycle}
 use Rattle.repeat_laws.proofs.Places.{place-lt}
 use Rattle.repeat_limits.specs.Limits.{CountsIn}
-use Rattle.repeat_limits.proofs.Refusing.{counts_in, Products, products}
+use Rattle.repeat_limits.proofs.Refusing.{some-number, counts_in, Products, products}
 use Rattle.repeat_run.specs.Calls.{MayDecide}
+
+-- ---- refused or not
+
+pub ok-number : {A : Type 0} (r : Result A Reason) → eqb (number r) 0 ≡ is_ok r
+ok-number (Ok _) = refl
+ok-number (Err reason) = ne_eqb _ _ (some-number reason)
+
+pub none-ok : {A : Type 0} (r : Result A Reason) → is_err r ≡ false → number r ≡ 0
+none-ok (Ok _) e = refl
+none-ok (Err _) e = cc
+
+pub some-err : {A : Type 0} (r : Result A Reason) → is_err r ≡ true → number r ≢ 0
+some-err (Ok _) e = cc
+some-err (Err reason) e = some-number reason
 
 -- ---- in range
 

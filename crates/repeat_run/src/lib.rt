@@ -4,6 +4,7 @@
 
 ghost use Rattle.std.specs.Prelude.{◌≡◌, ◌+◌, ◌*◌, ◌<◌, ◌≤◌};
 ghost use Rattle.rules.specs.Numbers.{most_positions, longest_coast};
+ghost use Rattle.rules.specs.Reasons.{number_of, number};
 ghost use Rattle.rules.specs.Limits.{Plan};
 ghost use Rattle.rules.specs.Run.{begun, coast, decide, ended, refused};
 ghost use Rattle.rules.specs.Repeat.{positions, body_in_range, body_start, body_ask_refusal, body_ask, body_report_refusal, body_report};
@@ -12,7 +13,7 @@ ghost use Rattle.repeat_run.specs.Calls.{steps_of, passed_by, cut_short, started
 
 use repeat_decision::{Choice, choose};
 use repeat_limits::{body_refusal, known_refusal, spot_of};
-use rules::{Body, Refusal};
+use rules::{Body, Reason, Refusal};
 use run::Answer;
 
 // The fields and their ranges are `body_in_range` of the rules. The position and the decisions are those of the unrolled system. The clock has 64
@@ -35,7 +36,7 @@ pub struct BodyRun {
 
 // What a start answers: the record begun, and the refusal.
 #[repr(C)]
-#[derive(Drop)]
+#[derive(Clone, Copy)]
 pub struct BodyStarted {
     pub run: BodyRun,
     pub refusal: Refusal,
@@ -44,7 +45,7 @@ pub struct BodyStarted {
 // The same before it is known which record is the next: `begun` where it begins, else `run`, of zero actions. A host's record takes the one and then,
 // nearly always, the other, so that no field of it is chosen between the two.
 #[repr(C)]
-#[derive(Drop)]
+#[derive(Clone, Copy)]
 pub struct BodyBegins {
     pub run: BodyRun,
     pub refusal: Refusal,
@@ -74,7 +75,7 @@ pub struct BodyAsks {
 
 // What a report answers: the next record, and the refusal.
 #[repr(C)]
-#[derive(Drop)]
+#[derive(Clone, Copy)]
 pub struct BodyReported {
     pub run: BodyRun,
     pub refusal: Refusal,
@@ -83,7 +84,7 @@ pub struct BodyReported {
 // The same before it is known which record is the next: `cut`, without its coast, where the action took too long, else `run`. A host's record takes
 // the one and then, rarely, the other, so that an end within the worst time touches neither coast nor mark.
 #[repr(C)]
-#[derive(Drop)]
+#[derive(Clone, Copy)]
 pub struct BodyEnds {
     pub run: BodyRun,
     pub refusal: Refusal,
@@ -113,7 +114,7 @@ impl BodyRun {
     pub fn begins(body: Body) -> BodyBegins
         ensures { begins_of result ≡ body_start body }
     {
-        let number = known_refusal(body);
+        let refused = known_refusal(body);
         let none = Body {
             n: 0,
             levels: 0,
@@ -123,9 +124,9 @@ impl BodyRun {
         };
         BodyBegins {
             run: begun(none),
-            refusal: Refusal { number },
+            refusal: Refusal::of(refused),
             begun: begun(body),
-            begins: number == 0,
+            begins: refused.is_ok(),
         }
     }
 
@@ -148,7 +149,7 @@ impl BodyRun {
         ensures { result ≡ body_in_range self.body (steps_of self) }
     {
         let body = self.body;
-        if body_refusal(body) != 0 {
+        if body_refusal(body).is_err() {
             return false;
         }
         let n = body.repeats * body.n;
@@ -239,12 +240,12 @@ impl BodyRun {
     }
 
     // Fields out of range 11, room 17, an action runs 11, all done 10.
-    fn ask_refusal(self, order: &[u8], summaries: &[u32], worst: &[u32]) -> u32
-        ensures { result ≡ body_ask_refusal self.body
+    fn ask_refusal(self, order: &[u8], summaries: &[u32], worst: &[u32]) -> Result<(), Reason>
+        ensures { number result ≡ body_ask_refusal self.body
             (record { order = order.now; summaries = summaries.now; worst = worst.now }) (steps_of self) }
     {
         if !self.in_range() {
-            return rules::REFUSED_TURN;
+            return Err(Reason::Turn);
         }
         let body = self.body;
         let n = body.n as usize;
@@ -253,24 +254,24 @@ impl BodyRun {
             | (summaries.len() < cells * rules::SUMMARY_NUMBERS)
             | (worst.len() < cells)
         {
-            return rules::REFUSED_ROOM;
+            return Err(Reason::Room);
         }
         if self.running {
-            return rules::REFUSED_TURN;
+            return Err(Reason::Turn);
         }
         if self.position == body.repeats * body.n {
-            return rules::REFUSED_FINISHED;
+            return Err(Reason::Finished);
         }
-        0
+        Ok(())
     }
 
     // A refused asking gives back the record.
-    fn refused(self, number: u32) -> BodyAsks
-        ensures { ((after_ask result).body ≡ self.body) × (asks_of result ≡ refused number (steps_of self)) }
+    fn refused(self, reason: Reason) -> BodyAsks
+        ensures { ((after_ask result).body ≡ self.body) × (asks_of result ≡ refused (number_of reason) (steps_of self)) }
     {
         BodyAsks {
             run: self,
-            answer: Answer::Refused(Refusal { number }),
+            answer: Answer::Refused(Refusal::from(reason)),
             gone: self,
             coasts: false,
             made: self,
@@ -285,9 +286,8 @@ impl BodyRun {
         ensures answer { asks_of result ≡ body_ask self.body
             (record { order = order.now; summaries = summaries.now; worst = worst.now }) (steps_of self) }
     {
-        let number = self.ask_refusal(order, summaries, worst);
-        if number != 0 {
-            return self.refused(number);
+        if let Err(reason) = self.ask_refusal(order, summaries, worst) {
+            return self.refused(reason);
         }
         let spot = spot_of(self.body, self.position as usize);
         let place = spot.place;
@@ -345,26 +345,26 @@ impl BodyRun {
     }
 
     // Fields out of range 11, room 17, none runs 11, back 12, above the clock limit 13.
-    fn report_refusal(self, clock: u32, worst: &[u32]) -> u32
-        ensures { result ≡ body_report_refusal self.body worst.now clock (steps_of self) }
+    fn report_refusal(self, clock: u32, worst: &[u32]) -> Result<(), Reason>
+        ensures { number result ≡ body_report_refusal self.body worst.now clock (steps_of self) }
     {
         if !self.in_range() {
-            return rules::REFUSED_TURN;
+            return Err(Reason::Turn);
         }
         let body = self.body;
         if worst.len() < body.n as usize * body.levels as usize {
-            return rules::REFUSED_ROOM;
+            return Err(Reason::Room);
         }
         if !self.running {
-            return rules::REFUSED_TURN;
+            return Err(Reason::Turn);
         }
         if (clock as u64) < self.clock {
-            return rules::REFUSED_BACK;
+            return Err(Reason::Back);
         }
         if rules::LAST_CLOCK < clock {
-            return rules::REFUSED_CLOCK;
+            return Err(Reason::Clock);
         }
-        0
+        Ok(())
     }
 
     // The end of the running action, by the clock since the cycle began. A refusal gives back the record.
@@ -372,11 +372,10 @@ impl BodyRun {
         ensures body { (left_by result).body ≡ self.body }
         ensures answer { ends_of result ≡ body_report self.body worst.now clock (steps_of self) }
     {
-        let number = self.report_refusal(clock, worst);
-        if number != 0 {
+        if let Err(reason) = self.report_refusal(clock, worst) {
             return BodyEnds {
                 run: self,
-                refusal: Refusal { number },
+                refusal: Refusal::from(reason),
                 cut: self,
                 over: false,
             };

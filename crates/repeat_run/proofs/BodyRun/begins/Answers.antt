@@ -1,6 +1,6 @@
 -- A start by the ranges of the body. Assumes nothing.
 use Prim.Native.Nat.{ℕ}
-use mathlib.Core.Path.{◌≡◌, refl, sym}
+use mathlib.Core.Path.{◌≡◌, sym, ◌∙◌}
 use mathlib.Core.Bool.{Bool, true, false, cond}
 use lib.Dec.{eqb}
 use borrow.Author.Tests.{eqb-true}
@@ -9,6 +9,7 @@ use Rattle.rules.specs.Repeat.{positions, no_body, body_start}
 use Rattle.rules.specs.declared.Body.{Body}
 use Rattle.repeat_run.specs.Calls.{steps_of, begins_of}
 use Rattle.repeat_run.specs.declared.BodyRun.{BodyRun}
+use Rattle.repeat_run.proofs.Ranges.{ok-number}
 use Rattle.repeat_run.proofs.BodyRun.begins.Goals as goal
 
 -- whichever is left: a record of a body, or one of none
@@ -22,6 +23,7 @@ begun-either b k false e x y p q = λ i. (q.0 i, record { number = k; run = q.1 
 pub returns : goal.returns
 unfolding body_start
 returns c =
-    let refusal = c.known_refusal-number in
-    rw (sym refusal.ensures)
-    (begun-either _ refusal.result _ refl c.begun-2.result c.begun.result c.begun-2.ensures c.begun.ensures)
+    let refused = c.known_refusal-refused in
+    let begins = ok-number refused.result ∙ sym c.is_ok.ensures.value in
+    rw (sym refused.ensures, c.of.ensures, begins)
+    (begun-either _ _ _ begins c.begun-2.result c.begun.result c.begun-2.ensures c.begun.ensures)

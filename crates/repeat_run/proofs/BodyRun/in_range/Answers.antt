@@ -4,31 +4,31 @@ use native.Mathlib.Omega.{arith}
 use Rattle.rules.specs.Refusals.{first}
 use Rattle.rules.specs.Repeat.{body_tests}
 use Rattle.repeat_limits.proofs.Refusing.{Products, counts_in, products}
-use Rattle.repeat_run.proofs.Ranges.{is-ranged, not-ranged}
+use Rattle.repeat_run.proofs.Ranges.{none-ok, some-err, is-ranged, not-ranged}
 use Rattle.repeat_run.proofs.BodyRun.in_range.Goals as goal
-use Rattle.repeat_run.proofs.BodyRun.in_range.Goals.{Else-body_refusal-ne0}
+use Rattle.repeat_run.proofs.BodyRun.in_range.Goals.{Else-is_err}
 
 -- after the first test
-none : (c : Else-body_refusal-ne0) → first (body_tests c.args.self.body) ≡ 0
-none c = sym c.body_refusal.ensures ∙ c.if-body_refusal-ne0.false
+none : (c : Else-is_err) → first (body_tests c.args.self.body) ≡ 0
+none c = sym c.body_refusal.ensures ∙ none-ok _ (sym c.is_err.ensures.value ∙ c.if-is_err.false)
 
-few : (c : Else-body_refusal-ne0) → Products c.args.self.body
+few : (c : Else-is_err) → Products c.args.self.body
 few c = products (counts_in _ (sym (none c)))
 
-pub returns-then-body_refusal-ne0 : goal.returns-then-body_refusal-ne0
-returns-then-body_refusal-ne0 c = not-ranged _ _ (λ none C. c.if-body_refusal-ne0.true (c.body_refusal.ensures ∙ none))
+pub returns-then-is_err : goal.returns-then-is_err
+returns-then-is_err c = not-ranged _ _ (λ none C. some-err _ (sym c.is_err.ensures.value ∙ c.if-is_err.true) (c.body_refusal.ensures ∙ none))
 
 pub overflow_mul-n : goal.overflow_mul-n
-overflow_mul-n c = omega (arith, few (goal.at.overflow_mul-n c).Else-body_refusal-ne0)
+overflow_mul-n c = omega (arith, few (goal.at.overflow_mul-n c).Else-is_err)
 
 pub returns-then-n-self : goal.returns-then-n-self
 returns-then-n-self c = not-ranged _ _ (λ none C. omega (arith, C.position))
 
 pub overflow_add-asked : goal.overflow_add-asked
-overflow_add-asked c = omega (arith, few (goal.at.overflow_add-asked c).Else-body_refusal-ne0, c.one_if.ensures)
+overflow_add-asked c = omega (arith, few (goal.at.overflow_add-asked c).Else-is_err, c.one_if.ensures)
 
 pub overflow_add-left : goal.overflow_add-left
-overflow_add-left c = omega (arith, few (goal.at.overflow_add-left c).Else-body_refusal-ne0, c.one_if.ensures)
+overflow_add-left c = omega (arith, few (goal.at.overflow_add-left c).Else-is_err, c.one_if.ensures)
 
 pub returns-then-n-left : goal.returns-then-n-left
 returns-then-n-left c = not-ranged _ _ (λ none C. omega (arith, C.room, c.one_if.ensures))
@@ -49,7 +49,7 @@ returns-then-asked-self c =
 pub returns : goal.returns
 returns c =
     let e = c.one_if.ensures in
-    is-ranged _ _ (none (goal.at.returns c).Else-body_refusal-ne0) (record {
+    is-ranged _ _ (none (goal.at.returns c).Else-is_err) (record {
       position = omega arith;
       clock = omega arith;
       running = omega (arith, e, c.if-n-left.false);
