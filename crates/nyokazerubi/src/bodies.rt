@@ -58,7 +58,7 @@ pub fn nyokazerubi_body_limit(
     ensures { LimitAnswers (body_lent body.now) summaries.now position level result }
 {
     let lent = body_lent(body);
-    repeat_limits::limit(lent, summaries, position, level)
+    Limited::from(repeat_limits::limit(lent, summaries, position, level))
 }
 
 pub fn nyokazerubi_body_bound(
@@ -73,7 +73,7 @@ pub fn nyokazerubi_body_bound(
         (record { order = []; summaries = summaries.now; worst = worst_by_position.now }) position level length result }
 {
     let lent = body_lent(body);
-    repeat_limits::bound(lent, summaries, worst_by_position, position, level, length)
+    Limited::from(repeat_limits::bound(lent, summaries, worst_by_position, position, level, length))
 }
 
 // ---- starting and asking by value, the answer of an asking laid flat

@@ -22,10 +22,8 @@ pub fn total(image: &[u8], levels: usize, n: usize) -> u32
     ensures { result ≡ sum n (λ a. (profile image.now).worst a 0) }
 {
     let mut total = 0;
-    let mut a = 0;
-    while a < n {
+    for a in 0..n {
         total += read::worst_at(image, levels, a, 0);
-        a += 1;
     }
     total
 }
@@ -35,23 +33,15 @@ pub fn other_deadline(image: &[u8], levels: usize, n: usize, cycle: u32) -> bool
     requires { HasRecords image.now levels n × (cycle ≡ (profile image.now).cycle) }
     ensures { (result ≡ true) ↔ Some (OwnDeadline (profile image.now)) n }
 {
-    let mut a = 0;
-    while a < n {
+    for a in 0..n {
         if read::due_at(image, levels, a, cycle) != cycle {
             return true;
         }
-        a += 1;
     }
     false
 }
 
 // ---- the tables
-
-fn greater(x: u32, y: u32) -> u32
-    ensures { result ≡ max x y }
-{
-    if x < y { y } else { x }
-}
 
 // The third number of a summary: in 2008 M, the greater of both; in 2005 the safe sum alone.
 fn mix_of(policy: u32, safe: u32, mixed: u32) -> u32
@@ -60,7 +50,7 @@ fn mix_of(policy: u32, safe: u32, mixed: u32) -> u32
     if policy == rules::POLICY_2005 {
         return safe;
     }
-    greater(safe, mixed)
+    safe.max(mixed)
 }
 
 // The four numbers of a summary, stored from index `at` on.
@@ -97,8 +87,7 @@ fn sum_row(
         (record { order = []; summaries = summaries.new; worst = worst.new }) }
 {
     let lowest = read::worst_at(image, levels, a, 0) + after;
-    let mut q = 0;
-    while q < levels {
+    for q in 0..levels {
         let average = read::average_at(image, levels, a, q);
         let longest = read::worst_at(image, levels, a, q);
         let sum = average + averages[q];
@@ -116,7 +105,6 @@ fn sum_row(
             summaries,
         );
         worst[from + q] = longest;
-        q += 1;
     }
     lowest
 }
@@ -141,9 +129,7 @@ fn sum_rows(
     let mut mixes = [0u32; rules::MOST_LEVELS];
     let mut worsts = [0u32; rules::MOST_LEVELS];
     let mut lowest = 0;
-    let mut i = n;
-    while 0 < i {
-        i -= 1;
+    for i in (0..n).rev() {
         lowest = sum_row(
             image,
             levels,

@@ -15,6 +15,7 @@ ghost use Rattle.repeat_limits.specs.Limits.{Stands};
 ghost use Rattle.repeat_text.specs.Text.{longest_line, lent_line, Lent, TellsLines, TellsFirst};
 
 use print_lines::{put_fault, put_field, put_four};
+use repeat_limits::Limited;
 use repeat_planner::BodyPlanned;
 use rules::{Body, Fault};
 use std::io;
@@ -37,7 +38,7 @@ fn put_limits(out: &mut [u8], at: usize, body: Body, summaries: &[u32], position
     let mut q = 0;
     while q < body.levels as usize {
         let next = put_byte(&mut *out, to, b' ');
-        let limited = repeat_limits::limit(body, summaries, position, q);
+        let limited = Limited::from(repeat_limits::limit(body, summaries, position, q));
         to = put_signed_long(&mut *out, next, limited.limit);
         q += 1;
     }

@@ -124,12 +124,12 @@ fn tell_limit<R: Print>(rt: &R, row: [u32; 24]) -> io::Result<()> {
     let a = part(row[4], 24);
     say_limited(
         rt,
-        repeat_limits::limit(
+        Limited::from(repeat_limits::limit(
             body_of(row, policy),
             &summaries[0..a],
             count(row[5]),
             count(row[6]),
-        ),
+        )),
     )
 }
 
@@ -143,14 +143,14 @@ fn tell_bound<R: Print>(rt: &R, row: [u32; 24]) -> io::Result<()> {
     let b = part(row[5], 6);
     say_limited(
         rt,
-        repeat_limits::bound(
+        Limited::from(repeat_limits::bound(
             body_of(row, policy),
             &summaries[0..a],
             &worst[0..b],
             count(row[6]),
             count(row[7]),
             count(row[8]),
-        ),
+        )),
     )
 }
 

@@ -13,6 +13,7 @@ ghost use Rattle.repeat_text.specs.Text.{Lent};
 use check::same;
 use print_lines::{put_field, put_four};
 use repeat_frame::BodyFramed;
+use repeat_limits::Limited;
 use rules::Body;
 use std::io;
 use std::rt::Files;
@@ -90,14 +91,14 @@ fn bound_agrees(line: &[u8], body: Body, summaries: &[u32], worst: &[u32]) -> bo
     let position = text::words::number(line, 0);
     let level = text::words::number(line, 1);
     let length = text::words::number(line, 2);
-    let answer = repeat_limits::bound(
+    let answer = Limited::from(repeat_limits::bound(
         body,
         summaries,
         worst,
         position as usize,
         level as usize,
         length as usize,
-    );
+    ));
     let mut out = [0u8; 64];
     let second = put_field(&mut out, 0, position, b' ');
     let third = put_field(&mut out, second, level, b' ');

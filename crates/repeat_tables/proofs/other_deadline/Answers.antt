@@ -1,7 +1,6 @@
 -- No action below a has a deadline of its own. Assumes nothing.
 use mathlib.Core.Path.{sym, ◌∙◌}
 use native.Mathlib.Omega.{arith}
-use borrow.Author.Rules.{rules}
 use borrow.Author.Count.{below_more}
 use Rattle.image_fields.proofs.Reading.{has_record}
 use Rattle.image_fields.proofs.Faults.{said_yes}
@@ -18,7 +17,5 @@ returns-then-due_at-cycle c =
     said_yes (c.loop-a.a, omega arith, (own-due _ _).1 (λ e. c.if-due_at-cycle.true (c.due_at.ensures ∙ e ∙ sym c.requires.1)))
 
 pub loop-a-preserved : goal.loop-a-preserved
-loop-a-preserved c = (
-  search rules,
-  below_more _ _ c.loop-a.invariant.1 (λ h. (own-due _ _).0 h (sym c.due_at.ensures ∙ c.if-due_at-cycle.false ∙ c.requires.1)),
-)
+loop-a-preserved c =
+    below_more _ _ c.loop-a.invariant (λ h. (own-due _ _).0 h (sym c.due_at.ensures ∙ c.if-due_at-cycle.false ∙ c.requires.1))

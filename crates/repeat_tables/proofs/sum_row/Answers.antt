@@ -49,17 +49,17 @@ module _ (c : In-loop-q) where
 
   -- what it is carried from
   rest-average : get_or c.loop-q.averages c.loop-q.q 0 ≡ get_or c.args.averages.now c.loop-q.q 0
-  rest-average = unread _ _ _ (omega (arith, c.requires.averages_room)) c.loop-q.invariant.6
+  rest-average = unread _ _ _ (omega (arith, c.requires.averages_room)) c.loop-q.invariant.5
 
   rest-mix : get_or c.loop-q.mixes c.loop-q.q 0 ≡ get_or c.args.mixes.now c.loop-q.q 0
-  rest-mix = unread _ _ _ (omega (arith, c.requires.mixes_room)) c.loop-q.invariant.7
+  rest-mix = unread _ _ _ (omega (arith, c.requires.mixes_room)) c.loop-q.invariant.6
 
   rest-worst : get_or c.loop-q.worsts c.loop-q.q 0 ≡ get_or c.args.worsts.now c.loop-q.q 0
-  rest-worst = unread _ _ _ (omega (arith, c.requires.worsts_room)) c.loop-q.invariant.8
+  rest-worst = unread _ _ _ (omega (arith, c.requires.worsts_room)) c.loop-q.invariant.7
 
 pub loop-q-init : goal.loop-q-init
 loop-q-init c =
-    (search rules, search rules, search rules, search rules, search rules, search rules, cat-none _ _ _, cat-none _ _ _, cat-none _ _ _, cat-none _ _ _, cat-none _ _ _)
+    (search rules, search rules, search rules, search rules, search rules, cat-none _ _ _, cat-none _ _ _, cat-none _ _ _, cat-none _ _ _, cat-none _ _ _)
 
 pub overflow_add-sum : goal.overflow_add-sum
 overflow_add-sum c =
@@ -89,27 +89,26 @@ loop-q-preserved c =
       search rules,
       search rules,
       search rules,
+      done.auto.summaries ∙ c.loop-q.invariant.3,
       search rules,
-      done.auto.summaries ∙ c.loop-q.invariant.4,
-      search rules,
-      tab-more _ _ 0 c.loop-q.q c.loop-q.q (omega (arith, c.requires.averages_room)) (omega arith) c.loop-q.invariant.1 sum c.loop-q.invariant.6,
-      tab-more _ _ 0 c.loop-q.q c.loop-q.q (omega (arith, c.requires.mixes_room)) (omega arith) c.loop-q.invariant.2 mix c.loop-q.invariant.7,
-      tab-more _ _ 0 c.loop-q.q c.loop-q.q (omega (arith, c.requires.worsts_room)) (omega arith) c.loop-q.invariant.3 all c.loop-q.invariant.8,
+      tab-more _ _ 0 c.loop-q.q c.loop-q.q (omega (arith, c.requires.averages_room)) (omega arith) c.loop-q.invariant.0 sum c.loop-q.invariant.5,
+      tab-more _ _ 0 c.loop-q.q c.loop-q.q (omega (arith, c.requires.mixes_room)) (omega arith) c.loop-q.invariant.1 mix c.loop-q.invariant.6,
+      tab-more _ _ 0 c.loop-q.q c.loop-q.q (omega (arith, c.requires.worsts_room)) (omega arith) c.loop-q.invariant.2 all c.loop-q.invariant.7,
       cat-more (λ p. numbers_of (row p)) summary_numbers (λ p. refl) _ (a.from * summary_numbers) ((a.from + c.loop-q.q) * summary_numbers) c.loop-q.q
-          (omega (arith, room.summaries_room)) (omega arith) c.loop-q.invariant.9
+          (omega (arith, room.summaries_room)) (omega arith) c.loop-q.invariant.8
           (stored c.loop-q.summaries ((a.from + c.loop-q.q) * summary_numbers) (row c.loop-q.q) sum lowest mix all done.ensures),
-      tab-more _ _ a.from (a.from + c.loop-q.q) c.loop-q.q (omega (arith, room.worst_room)) (omega arith) c.loop-q.invariant.5 longest c.loop-q.invariant.10,
+      tab-more _ _ a.from (a.from + c.loop-q.q) c.loop-q.q (omega (arith, room.worst_room)) (omega arith) c.loop-q.invariant.4 longest c.loop-q.invariant.9,
     )
 
 pub returns : goal.returns
 returns c =
     let t = c.loop-q in
     let a = c.args in
-    let all : t.q ≡ a.levels = omega (arith, t.invariant.0, c.loop-q-test.false) in
+    let all : t.q ≡ a.levels = omega arith in
     record {
       carried_is = all-carried (with_rest a.image.now a.policy a.a (carried a.averages.now a.after a.mixes.now a.worsts.now)) _ _ _ a.levels
-          (cat_done _ _ 0 t.q a.levels all t.invariant.6) (λ q. ap (λ (w : ℕ). w + a.after) c.worst_at.ensures)
-          (cat_done _ _ 0 t.q a.levels all t.invariant.7) (cat_done _ _ 0 t.q a.levels all t.invariant.8);
-      summaries_are = cat_done _ _ (a.from * summary_numbers) t.q a.levels all t.invariant.9;
-      worst_is = cat_done _ _ a.from t.q a.levels all t.invariant.10;
+          (cat_done _ _ 0 t.q a.levels all t.invariant.5) (λ q. ap (λ (w : ℕ). w + a.after) c.worst_at.ensures)
+          (cat_done _ _ 0 t.q a.levels all t.invariant.6) (cat_done _ _ 0 t.q a.levels all t.invariant.7);
+      summaries_are = cat_done _ _ (a.from * summary_numbers) t.q a.levels all t.invariant.8;
+      worst_is = cat_done _ _ a.from t.q a.levels all t.invariant.9;
     }

@@ -1,5 +1,5 @@
 use mathlib.Core.Path.{◌≡◌}
-use Prim.Native.Nat.{◌-◌, ◌*◌, ◌≤◌}
+use Prim.Native.Nat.{◌*◌}
 use lib.ListN.{length}
 use Rattle.rules.specs.Numbers.{summary_numbers}
 use Rattle.rules.specs.Words.{cat, tab}
@@ -11,8 +11,7 @@ use Rattle.repeat_tables.proofs.sum_row.Given as goal
 
 abbrev pub invariant-loop-q : goal.invariant-loop-q
 invariant-loop-q l =
-    (l.q ≤ l.levels)
-    × (length l.averages ≡ length l.initial.averages)
+    (length l.averages ≡ length l.initial.averages)
     × (length l.mixes ≡ length l.initial.mixes)
     × (length l.worsts ≡ length l.initial.worsts)
     × (length l.summaries ≡ length l.initial.summaries)
@@ -22,6 +21,3 @@ invariant-loop-q l =
     × (l.worsts ≡ splice l.initial.worsts 0 (tab (λ p. (with_rest l.image l.policy l.a (carried l.initial.averages l.after l.initial.mixes l.initial.worsts) p).worst) l.q))
     × (l.summaries ≡ splice l.initial.summaries (l.from * summary_numbers) (cat (λ p. numbers_of (with_rest l.image l.policy l.a (carried l.initial.averages l.after l.initial.mixes l.initial.worsts) p)) l.q))
     × (l.worst ≡ splice l.initial.worst l.from (tab (worst_of l.image l.a) l.q))
-
-abbrev pub decreases-loop-q : goal.decreases-loop-q
-decreases-loop-q l = l.levels - l.q

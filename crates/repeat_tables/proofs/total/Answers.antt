@@ -1,13 +1,12 @@
 -- The level 0 worst times of the actions below a. Assumes nothing.
 use native.Mathlib.Omega.{arith}
-use borrow.Author.Rules.{rules}
 use Rattle.fields.proofs.Bytes.{Bytes}
 use Rattle.image_fields.proofs.Reading.{has_record, worst-short}
 use Rattle.repeat_tables.proofs.Repeating.{total-none, total-more, total-within}
 use Rattle.repeat_tables.proofs.total.Goals as goal
 
 pub loop-a-init : goal.loop-a-init
-loop-a-init c = (search rules, total-none _)
+loop-a-init c = total-none _
 
 pub worst_at-total-requires : goal.worst_at-total-requires
 worst_at-total-requires c =
@@ -22,11 +21,10 @@ overflow_add-total c =
       arith,
       c.worst_at-total.ensures,
       worst-short s c.loop-a.a 0 bytes,
-      c.loop-a.invariant.1,
+      c.loop-a.invariant,
       total-within s c.loop-a.a bytes,
       c.requires.few_actions,
     )
 
 pub loop-a-preserved : goal.loop-a-preserved
-loop-a-preserved c =
-    (search rules, total-more _ c.loop-a.a c.worst_at-total.ensures c.loop-a.invariant.1)
+loop-a-preserved c = total-more _ c.loop-a.a c.worst_at-total.ensures c.loop-a.invariant
