@@ -54,7 +54,7 @@ pub struct BodyBegins {
 }
 
 // What an asking answers, with the next record.
-#[derive(Drop)]
+#[derive(Clone, Copy)]
 pub struct BodyAsked {
     pub run: BodyRun,
     pub answer: Answer,
@@ -63,7 +63,7 @@ pub struct BodyAsked {
 // The same before it is known which record is the next: `made`, with the decision, where one was made; `gone`, an action on in its coast, where it
 // coasts; else `run`, as it was. A host's record takes what changes and no more: with a refusal nothing, in a coast neither level nor count nor late
 // mark.
-#[derive(Drop)]
+#[derive(Clone, Copy)]
 pub struct BodyAsks {
     pub run: BodyRun,
     pub answer: Answer,
@@ -157,7 +157,7 @@ impl BodyRun {
         if n < self.position {
             return false;
         }
-        let asked = self.position + run::one_if(self.running);
+        let asked = self.position + u32::from(self.running);
         if n < left + asked {
             return false;
         }

@@ -3,6 +3,7 @@ use mathlib.Core.Path.{◌≡◌, sym, ◌∙◌}
 use native.Mathlib.Omega.{arith}
 use Rattle.rules.specs.Refusals.{first}
 use Rattle.rules.specs.Repeat.{body_tests}
+use Rattle.run.proofs.Ranges.{mark-number}
 use Rattle.repeat_limits.proofs.Refusing.{Products, counts_in, products}
 use Rattle.repeat_run.proofs.Ranges.{none-ok, some-err, is-ranged, not-ranged}
 use Rattle.repeat_run.proofs.BodyRun.in_range.Goals as goal
@@ -25,13 +26,13 @@ pub returns-then-n-self : goal.returns-then-n-self
 returns-then-n-self c = not-ranged _ _ (λ none C. omega (arith, C.position))
 
 pub overflow_add-asked : goal.overflow_add-asked
-overflow_add-asked c = omega (arith, few (goal.at.overflow_add-asked c).Else-is_err, c.one_if.ensures)
+overflow_add-asked c = omega (arith, few (goal.at.overflow_add-asked c).Else-is_err, mark-number c.args.self.running)
 
 pub overflow_add-left : goal.overflow_add-left
-overflow_add-left c = omega (arith, few (goal.at.overflow_add-left c).Else-is_err, c.one_if.ensures)
+overflow_add-left c = omega (arith, few (goal.at.overflow_add-left c).Else-is_err, mark-number c.args.self.running)
 
 pub returns-then-n-left : goal.returns-then-n-left
-returns-then-n-left c = not-ranged _ _ (λ none C. omega (arith, C.room, c.one_if.ensures))
+returns-then-n-left c = not-ranged _ _ (λ none C. omega (arith, C.room, mark-number c.args.self.running))
 
 pub returns-then-left-ge-LONGEST_COAST : goal.returns-then-left-ge-LONGEST_COAST
 returns-then-left-ge-LONGEST_COAST c = not-ranged _ _ (λ none C. omega (arith, C.left))
@@ -44,11 +45,11 @@ returns-then-self c = not-ranged _ _ (λ none C. omega (arith, C.clock))
 
 pub returns-then-asked-self : goal.returns-then-asked-self
 returns-then-asked-self c =
-    not-ranged _ _ (λ none C. omega (arith, C.decisions, c.one_if.ensures))
+    not-ranged _ _ (λ none C. omega (arith, C.decisions, mark-number c.args.self.running))
 
 pub returns : goal.returns
 returns c =
-    let e = c.one_if.ensures in
+    let e = mark-number c.args.self.running in
     is-ranged _ _ (none (goal.at.returns c).Else-is_err) (record {
       position = omega arith;
       clock = omega arith;
