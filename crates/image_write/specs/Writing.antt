@@ -1,9 +1,13 @@
 -- Writing packs lent tables into a lent image.
-use Rattle.std.specs.Prelude.{ℕ, ◌*◌, ◌≡◌, List, [], ◌∷◌, ◌++◌, length}
+use Rattle.std.specs.Prelude.{ℕ, ◌*◌, ◌≡◌, List, [], ◌∷◌, ◌++◌, length, Result, Ok, Err}
+use Rattle.rules.specs.Numbers.{most_actions}
 use Rattle.rules.specs.Image.{ProfileTables, image_bytes, of_tables, image}
+use Rattle.rules.specs.Reasons.{fault_of}
 use Rattle.rules.specs.Refusals.{Ground, Refuses, kept, write_call}
+use Rattle.rules.specs.declared.Blame.{Blame}
 use Rattle.rules.specs.declared.Fault.{Fault}
 use Rattle.fields.specs.Fields.{splice}
+use Rattle.image_write.specs.declared.Written.{Written}
 
 -- The lengths of the lent tables, each with what n actions at L levels need of it.
 abbrev pub table_rooms : ℕ → ℕ → ProfileTables → List (ℕ × ℕ)
@@ -23,3 +27,8 @@ pub record Writes (n L cycle : ℕ) (T : ProfileTables) (before after : List ℕ
   pub given : Refuses (writing n L cycle T (length before)) refusal
   pub written : after ≡ kept refusal.number (splice before 0 (image (of_tables n L cycle T))) before
   pub count : bytes ≡ kept refusal.number (image_bytes n L) 0
+
+-- What C takes of it: the refusal with no bytes, or no refusal with the bytes.
+abbrev pub written : Result ℕ Blame → Written
+written (Ok bytes) = record { refusal = record { number = 0; action = most_actions }; bytes = bytes }
+written (Err b) = record { refusal = fault_of b; bytes = 0 }

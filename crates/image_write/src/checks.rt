@@ -1,9 +1,9 @@
-// The refusals 17, 6 and 7 of lent tables. A check of the actions answers the lowest one at fault, n if none is.
+// The refusals 17, 6 and 7 of lent tables. A check of the actions answers the lowest one at fault, if one is.
 
 ghost use Rattle.std.specs.Prelude.{◌≡◌, true, ◌↔◌, ℕ, ◌+◌, ◌*◌, ◌≤◌, ◌<◌, length};
 ghost use Rattle.rules.specs.Numbers.{most_actions, most_levels};
 ghost use Rattle.rules.specs.Image.{time_at, of_tables};
-ghost use Rattle.rules.specs.Refusals.{LowestFault, LongTime, WriteFault, RowBreaks, Tight};
+ghost use Rattle.rules.specs.Refusals.{Lowest, LongTime, WriteFault, RowBreaks, Tight};
 ghost use Rattle.image_pack.specs.Packing.{Roomy};
 ghost use Rattle.image_write.specs.Writing.{table_rooms};
 
@@ -24,16 +24,7 @@ pub fn tight(
         (record { masks = masks.now; deadlines = deadlines.now; averages = averages.now; worst = worst.now })) }
 {
     let entries = n * levels;
-    if masks.len() < n {
-        return true;
-    }
-    if deadlines.len() < n {
-        return true;
-    }
-    if averages.len() < entries {
-        return true;
-    }
-    worst.len() < entries
+    masks.len() < n || deadlines.len() < n || averages.len() < entries || worst.len() < entries
 }
 
 // Whether a time of action a is above the longest. Where its times are in order (7 is not given for it), the longest is the worst one at the
@@ -47,15 +38,10 @@ fn long_time(averages: &[u32], worst: &[u32], levels: usize, a: usize, ordered: 
     if ordered {
         return rules::LONGEST_TIME < worst[row + (levels - 1)];
     }
-    let mut q = 0;
-    while q < levels {
-        if rules::LONGEST_TIME < averages[row + q] {
+    for q in 0..levels {
+        if rules::LONGEST_TIME < averages[row + q] || rules::LONGEST_TIME < worst[row + q] {
             return true;
         }
-        if rules::LONGEST_TIME < worst[row + q] {
-            return true;
-        }
-        q += 1;
     }
     false
 }
@@ -70,40 +56,36 @@ pub fn range(
     averages: &[u32],
     worst: &[u32],
     ordered: bool,
-) -> usize
+) -> Option<usize>
     requires roomy { Roomy n levels (record { masks = masks.now; deadlines = deadlines.now; averages = averages.now; worst = worst.now })
         × (1 ≤ levels) }
     requires unbroken { ordered ≡ true → (a : ℕ) → a < n → RowBreaks levels (time_at levels averages.now a) (time_at levels worst.now a) → ⊥ }
-    ensures { LowestFault
+    ensures { Lowest
         (WriteFault (of_tables n levels cycle
         (record { masks = masks.now; deadlines = deadlines.now; averages = averages.now; worst = worst.now })))
         n result }
 {
-    let mut a = 0;
-    while a < n {
+    for a in 0..n {
         if scan::out_of_range(masks[a], deadlines[a], cycle, n) {
-            return a;
+            return Some(a);
         }
         if long_time(averages, worst, levels, a, ordered) {
-            return a;
+            return Some(a);
         }
-        a += 1;
     }
-    n
+    None
 }
 
 // Refusal 7: an average above its worst time, a time that falls with the level.
-pub fn table(n: usize, levels: usize, averages: &[u32], worst: &[u32]) -> usize
+pub fn table(n: usize, levels: usize, averages: &[u32], worst: &[u32]) -> Option<usize>
     requires { (n * levels ≤ length averages.now) × (n * levels ≤ length worst.now) }
-    ensures { LowestFault
+    ensures { Lowest
         (λ a. RowBreaks levels (time_at levels averages.now a) (time_at levels worst.now a)) n result }
 {
-    let mut a = 0;
-    while a < n {
+    for a in 0..n {
         if scan::row_breaks(averages, worst, a * levels, levels) {
-            return a;
+            return Some(a);
         }
-        a += 1;
     }
-    n
+    None
 }

@@ -1,19 +1,38 @@
 // Writing: n, L, cycle and lent slices of masks, deadlines, averages and worst times, packed into a lent image.
 #![tactic(auto)]
 
+ghost use Rattle.std.specs.Prelude.{◌≡◌};
+ghost use Rattle.rules.specs.Reasons.{fault};
 ghost use Rattle.rules.specs.Refusals.{Refuses};
-ghost use Rattle.image_write.specs.Writing.{writing, Writes};
+ghost use Rattle.image_write.specs.Writing.{writing, Writes, written};
 
-use rules::Fault;
+use rules::{Blame, Fault, Reason};
 
 pub mod checks;
 
-// The answer of writing: the refusal, and the number of bytes written.
+// The answer of writing, as C takes it: the refusal, and the number of bytes written, 0 with a refusal.
 #[repr(C)]
-#[derive(Drop)]
+#[derive(Clone, Copy)]
 pub struct Written {
     pub refusal: Fault,
     pub bytes: usize,
+}
+
+impl From<Result<usize, Blame>> for Written {
+    ghost from_gives = { λ outcome answer. answer ≡ written outcome };
+
+    fn from(outcome: Result<usize, Blame>) -> Self {
+        match outcome {
+            Ok(bytes) => Written {
+                refusal: Fault::of(Ok(())),
+                bytes,
+            },
+            Err(blame) => Written {
+                refusal: Fault::from(blame),
+                bytes: 0,
+            },
+        }
+    }
 }
 
 // The refusal of writing; `room` is the length of the image.
@@ -26,51 +45,41 @@ pub fn refusal(
     averages: &[u32],
     worst: &[u32],
     room: usize,
-) -> Fault
+) -> Result<(), Blame>
     ensures { Refuses
         (writing n levels cycle
         (record { masks = masks.now; deadlines = deadlines.now; averages = averages.now; worst = worst.now })
-        room) result }
+        room) (fault result) }
 {
     if image_fields::scan::count_out(n, levels, cycle) {
-        return Fault {
-            number: rules::REFUSED_COUNT,
-            action: rules::NO_ACTION,
-        };
+        return Err(Blame::from(Reason::Count));
     }
     if checks::tight(n, levels, masks, deadlines, averages, worst) {
-        return Fault {
-            number: rules::REFUSED_ROOM,
-            action: rules::NO_ACTION,
-        };
+        return Err(Blame::from(Reason::Room));
     }
     if room < image_pack::image_bytes(n, levels) {
-        return Fault {
-            number: rules::REFUSED_ROOM,
-            action: rules::NO_ACTION,
-        };
+        return Err(Blame::from(Reason::Room));
     }
-    // The lowest action at fault for 7 and for 6, n for none. 6 is given before 7 and looked for after it: where no row breaks the rule of 7,
-    // one test a row tells whether a time is too long.
+    // The lowest action at fault for 7 and for 6. 6 is given before 7 and looked for after it: where no row breaks the rule of 7, one test a row
+    // tells whether a time is too long.
     let fallen = checks::table(n, levels, averages, worst);
-    let ordered = n <= fallen;
+    let ordered = fallen.is_none();
     let out = checks::range(n, levels, cycle, masks, deadlines, averages, worst, ordered);
-    if out < n {
-        return Fault {
-            number: rules::REFUSED_RANGE,
-            action: out as u32,
-        };
+    if let Some(a) = out {
+        return Err(Blame::on(Reason::Range, a));
     }
-    if fallen < n {
-        return Fault {
-            number: rules::REFUSED_TABLE,
-            action: fallen as u32,
-        };
+    if let Some(a) = fallen {
+        return Err(Blame::on(Reason::Table, a));
     }
-    order::judge(masks, deadlines, cycle, worst, levels, n).refusal
+    let judged = order::judge(masks, deadlines, cycle, worst, levels, n)?;
+    if judged.unfit {
+        return Err(Blame::from(Reason::Unfit));
+    }
+    Ok(())
 }
 
-// Packs the tables into the image. A refusal leaves it untouched, and what it has beyond the bytes written stays.
+// Packs the tables into the image and answers how many bytes that are. A refusal leaves it untouched, and what it has beyond the bytes written
+// stays.
 pub fn write(
     n: usize,
     levels: usize,
@@ -80,22 +89,13 @@ pub fn write(
     averages: &[u32],
     worst: &[u32],
     image: &mut [u8],
-) -> Written
+) -> Result<usize, Blame>
     ensures { Writes n levels cycle
         (record { masks = masks.now; deadlines = deadlines.now; averages = averages.now; worst = worst.now })
-        image.old image.new result.refusal result.bytes }
+        image.old image.new (written result).refusal (written result).bytes }
 {
     let room = image.len();
-    let refused = refusal(n, levels, cycle, masks, deadlines, averages, worst, room);
-    if refused.number != 0 {
-        return Written {
-            refusal: refused,
-            bytes: 0,
-        };
-    }
+    refusal(n, levels, cycle, masks, deadlines, averages, worst, room)?;
     image_pack::put_image(image, n, levels, cycle, masks, deadlines, averages, worst);
-    Written {
-        refusal: refused,
-        bytes: image_pack::image_bytes(n, levels),
-    }
+    Ok(image_pack::image_bytes(n, levels))
 }

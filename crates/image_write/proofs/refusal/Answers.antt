@@ -3,12 +3,18 @@ use Prim.Native.Nat.{ℕ, ◌≤◌, ◌<◌}
 use mathlib.Core.List.{List, ◌∷◌}
 use mathlib.Core.Logic.{◌⊎◌, inl, inr, ⊎_elim, ◌↔◌}
 use native.Mathlib.Omega.{arith}
-use borrow.Author.Tests.{leb-true}
 use Rattle.rules.specs.Numbers.{most_actions, refused_count, refused_range, refused_table, refused_room}
 use Rattle.rules.specs.Image.{ProfileTables, image_bytes, of_tables}
 use Rattle.rules.specs.Refusals.{Ground, ◌blames◌below◌, Refuses, CountOut, WriteFault, TableFault, Tight}
 use Rattle.rules.specs.declared.Fault.{Fault}
-use Rattle.rules.proofs.Faults.{some-fault, no_fault}
+use Rattle.std.specs.Prelude.{Option, None, Some}
+use Rattle.std.specs.Option.{is_some}
+use mathlib.Core.Bool.{Bool, true, not}
+use Rattle.rules.proofs.Tests.{not-both}
+use Rattle.std.proofs.lemmas.Result.{err_from_is_err_and}
+use Rattle.rules.proofs.Faults.{Faultless}
+use Rattle.rules.specs.Refusals.{Lowest}
+use mathlib.Core.Path.{◌≡◌, refl, ap, ◌∙◌}
 use Rattle.rules.proofs.Refusals.{refuses_when, refuses_on, refuses_blamed}
 use Rattle.order.specs.Judged.{order_checks}
 use Rattle.image_fields.proofs.Faults.{denied}
@@ -18,7 +24,7 @@ use Rattle.image_write.proofs.Answers.{tight_and}
 use Rattle.image_write.proofs.Accepting.{counted, roomy}
 use Rattle.image_write.proofs.Judging.{masked, timed, judged}
 use Rattle.image_write.proofs.refusal.Goals as goal
-use Rattle.image_write.proofs.refusal.Goals.{Else-room-image_bytes, Else-out-n}
+use Rattle.image_write.proofs.refusal.Goals.{Else-room-image_bytes, In_default, In_default-fallen}
 
 module _ (n L cycle : ℕ) (T : ProfileTables) (room : ℕ) where
   -- the row from 6 on
@@ -72,54 +78,97 @@ passed c = record {
   image = omega (arith, c.image_bytes.ensures);
 }
 
-in_range : (c : Else-out-n) (a : ℕ) → let x = c.args in a < x.n → WriteFault (of_tables x.n x.levels x.cycle (record { masks = x.masks.now; deadlines = x.deadlines.now; averages = x.averages.now; worst = x.worst.now })) a → ⊥
-in_range c a h f = no_fault (some-fault c.range-out.ensures) c.if-out-n.false (a, h, f)
+-- where none is found
+none_found : (Faulty : ℕ → Type 0) (n : ℕ) {r : Option ℕ} → r ≡ None → Lowest Faulty n r → Faultless Faulty n
+none_found Faulty n e low = (rw e at low).before
+
+none_left : (r : Option ℕ) {b : Bool} → is_some r ≡ not b → b ≡ true → r ≡ None
+none_left None e h = refl
+none_left (Some a) e h = absurd (not-both refl (e ∙ ap not h))
+
+in_range : (c : In_default)
+    → let x = c.args in
+    Faultless (WriteFault (of_tables x.n x.levels x.cycle (record { masks = x.masks.now; deadlines = x.deadlines.now; averages = x.averages.now; worst = x.worst.now }))) x.n
+in_range c = none_found _ _ c.in_default.is c.range-out.ensures
+
+in_table : (c : In_default-fallen)
+    → let x = c.args in
+    Faultless (TableFault (of_tables x.n x.levels x.cycle (record { masks = x.masks.now; deadlines = x.deadlines.now; averages = x.averages.now; worst = x.worst.now }))) x.n
+unfolding of_tables
+in_table c = none_found _ _ c.in_default-fallen.is c.table-fallen.ensures
+
+-- past them all it is for the order to say
+from-order : (c : In_default-fallen) (f : Fault)
+    → let x = c.args in
+    Refuses (order_checks (of_tables x.n x.levels x.cycle (record { masks = x.masks.now; deadlines = x.deadlines.now; averages = x.averages.now; worst = x.worst.now }))) f
+    → Refuses (writing x.n x.levels x.cycle (record { masks = x.masks.now; deadlines = x.deadlines.now; averages = x.averages.now; worst = x.worst.now }) x.room) f
+unfolding of_tables
+from-order c f q =
+    let x = c.args in
+    rest x.n x.levels x.cycle (record { masks = x.masks.now; deadlines = x.deadlines.now; averages = x.averages.now; worst = x.worst.now }) x.room (passed (goal.at.In_default-fallen c).Else-room-image_bytes) f
+    (refuses_on (λ w. in_range (goal.at.In_default-fallen c).In_default w.0 w.1 w.2) (refuses_on (λ w. in_table c w.0 w.1 w.2) q))
 
 pub returns-then-count_out : goal.returns-then-count_out
 unfolding of_tables
-returns-then-count_out c = refuses_when refused_count (c.count_out.ensures.0 c.if-count_out.true)
+returns-then-count_out c = rw c.from.ensures (refuses_when refused_count (c.count_out.ensures.0 c.if-count_out.true))
 
 pub returns-then-tight : goal.returns-then-tight
 returns-then-tight c =
     let x = c.args in
-    refused-17 x.n x.levels x.cycle (record { masks = x.masks.now; deadlines = x.deadlines.now; averages = x.averages.now; worst = x.worst.now }) x.room (denied c.count_out.ensures c.if-count_out.false)
-    ((tight-says x.n x.levels x.cycle (record { masks = x.masks.now; deadlines = x.deadlines.now; averages = x.averages.now; worst = x.worst.now }) x.room).0 (inl (c.tight.ensures.0 c.if-tight.true)))
+    rw c.from-then-tight.ensures
+    (refused-17 x.n x.levels x.cycle (record { masks = x.masks.now; deadlines = x.deadlines.now; averages = x.averages.now; worst = x.worst.now }) x.room (denied c.count_out.ensures c.if-count_out.false)
+    ((tight-says x.n x.levels x.cycle (record { masks = x.masks.now; deadlines = x.deadlines.now; averages = x.averages.now; worst = x.worst.now }) x.room).0 (inl (c.tight.ensures.0 c.if-tight.true))))
 
 pub returns-then-room-image_bytes : goal.returns-then-room-image_bytes
 returns-then-room-image_bytes c =
     let x = c.args in
     let short : x.room < image_bytes x.n x.levels = omega (arith, c.image_bytes.ensures) in
-    refused-17 x.n x.levels x.cycle (record { masks = x.masks.now; deadlines = x.deadlines.now; averages = x.averages.now; worst = x.worst.now }) x.room (denied c.count_out.ensures c.if-count_out.false)
-    ((tight-says x.n x.levels x.cycle (record { masks = x.masks.now; deadlines = x.deadlines.now; averages = x.averages.now; worst = x.worst.now }) x.room).0 (inr short))
+    rw c.from-then-room-image_bytes.ensures
+    (refused-17 x.n x.levels x.cycle (record { masks = x.masks.now; deadlines = x.deadlines.now; averages = x.averages.now; worst = x.worst.now }) x.room (denied c.count_out.ensures c.if-count_out.false)
+    ((tight-says x.n x.levels x.cycle (record { masks = x.masks.now; deadlines = x.deadlines.now; averages = x.averages.now; worst = x.worst.now }) x.room).0 (inr short)))
 
 pub range-out-requires-clause-unbroken : goal.range-out-requires-clause-unbroken
-range-out-requires-clause-unbroken c = λ e a h f. no_fault (some-fault c.table-fallen.ensures) (leb-true _ _ e) (a, h, f)
+range-out-requires-clause-unbroken c = λ e. none_found _ _ (none_left _ c.is_none-ordered.ensures e) c.table-fallen.ensures
 
-pub returns-then-out-n : goal.returns-then-out-n
+pub returns-in-Some : goal.returns-in-Some
 unfolding of_tables
-returns-then-out-n c =
+returns-in-Some c =
     let x = c.args in
-    let p = passed (goal.at.returns-then-out-n c).Else-room-image_bytes in
-    rest x.n x.levels x.cycle (record { masks = x.masks.now; deadlines = x.deadlines.now; averages = x.averages.now; worst = x.worst.now }) x.room p _ (refuses_blamed refused_range c.range-out.ensures (few _ _ _ _ _ p) c.if-out-n.true)
+    let p = passed (goal.at.returns-in-Some c).Else-room-image_bytes in
+    rw c.on.ensures
+    (rest x.n x.levels x.cycle (record { masks = x.masks.now; deadlines = x.deadlines.now; averages = x.averages.now; worst = x.worst.now }) x.room p _ (refuses_blamed refused_range c.in-Some.ensures.0 (few _ _ _ _ _ p) c.in-Some.ensures.1))
 
-pub returns-then-fallen-n : goal.returns-then-fallen-n
+pub returns-in-Some-fallen : goal.returns-in-Some-fallen
 unfolding of_tables
-returns-then-fallen-n c =
+returns-in-Some-fallen c =
     let x = c.args in
-    let p = passed (goal.at.returns-then-fallen-n c).Else-room-image_bytes in
-    rest x.n x.levels x.cycle (record { masks = x.masks.now; deadlines = x.deadlines.now; averages = x.averages.now; worst = x.worst.now }) x.room p _ (refuses_on (no_fault (some-fault c.range-out.ensures) c.if-out-n.false) (refuses_blamed refused_table c.table-fallen.ensures (few _ _ _ _ _ p) c.if-fallen-n.true))
+    let p = passed (goal.at.returns-in-Some-fallen c).Else-room-image_bytes in
+    let low = rw c.in-Some-fallen.is at c.table-fallen.ensures in
+    rw c.on-in-Some-fallen.ensures
+    (rest x.n x.levels x.cycle (record { masks = x.masks.now; deadlines = x.deadlines.now; averages = x.averages.now; worst = x.worst.now }) x.room p _ (refuses_on (λ w. in_range (goal.at.returns-in-Some-fallen c).In_default w.0 w.1 w.2) (refuses_blamed refused_table low.0 (few _ _ _ _ _ p) low.1)))
 
 pub judge-requires : goal.judge-requires
 judge-requires c =
     let p = passed (goal.at.judge-requires c).Else-room-image_bytes in
-    let none = in_range (goal.at.judge-requires c).Else-out-n in
+    let none = in_range (goal.at.judge-requires c).In_default in
     let room = room_there _ _ _ _ _ p in
     (masked _ _ _ _ room none, timed _ _ _ _ room none (some-level _ _ _ _ _ p))
 
+pub returns-in_err-judged : goal.returns-in_err-judged
+returns-in_err-judged c =
+    let x = c.args in
+    let p = err_from_is_err_and c.from_residual.result c.from_residual.ensures.1 in
+    let verdict = judged x.n x.levels x.cycle (record { masks = x.masks.now; deadlines = x.deadlines.now; averages = x.averages.now; worst = x.worst.now }) c.in_err-judged.ensures.verdict in
+    rw (p.1, p.2) (from-order (goal.at.returns-in_err-judged c).In_default-fallen _ verdict.given)
+
+pub returns-then-judged : goal.returns-then-judged
+returns-then-judged c =
+    let x = c.args in
+    let verdict = judged x.n x.levels x.cycle (record { masks = x.masks.now; deadlines = x.deadlines.now; averages = x.averages.now; worst = x.worst.now }) (rw (c.in_ok-judged.was, c.if-judged.true) at c.judge.ensures.verdict) in
+    rw c.from-then-judged.ensures (from-order (goal.at.returns-then-judged c).In_default-fallen _ verdict.given)
+
 pub returns : goal.returns
-unfolding of_tables
 returns c =
     let x = c.args in
-    let verdict = judged x.n x.levels x.cycle (record { masks = x.masks.now; deadlines = x.deadlines.now; averages = x.averages.now; worst = x.worst.now }) c.judge.ensures in
-    rest x.n x.levels x.cycle (record { masks = x.masks.now; deadlines = x.deadlines.now; averages = x.averages.now; worst = x.worst.now }) x.room (passed (goal.at.returns c).Else-room-image_bytes) _
-    (refuses_on (no_fault (some-fault c.range-out.ensures) c.if-out-n.false) (refuses_on (no_fault (some-fault c.table-fallen.ensures) c.if-fallen-n.false) verdict.given))
+    let verdict = judged x.n x.levels x.cycle (record { masks = x.masks.now; deadlines = x.deadlines.now; averages = x.averages.now; worst = x.worst.now }) (rw (c.in_ok-judged.was, c.if-judged.false) at c.judge.ensures.verdict) in
+    from-order (goal.at.returns c).In_default-fallen _ verdict.given

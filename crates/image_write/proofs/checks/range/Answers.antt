@@ -11,7 +11,7 @@ use Rattle.image_write.proofs.checks.range.Goals as goal
 pub returns-then-out_of_range : goal.returns-then-out_of_range
 unfolding of_tables
 returns-then-out_of_range c =
-    lowest-here c.loop-a-test.true c.loop-a.invariant.1 (inl (c.out_of_range.ensures.0 c.if-out_of_range.true))
+    (lowest-here c.loop-a-test.true c.loop-a.invariant.1 (inl (c.out_of_range.ensures.0 c.if-out_of_range.true)), c.loop-a-test.true)
 
 pub long_time-requires-clause-le_levels : goal.long_time-requires-clause-le_levels
 long_time-requires-clause-le_levels c =
@@ -20,7 +20,7 @@ long_time-requires-clause-le_levels c =
 pub returns-then-long_time : goal.returns-then-long_time
 unfolding of_tables
 returns-then-long_time c =
-    lowest-here c.loop-a-test.true c.loop-a.invariant.1 (inr (c.long_time.ensures.0 c.if-long_time.true))
+    (lowest-here c.loop-a-test.true c.loop-a.invariant.1 (inr (c.long_time.ensures.0 c.if-long_time.true)), c.loop-a-test.true)
 
 pub loop-a-preserved : goal.loop-a-preserved
 unfolding of_tables

@@ -1,4 +1,4 @@
-use Prim.Native.Nat.{◌-◌, ◌≤◌}
+use Prim.Native.Nat.{◌≤◌}
 use Rattle.rules.specs.Image.{of_tables}
 use Rattle.rules.specs.Refusals.{WriteFault}
 use Rattle.rules.proofs.Faults.{Faultless}
@@ -8,6 +8,3 @@ abbrev pub invariant-loop-a : goal.invariant-loop-a
 invariant-loop-a l =
     (l.a ≤ l.n)
     × Faultless (WriteFault (of_tables l.n l.levels l.cycle (record { masks = l.masks; deadlines = l.deadlines; averages = l.averages; worst = l.worst }))) l.a
-
-abbrev pub decreases-loop-a : goal.decreases-loop-a
-decreases-loop-a l = l.n - l.a
