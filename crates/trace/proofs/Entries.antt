@@ -1,21 +1,16 @@
 -- A record of a trace by its fields: how large they are, how they stand in its bytes, and which records are measurements. Assumes
 -- nothing.
-use Prim.Native.Nat.{ℕ, suc, ◌+◌, ◌*◌, ◌/◌, ◌%◌, ◌^◌, ◌<◌}
+use Prim.Native.Nat.{ℕ, zero, suc, ◌+◌, ◌*◌, ◌/◌, ◌%◌, ◌^◌, ◌<◌}
 use mathlib.Core.Path.{◌≡◌, refl, sym, ap, ◌∙◌}
-use mathlib.Core.Bool.{Bool, true, false, ◌&&◌}
+use mathlib.Core.Bool.{true, false, not, ◌&&◌}
 use mathlib.Core.List.{List}
 use native.Mathlib.Nat.{div-div-eq-div-mul}
-use native.Mathlib.Numerals.{add-one}
 use native.Mathlib.Omega.{arith}
-use borrow.Author.Tests.{eq-eqb}
-use lib.Dec.{ltb, eqb, lt→ltb}
-use lib.ListN.{get_or}
+use borrow.Author.Tests.{eq-eqb, ne_eqb, lt-ltb}
+use lib.Dec.{ltb, eqb}
 use Rattle.rules.specs.Numbers.{most_actions, most_levels, duration_said}
 use Rattle.rules.specs.Image.{be}
 use Rattle.rules.specs.Refresh.{entry, open_of, action_of, level_of, duration_of, measures}
-use Rattle.rules.proofs.Tests.{passed, failed}
-use Rattle.rules.proofs.Refresh.{measures-above}
-use Rattle.fields.proofs.Bytes.{be-front}
 use Rattle.trace.specs.Trace.{cells, cell_of, IsRecord, Measures}
 use Rattle.trace.specs.declared.Entry.{Entry}
 
@@ -35,48 +30,38 @@ duration-lt trace r = omega arith
 pub cell-lt : {trace : List ℕ} {r : ℕ} {e : Entry} → IsRecord trace r e → e.cell < cells
 cell-lt {trace} {r} is = omega (arith, is.in_cell, action-lt trace r, level-lt trace r)
 
-digits : (f x : ℕ) → x < 4 → f % 128 * 4 + x ≡ (f * 4 + x) / 8 % 64 * 8 + (f * 4 + x) % 8
-digits f x h = omega arith
+-- Its five bytes as one number.
+module _ (trace : List ℕ) (r e : ℕ) (is : e ≡ be trace (r * 5) 5) where
+  pub opened : eqb (e / 2 ^ 39) 1 ≡ open_of trace r
+  unfolding open_of entry
+  opened = ap (λ (x : ℕ). eqb (x / 2 ^ 39) 1) is
 
--- The first byte and the four after it.
-module _ (trace : List ℕ) (r first rest : ℕ) (is : first ≡ get_or trace (r * 5) 0) (are : rest ≡ be trace (r * 5 + 1) 4) (low : rest < 2 ^ 32) where
-  joined : entry trace r ≡ first * 4294967296 + rest
-  unfolding entry
-  joined =
-      let behind : be trace (suc (r * 5)) 4 ≡ rest = ap (λ (i : ℕ). be trace i 4) (sym (add-one (r * 5))) ∙ sym are in
-      be-front trace (r * 5) 4 ∙ rw (behind, is)
-
-  pub opened : eqb (first / 128) 1 ≡ open_of trace r
-  unfolding open_of
-  opened =
-      let top : first / 128 ≡ entry trace r / 2 ^ 39 = omega (arith, joined) in
-      ap (λ (x : ℕ). eqb x 1) top
-
-  pub in_cell : first % 128 * 4 + rest / duration_said ≡ cell_of (action_of trace r) (level_of trace r)
-  unfolding action_of level_of
+  pub in_cell : e / duration_said % cells ≡ cell_of (action_of trace r) (level_of trace r)
+  unfolding action_of level_of entry
   in_cell =
-      let q : ℕ = first * 4 + rest / duration_said in
-      let level : entry trace r / 2 ^ 30 ≡ q = omega (arith, joined) in
-      let action : entry trace r / 2 ^ 33 ≡ q / 8 = sym (div-div-eq-div-mul (entry trace r) (2 ^ 30) 8) ∙ ap (λ (x : ℕ). x / 8) level in
-      rw (level, action) (digits first (rest / duration_said) (omega arith))
+      let above : e / 2 ^ 33 ≡ e / 2 ^ 30 / 8 = sym (div-div-eq-div-mul e (2 ^ 30) 8) in
+      rw (sym is, above) (digits (e / 2 ^ 30))
+    where
+      digits : (x : ℕ) → x % 512 ≡ x / 8 % 64 * 8 + x % 8
+      digits x = omega arith
 
-  pub lasts : rest % duration_said ≡ duration_of trace r
-  unfolding duration_of
-  lasts = omega (arith, joined)
+  pub lasts : e % duration_said ≡ duration_of trace r
+  unfolding duration_of entry
+  lasts = ap (λ (x : ℕ). x % 2 ^ 30) is
 
 -- ---- which records are measurements
 
--- One of duration 0 is none.
-pub skipped_measures : (e : Entry) → e.duration ≡ 0 → Measures e false
-skipped_measures e none trace r is = sym (failed _ (λ h. omega (arith, none, is.duration, measures-above trace _ _ r h)))
-
-all_true : (b : Bool) → b ≡ b && (true && (true && true))
-all_true true = refl
-all_true false = refl
-
--- Any other is one if it is open.
-pub open_measures : (e : Entry) → 0 < e.duration → Measures e e.«open»
+-- A closed record is none.
+pub closed_measures : (e : Entry) → e.«open» ≡ false → Measures e e.«open»
 unfolding measures
-open_measures e some trace r is =
-    let above : ltb 0 (duration_of trace r) ≡ true = passed _ (lt→ltb 0 (duration_of trace r) (omega (arith, some, is.duration))) in
-    rw (eq-eqb _ _ refl, eq-eqb _ _ refl, above, is.opened) (all_true (open_of trace r))
+closed_measures e closed trace r is = closed ∙ rw (sym is.opened ∙ closed) refl
+
+-- An open one is one if its duration is above 0.
+pub open_measures : (e : Entry) → e.«open» ≡ true → Measures e (not (eqb e.duration 0))
+unfolding measures
+open_measures e is_open trace r is =
+    rw (sym is.opened ∙ is_open, eq-eqb (action_of trace r) _ refl, eq-eqb (level_of trace r) _ refl, is.duration) (some (duration_of trace r))
+  where
+    some : (d : ℕ) → not (eqb d 0) ≡ true && (ltb 0 d && (true && true))
+    some zero = refl
+    some (suc d) = rw (ne_eqb (suc d) 0 (λ e. omega arith), lt-ltb 0 (suc d) (omega arith)) refl

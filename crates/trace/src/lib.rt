@@ -2,14 +2,15 @@
 // has a cell for each action and level, as many as a profile can have: the levels of action 0, then those of action 1, and so on.
 #![tactic(auto)]
 
-ghost use Rattle.std.specs.Prelude.{◌≡◌, [], ◌∷◌, ◌+◌, ◌*◌, ◌≤◌, ◌<◌, max, length};
+ghost use Rattle.std.specs.Prelude.{[], ◌∷◌, ◌+◌, ◌*◌, ◌≤◌, ◌<◌, length};
 ghost use Rattle.rules.specs.Numbers.{most_records, entry_bytes, refused_trace};
+ghost use Rattle.rules.specs.Reasons.{number};
 ghost use Rattle.rules.specs.Refusals.{◌when◌, First};
 ghost use Rattle.rules.specs.Refresh.{records, Trace};
 ghost use Rattle.trace.specs.Trace.{IsRecord, cells, FaultOf, Measures, count_worth, Gains, Tallied, TallyRoom, Added, PassGives};
 ghost use Rattle.trace.specs.Trace.{Unmeasured, Averaged, Raised};
 
-use rules::Refusal;
+use rules::Reason;
 
 // The cells of a table.
 pub const CELLS: usize = rules::MOST_ACTIONS * rules::MOST_LEVELS;
@@ -22,72 +23,57 @@ pub struct Entry {
     pub duration: u32,
 }
 
-// What the open bit is worth in the first byte of a record, above seven bits of the cell.
-const OPEN_WORTH: u32 = 128;
+// What the open bit of a record is worth, above action, level and duration.
+const OPEN_WORTH: u64 = 549_755_813_888;
 
-// How many numbers the two bits of the cell in the second byte can say.
-const CELL_REST_SAID: u32 = 4;
-
-// Record r, most significant bit first: open 1, action 6, level 3, duration 30. Action and level as they stand are the cell, of which the
-// first byte has seven bits and the second two.
+// Record r, most significant bit first: open 1, action 6, level 3, duration 30. Action and level as they stand are the cell.
 pub fn record_at(trace: &[u8], r: usize) -> Entry
     requires { r * entry_bytes + entry_bytes ≤ length trace.now }
     ensures { IsRecord trace.now r result }
 {
-    let first = u32::from(trace[r * rules::ENTRY_BYTES]);
-    let rest = fields::be32(trace, r * rules::ENTRY_BYTES + 1);
+    let entry = fields::big_endian::<5>(trace, r * rules::ENTRY_BYTES);
+    let said = u64::from(rules::DURATION_SAID);
     Entry {
-        open: first / OPEN_WORTH == 1,
-        cell: (first % OPEN_WORTH * CELL_REST_SAID + rest / rules::DURATION_SAID) as usize,
-        duration: rest % rules::DURATION_SAID,
+        open: entry / OPEN_WORTH == 1,
+        cell: (entry / said) as usize % CELLS,
+        duration: (entry % said) as u32,
     }
 }
 
 // 14 for a trace that is not whole records, or has too many.
-pub fn trace_refusal(trace: &[u8]) -> Refusal
-    ensures { First (refused_trace when Trace trace.now ∷ []) result.number }
+pub fn trace_refusal(trace: &[u8]) -> Result<(), Reason>
+    ensures { First (refused_trace when Trace trace.now ∷ []) (number result) }
 {
-    let unfit = Refusal {
-        number: rules::REFUSED_TRACE,
-    };
     if trace.len() % rules::ENTRY_BYTES != 0 {
-        return unfit;
+        return Err(Reason::Trace);
     }
     if rules::MOST_RECORDS < trace.len() / rules::ENTRY_BYTES {
-        return unfit;
+        return Err(Reason::Trace);
     }
-    Refusal { number: 0 }
+    Ok(())
 }
 
 // What a record is refused with. A cell's ceiling is the first duration that is too long for it, 0 where the action
 // or the level is absent: one test finds either fault.
-pub fn fault(e: Entry, ceilings: &[u32; CELLS]) -> Refusal
+pub fn fault(e: Entry, ceilings: &[u32; CELLS]) -> Result<(), Reason>
     requires { e.cell < cells }
-    ensures { FaultOf e ceilings.now result.number }
+    ensures { FaultOf e ceilings.now (number result) }
 {
-    let at = e.cell;
-    let ceiling = ceilings[at];
+    let ceiling = ceilings[e.cell];
     if e.duration < ceiling {
-        return Refusal { number: 0 };
+        return Ok(());
     }
     if ceiling == 0 {
-        return Refusal {
-            number: rules::REFUSED_NAME,
-        };
+        return Err(Reason::Name);
     }
-    Refusal {
-        number: rules::REFUSED_DURATION,
-    }
+    Err(Reason::Duration)
 }
 
 // Whether a record counts as a measurement. One of duration 0 does not, open or closed: the action was skipped.
 pub fn measures(e: Entry) -> bool
     ensures { Measures e result }
 {
-    if e.duration == 0 {
-        return false;
-    }
-    e.open
+    e.open && e.duration != 0
 }
 
 // What one measurement is worth in a tally. A tally has the count of some measurements above the sum of their durations: 65,535 durations
@@ -100,7 +86,7 @@ pub fn gain(e: Entry) -> u64
     ensures upper_bound { result ≤ count_worth + e.duration }
 {
     if measures(e) {
-        COUNT_WORTH + e.duration as u64
+        COUNT_WORTH + u64::from(e.duration)
     } else {
         0
     }
@@ -111,26 +97,20 @@ pub fn add(e: Entry, tallies: &mut [u64; CELLS])
     requires { TallyRoom e tallies.old }
     ensures { Added e tallies.old tallies.new }
 {
-    let at = e.cell;
-    tallies[at] = tallies[at] + gain(e);
+    tallies[e.cell] += gain(e);
 }
 
 // One pass over the trace: each record is checked and added to the tallies, which start with nothing.
-pub fn pass(trace: &[u8], ceilings: &[u32; CELLS], tallies: &mut [u64; CELLS]) -> Refusal
+pub fn pass(trace: &[u8], ceilings: &[u32; CELLS], tallies: &mut [u64; CELLS]) -> Result<(), Reason>
     requires { (records trace.now ≤ most_records) × Tallied trace.now 0 tallies.old }
-    ensures { PassGives trace.now ceilings.now tallies.new result.number }
+    ensures { PassGives trace.now ceilings.now tallies.new (number result) }
 {
-    let mut r = 0;
-    while r < trace.len() / rules::ENTRY_BYTES {
+    for r in 0..trace.len() / rules::ENTRY_BYTES {
         let e = record_at(trace, r);
-        let refusal = fault(e, ceilings);
-        if refusal.number != 0 {
-            return refusal;
-        }
+        fault(e, ceilings)?;
         add(e, tallies);
-        r += 1;
     }
-    Refusal { number: 0 }
+    Ok(())
 }
 
 // What an unmeasured level becomes: its old average stays.
@@ -146,15 +126,9 @@ pub fn averaged(tally: u64, average: u32) -> u64
 {
     let count = tally / COUNT_WORTH;
     if count == 0 {
-        return unmeasured(average) as u64;
+        return u64::from(unmeasured(average));
     }
     tally % COUNT_WORTH / count
-}
-
-fn greater(x: u64, y: u64) -> u64
-    ensures { result ≡ max x y }
-{
-    if x < y { y } else { x }
 }
 
 // The new average of a level: one that is below the one before it takes that value. Before level 0 there is 0.
@@ -162,5 +136,5 @@ pub fn raised(before: u64, tally: u64, average: u32) -> u64
     ensures { Raised before tally average result }
 {
     let here = averaged(tally, average);
-    greater(before, here)
+    before.max(here)
 }

@@ -1,6 +1,6 @@
 -- The invariant of `trace::pass`: no record so far is at fault, and those that are measurements are in the tallies. The measure is the number of
 -- records that are left.
-use Rattle.std.specs.Prelude.{ℕ, ◌-◌, ◌≤◌, ◌<◌, List}
+use Rattle.std.specs.Prelude.{ℕ, ◌≤◌, ◌<◌, List}
 use Rattle.rules.specs.Image.{Profile}
 use Rattle.rules.specs.Refresh.{records, Fault}
 use Rattle.trace.specs.Trace.{Ceilings, Tallied}
@@ -13,6 +13,3 @@ pub record Done (trace ceilings tallies : List ℕ) (r : ℕ) : Type 0 where
 
 abbrev pub invariant-loop-r : goal.invariant-loop-r
 invariant-loop-r l = Done l.trace l.ceilings l.tallies l.r
-
-abbrev pub decreases-loop-r : goal.decreases-loop-r
-decreases-loop-r l = records l.trace - l.r

@@ -7,4 +7,4 @@ use Rattle.trace.proofs.raised.Goals as goal
 pub returns : goal.returns
 unfolding new_average
 returns c = λ F trace a q old is below.
-    c.greater.ensures ∙ rw (below, c.averaged-here.ensures F trace a q old is) (raised_at (measured F trace a) q)
+    c.max.ensures ∙ rw (below, c.averaged-here.ensures F trace a q old is) (raised_at (measured F trace a) q)

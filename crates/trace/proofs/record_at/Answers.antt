@@ -4,11 +4,5 @@ use Rattle.trace.proofs.record_at.Goals as goal
 
 pub returns : goal.returns
 returns c =
-    let x = c.args in
-    let first = c.from-first.ensures in
-    let (rest, low) = c.be32-rest.ensures in
-    record {
-      opened = opened x.trace.now x.r _ _ first rest low;
-      in_cell = in_cell x.trace.now x.r _ _ first rest low;
-      duration = lasts x.trace.now x.r _ _ first rest low;
-    }
+    let is = c.big_endian-entry.ensures.0 in
+    record { opened = opened _ _ _ is; in_cell = rw c.from-said.ensures (in_cell _ _ _ is); duration = rw c.from-said.ensures (lasts _ _ _ is) }
