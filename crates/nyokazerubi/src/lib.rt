@@ -167,5 +167,5 @@ pub fn nyokazerubi_dry_frame(
 pub fn nyokazerubi_refresh(image: &[u8], trace: &[u8], out: &mut [u8]) -> Refreshed
     ensures { Refreshes image.now trace.now out.old out.new result.refusal result.bytes }
 {
-    refresh::refresh(image, trace, out)
+    Refreshed::from(refresh::refresh(image, trace, out))
 }

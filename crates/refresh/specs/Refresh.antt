@@ -1,13 +1,16 @@
 -- What a refresh answers, and what it leaves of the lent slice.
-use Rattle.std.specs.Prelude.{ℕ, ◌+◌, ◌≤◌, ◌<◌, ◌≡◌, List, [], ◌∷◌, ◌++◌, ◌⊎◌, length, get_or}
+use Rattle.std.specs.Prelude.{ℕ, ◌+◌, ◌≤◌, ◌<◌, ◌≡◌, List, [], ◌∷◌, ◌++◌, ◌⊎◌, Result, Ok, Err, length, get_or}
 use Rattle.rules.specs.Numbers.{most_actions, most_levels, header_bytes, refused_trace, refused_room}
 use Rattle.rules.specs.Words.{cat}
 use Rattle.rules.specs.Image.{Profile, levels, record_at, worst_of, profile, record_image}
 use Rattle.rules.specs.Refusals.{Ground, ◌when◌, First, Refuses, kept, Tight}
+use Rattle.rules.specs.Reasons.{fault}
+use Rattle.rules.specs.declared.Blame.{Blame}
 use Rattle.rules.specs.declared.Fault.{Fault}
 use Rattle.rules.specs.Refresh.{refreshed, new_image, Trace, refresh_call}
 use Rattle.fields.specs.Fields.{splice}
 use Rattle.trace.specs.Trace.{cells, cell_of, Ceilings, faults, Weighs}
+use Rattle.refresh.specs.declared.Refreshed.{Refreshed}
 
 -- The grounds for refusing to refresh the image s by the trace; of the lent slice as many bytes are needed as s has.
 abbrev pub refreshing : List ℕ → List ℕ → List ℕ → List Ground
@@ -18,6 +21,15 @@ pub record Refreshes (s trace before after : List ℕ) (refusal : Fault) (bytes 
   pub given : Refuses (refreshing s trace before) refusal
   pub written : after ≡ kept refusal.number (splice before 0 (new_image s trace)) before
   pub count : bytes ≡ kept refusal.number (length s) 0
+
+-- the bytes of the new image, 0 with a refusal
+abbrev pub written_bytes : Result ℕ Blame → ℕ
+written_bytes (Ok bytes) = bytes
+written_bytes (Err _) = 0
+
+-- the same with the refusal, as it is answered to C
+abbrev pub flat : Result ℕ Blame → Refreshed
+flat r = record { refusal = fault r; bytes = written_bytes r }
 
 -- ---- asked between the functions of this crate
 

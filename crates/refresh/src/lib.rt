@@ -5,21 +5,39 @@ ghost use Rattle.std.specs.Prelude.{◌≡◌, ◌+◌, ◌*◌, ◌≤◌, leng
 ghost use Rattle.rules.specs.Numbers.{most_levels};
 ghost use Rattle.rules.specs.Words.{tab};
 ghost use Rattle.rules.specs.Image.{record_bytes, record_at, worst_of, profile};
+ghost use Rattle.rules.specs.Reasons.{number, fault};
 ghost use Rattle.rules.specs.Refusals.{Accepted};
 ghost use Rattle.fields.specs.Fields.{splice};
 ghost use Rattle.image_fields.specs.Reading.{HasRecord, HasRecords};
 ghost use Rattle.trace.specs.Trace.{cells, Tallied};
-ghost use Rattle.refresh.specs.Refresh.{Refreshes, Weighed, Ceiled, Renews, AllRenewed};
+ghost use Rattle.refresh.specs.Refresh.{written_bytes, flat, Refreshes, Weighed, Ceiled, Renews, AllRenewed};
 
 use image_fields::read;
-use rules::{Fault, Refusal};
+use rules::{Blame, Fault, Reason};
 
-// The answer of a refresh: the refusal, and the bytes of the new image.
+// What a refresh answers to C: the refusal, and the bytes of the new image.
 #[repr(C)]
-#[derive(Drop)]
+#[derive(Clone, Copy, PartialEq, Eq)]
 pub struct Refreshed {
     pub refusal: Fault,
     pub bytes: usize,
+}
+
+impl From<Result<usize, Blame>> for Refreshed {
+    ghost from_gives = { λ outcome refreshed. refreshed ≡ flat outcome };
+
+    fn from(outcome: Result<usize, Blame>) -> Self {
+        match outcome {
+            Ok(bytes) => Refreshed {
+                refusal: Fault::of(Ok(())),
+                bytes,
+            },
+            Err(blame) => Refreshed {
+                refusal: Fault::from(blame),
+                bytes: 0,
+            },
+        }
+    }
 }
 
 // The call's own refusals: 14, then record by record 15 before 16, then 17, where `needed` bytes are needed of `room`. One pass over the
@@ -30,24 +48,16 @@ fn own_refusal(
     tallies: &mut [u64; trace::CELLS],
     needed: usize,
     room: usize,
-) -> Refusal
+) -> Result<(), Reason>
     requires { Tallied trace.now 0 tallies.old }
-    ensures { Weighed trace.now ceilings.now needed room tallies.new result.number }
+    ensures { Weighed trace.now ceilings.now needed room tallies.new (number result) }
 {
-    let whole = trace::trace_refusal(trace);
-    if whole.number != 0 {
-        return whole;
-    }
-    let fault = trace::pass(trace, ceilings, tallies);
-    if fault.number != 0 {
-        return fault;
-    }
+    trace::trace_refusal(trace)?;
+    trace::pass(trace, ceilings, tallies)?;
     if room < needed {
-        return Refusal {
-            number: rules::REFUSED_ROOM,
-        };
+        return Err(Reason::Room);
     }
-    Refusal { number: 0 }
+    Ok(())
 }
 
 // The first durations that are too long for action a, by level: one above its worst times.
@@ -55,10 +65,8 @@ fn ceiling_row(image: &[u8], levels: usize, a: usize, ceilings: &mut [u32; trace
     requires { HasRecord image.now levels a × (length ceilings.old ≡ cells) }
     ensures { ceilings.new ≡ splice ceilings.old (a * most_levels) (tab (λ q. worst_of image.now a q + 1) levels) }
 {
-    let mut q = 0;
-    while q < levels {
+    for q in 0..levels {
         ceilings[a * rules::MOST_LEVELS + q] = read::worst_at(image, levels, a, q) + 1;
-        q += 1;
     }
 }
 
@@ -67,10 +75,8 @@ fn take_ceilings(image: &[u8], n: usize, levels: usize, ceilings: &mut [u32; tra
     requires { HasRecords image.now levels n × Ceiled image.now 0 levels ceilings.old }
     ensures { Ceiled image.now n levels ceilings.new }
 {
-    let mut a = 0;
-    while a < n {
+    for a in 0..n {
         ceiling_row(image, levels, a, ceilings);
-        a += 1;
     }
 }
 
@@ -87,12 +93,10 @@ fn put_averages(
 {
     let start = read::record_at(levels, a) + rules::AVERAGE_AT;
     let mut last = 0;
-    let mut q = 0;
-    while q < levels {
+    for q in 0..levels {
         let average = read::average_at(image, levels, a, q);
         last = trace::raised(last, tallies[a * rules::MOST_LEVELS + q], average);
         fields::put_be(out, start + q * rules::LEVEL_BYTES, last, 3);
-        q += 1;
     }
 }
 
@@ -101,10 +105,8 @@ fn renew(image: &[u8], n: usize, levels: usize, tallies: &[u64; trace::CELLS], o
     requires { HasRecords image.now levels n × (length image.now ≤ length out.old) }
     ensures { AllRenewed image.now n tallies.now out.old out.new }
 {
-    let mut a = 0;
-    while a < n {
+    for a in 0..n {
         put_averages(image, levels, a, tallies, out);
-        a += 1;
     }
 }
 
@@ -115,35 +117,24 @@ fn refresh_accepted(
     levels: usize,
     trace: &[u8],
     out: &mut [u8],
-) -> Refreshed
+) -> Result<usize, Blame>
     requires { Accepted image.now × (n ≡ (profile image.now).n) × (levels ≡ (profile image.now).levels) }
-    ensures { Refreshes image.now trace.now out.old out.new result.refusal result.bytes }
+    ensures { Refreshes image.now trace.now out.old out.new (fault result) (written_bytes result) }
 {
     let mut ceilings = [0u32; trace::CELLS];
     take_ceilings(image, n, levels, &mut ceilings);
     let mut tallies = [0u64; trace::CELLS];
     let bytes = image.len();
-    let own = own_refusal(trace, &ceilings, &mut tallies, bytes, out.len());
-    let refusal = Fault {
-        number: own.number,
-        action: rules::NO_ACTION,
-    };
-    if own.number != 0 {
-        return Refreshed { refusal, bytes: 0 };
-    }
+    own_refusal(trace, &ceilings, &mut tallies, bytes, out.len())?;
     fields::copy_front(image, bytes, out);
     renew(image, n, levels, &tallies, out);
-    Refreshed { refusal, bytes }
+    Ok(bytes)
 }
 
-// Writes the new image to `out`. A refusal leaves `out` untouched, and what it has beyond the new image stays.
-pub fn refresh(image: &[u8], trace: &[u8], out: &mut [u8]) -> Refreshed
-    ensures { Refreshes image.now trace.now out.old out.new result.refusal result.bytes }
+// Writes the new image to `out`, and answers its bytes. A refusal leaves `out` untouched, and what it has beyond the new image stays.
+pub fn refresh(image: &[u8], trace: &[u8], out: &mut [u8]) -> Result<usize, Blame>
+    ensures { Refreshes image.now trace.now out.old out.new (fault result) (written_bytes result) }
 {
-    let checked = image_check::whole::checked(image);
-    let refusal = checked.refusal;
-    if refusal.number != 0 {
-        return Refreshed { refusal, bytes: 0 };
-    }
+    let checked = image_check::whole::checked(image)?;
     refresh_accepted(image, checked.n, checked.levels, trace, out)
 }

@@ -4,6 +4,7 @@
 
 ghost use Rattle.std.specs.Prelude.{◌≡◌, length};
 
+use refresh::Refreshed;
 use std::io;
 use test_kit::part;
 
@@ -64,7 +65,7 @@ fn fill(trace: &mut [u8], row: [u32; 24]) {
 fn refreshed<R: Print>(rt: &R, image: &[u8], trace: &[u8], room: u32) -> io::Result<()> {
     let mut out = [0xa5u8; 80];
     let lent = part(room, 80);
-    let answer = refresh::refresh(image, trace, &mut out[0..lent]);
+    let answer = Refreshed::from(refresh::refresh(image, trace, &mut out[0..lent]));
     test_kit::say_fault(rt, b": refusal ", answer.refusal)?;
     say_written(rt, image, out, answer.bytes)
 }

@@ -5,6 +5,7 @@
 ghost use Rattle.std.specs.Io.{ReadsAtMost};
 
 use files::read_file;
+use refresh::Refreshed;
 use std::io;
 use std::rt::Files;
 use test_kit::{sum_up, tell};
@@ -49,7 +50,7 @@ fn agrees<R: Files>(rt: &R, series: &[u8], trace: usize) -> io::Result<bool> {
     let mut want = [0xa5u8; 4096];
     let wanted = read_trace(rt, series, trace, b".refreshed", &mut want)?;
     let mut out = [0xa5u8; 4096];
-    let answer = refresh::refresh(&image[..n], &records[..m], &mut out);
+    let answer = Refreshed::from(refresh::refresh(&image[..n], &records[..m], &mut out));
     if answer.refusal.number != number(rt, series, trace)? {
         return Ok(false);
     }

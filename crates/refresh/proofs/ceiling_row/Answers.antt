@@ -16,7 +16,7 @@ loop-q-init c = (search rules, search rules, cat-none _ _ _)
 pub overflow_add-ceilings : goal.overflow_add-ceilings
 overflow_add-ceilings c =
     let x = c.args in
-    let bytes : Bytes x.image.now = λ k. (c.shared_slice_known-1.given k).fits in
+    let bytes : Bytes x.image.now = λ k. (c.type_inv.image k).fits in
     omega (arith, worst-short x.image.now x.a c.loop-q.q bytes, c.worst_at.ensures)
 
 pub loop-q-preserved : goal.loop-q-preserved

@@ -1,4 +1,4 @@
-use Prim.Native.Nat.{◌+◌, ◌*◌, ◌-◌, ◌≤◌}
+use Prim.Native.Nat.{◌+◌, ◌*◌, ◌≤◌}
 use mathlib.Core.Path.{◌≡◌}
 use lib.ListN.{length}
 use Rattle.rules.specs.Numbers.{most_levels}
@@ -10,6 +10,3 @@ use Rattle.refresh.proofs.ceiling_row.Given as goal
 abbrev pub invariant-loop-q : goal.invariant-loop-q
 invariant-loop-q l =
     (l.q ≤ l.levels) × (length l.ceilings ≡ length l.initial.ceilings) × (l.ceilings ≡ splice l.initial.ceilings (l.a * most_levels) (tab (λ p. worst_of l.image l.a p + 1) l.q))
-
-abbrev pub decreases-loop-q : goal.decreases-loop-q
-decreases-loop-q l = l.levels - l.q

@@ -1,5 +1,5 @@
 -- The loop has written the new averages of the levels below q, and `last` is the one before level q. Assumes nothing.
-use Prim.Native.Nat.{ℕ, ◌+◌, ◌-◌, ◌≤◌}
+use Prim.Native.Nat.{ℕ, ◌+◌, ◌≤◌}
 use mathlib.Core.Path.{◌≡◌}
 use mathlib.Core.List.{List}
 use lib.ListN.{length}
@@ -20,6 +20,3 @@ pub record Done (s : List ℕ) (L a : ℕ) (tallies before : List ℕ) (out : Li
 
 abbrev pub invariant-loop-q : goal.invariant-loop-q
 invariant-loop-q l = Done l.image l.levels l.a l.tallies l.initial.out l.out l.last l.q
-
-abbrev pub decreases-loop-q : goal.decreases-loop-q
-decreases-loop-q l = l.levels - l.q

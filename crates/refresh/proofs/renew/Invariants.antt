@@ -1,4 +1,4 @@
-use Prim.Native.Nat.{ℕ, ◌-◌, ◌≤◌, ◌<◌}
+use Prim.Native.Nat.{ℕ, ◌≤◌, ◌<◌}
 use mathlib.Core.Path.{◌≡◌}
 use mathlib.Core.List.{List}
 use lib.ListN.{length}
@@ -17,6 +17,3 @@ invariant-loop-a l =
     × (length l.out ≡ length l.initial.out)
     × ((trace : List ℕ) → Weighs trace l.tallies → ((b : ℕ) → b < l.n → Copied l.image l.initial.out b)
     → l.out ≡ splice l.initial.out header_bytes (cat (record_image (refreshed (profile l.image) trace)) l.a))
-
-abbrev pub decreases-loop-a : goal.decreases-loop-a
-decreases-loop-a l = l.n - l.a
