@@ -19,6 +19,7 @@ use Rattle.rules.proofs.Order.OfProfile.{order_settled}
 use Rattle.rules.specs.declared.Fault.{Fault}
 use Rattle.image_check.specs.declared.Checked.{Checked}
 use Rattle.image_check.specs.Checks.{Judged}
+use Rattle.std.specs.Prelude.{Ok}
 use Rattle.image_fields.proofs.Reading.{has_record}
 use Rattle.image_check.proofs.Answers.{accepted-records}
 use Rattle.speed_stretch.specs.declared.Reading.{Reading}
@@ -68,14 +69,14 @@ image-refused s i k q t {f} p some =
 
 -- ---- an accepted image
 
-module _ {s : List ℕ} {c : Checked} (judged : Judged s c) (none : c.refusal.number ≡ 0) where
+module _ {s : List ℕ} {c : Checked} (judged : Judged s (Ok c)) where
   -- 18 and 13 blame no action
   pub own-given : (i k q t m : ℕ) → First (own_checks c.n c.levels i k q t) m
       → Refuses (speed_call s i k q t) (record { number = m; action = most_actions })
   own-given i k q t m p =
-      let found = judged.accepted none in
+      let found = judged.accepted in
       let own = own_checks (profile s).n (profile s).levels i k q t in
-      refuses-goes_on (image_checks s) own _ (image-numbered s) (rw none at judged.number)
+      refuses-goes_on (image_checks s) own _ (image-numbered s) judged.given.number
       (blameless own m ((λ a z. z), ((λ a z. z), tt)) (rw (found.n, found.levels) at p))
 
   module _ {i k q t : ℕ} (own : First (own_checks c.n c.levels i k q t) 0) where
@@ -84,9 +85,9 @@ module _ {s : List ℕ} {c : Checked} (judged : Judged s c) (none : c.refusal.nu
 
     pub readable : Readable s c.levels c.order i k q
     readable =
-        let found = judged.accepted none in
+        let found = judged.accepted in
         let (o, _, lists) = found.order in
-        let records = accepted-records judged none in
+        let records = accepted-records c judged in
         record {
           ordered = range.ordered;
           few = omega (arith, range.position, records.few_actions);
@@ -100,7 +101,7 @@ module _ {s : List ℕ} {c : Checked} (judged : Judged s c) (none : c.refusal.nu
     pub read-reads : (x : Stretch) (d : ℕ) (r : Reading) → StretchOf (listed s c.order) i k q x → d ≡ due (profile s) (get_or c.order k 0)
         → reading_of r ≡ gives (reading_by x.average (pos d -ℤ pos x.margin -ℤ pos t)) → ReadsSpeed s i k q t r
     read-reads x d r of e is =
-        let found = judged.accepted none in
+        let found = judged.accepted in
         let (o, the, lists) = found.order in
         let same = same-actions (profile s) (λ p. get_or c.order p 0) o.at k q (λ p l. lists p (omega (arith, range.position, found.n))) in
         record {

@@ -1,13 +1,16 @@
 -- The speed reading of an image.
-use Rattle.std.specs.Prelude.{ℕ, ◌≤◌, ◌<◌, ◌≡◌, Bool, true, false, List, [], ◌∷◌, ◌⊎◌, ◌≢◌, ◌↔◌, pos, ◌-ℤ◌, get_or, ◌≤ℤ◌, ◌<ℤ◌}
+use Rattle.std.specs.Prelude.{ℕ, ◌≤◌, ◌<◌, ◌≡◌, Bool, true, false, List, [], ◌∷◌, ◌⊎◌, ◌≢◌, ◌↔◌, Result, Ok, Err, pos, ◌-ℤ◌, get_or, ◌≤ℤ◌, ◌<ℤ◌}
 use Rattle.rules.specs.Numbers.{most_actions, last_clock, refused_clock, refused_reading}
 use Rattle.rules.specs.Image.{Profile, due, profile}
 use Rattle.rules.specs.Order.{Order, TheOrder}
 use Rattle.rules.specs.Limits.{Tables, tables, mixed}
 use Rattle.rules.specs.Refusals.{Ground, ◌when◌, First, Refuses}
+use Rattle.rules.specs.Reasons.{fault_of}
+use Rattle.rules.specs.declared.Blame.{Blame}
 use Rattle.rules.specs.declared.Fault.{Fault}
 use Rattle.rules.specs.Speed.{room, reading, speed_call}
 use Rattle.speed_stretch.specs.declared.Reading.{Reading}
+use Rattle.speed_stretch.specs.declared.Reading.TheVariants.{Refused}
 use Rattle.speed_stretch.specs.Answer.{gives, refuses, reading_of}
 use Rattle.image_fields.specs.Reading.{HasRecord}
 
@@ -32,6 +35,11 @@ pub record Tells (s : List ℕ) (first last level t : ℕ) (b : Bool) : Type 0 w
   pub read : number ≡ 0 → (o : Order (profile s).n) × TheOrder (profile s) o × ((b ≡ true) ↔ OnTime (tables (profile s) o) first last level t)
 
 -- ---- asked between the functions of this crate
+
+-- a reading, or why there is none, as it is answered
+abbrev pub answered : Result Reading Blame → Reading
+answered (Ok reading) = reading
+answered (Err blame) = Refused (fault_of blame)
 
 -- the first position is above the last one, or a position or the level is absent, of n positions and so many levels
 abbrev pub Absent : ℕ → ℕ → ℕ → ℕ → ℕ → Type 0

@@ -2,47 +2,41 @@
 #![tactic(auto)]
 
 ghost use Rattle.std.specs.Prelude.{◌≡◌, true, ◌↔◌};
+ghost use Rattle.rules.specs.Reasons.{number};
 ghost use Rattle.rules.specs.Refusals.{First};
 ghost use Rattle.speed_stretch.specs.Stretch.{StretchOf, SmallStretch};
-ghost use Rattle.speed.specs.Speed.{ReadsSpeed, Tells, Absent, own_checks, listed, Readable};
+ghost use Rattle.speed.specs.Speed.{ReadsSpeed, answered, Tells, Absent, own_checks, listed, Readable};
 
 use image_check::whole;
 use image_fields::read;
-use rules::{Fault, Refusal};
+use rules::{Blame, Fault, Reason};
 use speed_stretch::{Reading, Stretch};
 
 // The first position is above the last one, or a position or the level is absent.
 fn is_absent(n: usize, levels: usize, first: usize, last: usize, level: usize) -> bool
     ensures { (result ≡ true) ↔ Absent n levels first last level }
 {
-    if last < first {
-        return true;
-    }
-    if n <= last {
-        return true;
-    }
-    if levels <= level {
-        return true;
-    }
-    false
+    last < first || n <= last || levels <= level
 }
 
 // 18 for the positions and the level, then 13 for the clock.
-fn own_refusal(n: usize, levels: usize, first: usize, last: usize, level: usize, t: u32) -> Refusal
-    ensures { First (own_checks n levels first last level t) result.number }
+fn own_refusal(
+    n: usize,
+    levels: usize,
+    first: usize,
+    last: usize,
+    level: usize,
+    t: u32,
+) -> Result<(), Reason>
+    ensures { First (own_checks n levels first last level t) (number result) }
 {
-    let absent = is_absent(n, levels, first, last, level);
-    if absent {
-        return Refusal {
-            number: rules::REFUSED_READING,
-        };
+    if is_absent(n, levels, first, last, level) {
+        return Err(Reason::Reading);
     }
     if rules::LAST_CLOCK < t {
-        return Refusal {
-            number: rules::REFUSED_CLOCK,
-        };
+        return Err(Reason::Clock);
     }
-    Refusal { number: 0 }
+    Ok(())
 }
 
 // Average and margin of the positions, from the last one back.
@@ -58,10 +52,8 @@ fn stretch(
     ensures { StretchOf (listed image.now actions.now) first last level result × SmallStretch result }
 {
     let mut s = speed_stretch::nothing();
-    let mut j = last + 1;
-    while first < j {
-        j -= 1;
-        let a = actions[j] as usize;
+    for j in (first..last + 1).rev() {
+        let a = usize::from(actions[j]);
         let average = read::average_at(image, levels, a, level);
         let worst = read::worst_at(image, levels, a, level);
         let worst0 = read::worst_at(image, levels, a, 0);
@@ -70,27 +62,33 @@ fn stretch(
     s
 }
 
-// The reading of positions `first` to `last` at the level and time t, any values.
+// The reading of positions `first` to `last` at the level and time t, or why there is none.
+fn read_speed(
+    image: &[u8],
+    first: usize,
+    last: usize,
+    level: usize,
+    t: u32,
+) -> Result<Reading, Blame>
+    ensures { ReadsSpeed image.now first last level t (answered result) }
+{
+    let checked = whole::checked(image)?;
+    let levels = checked.levels;
+    own_refusal(checked.n, levels, first, last, level, t)?;
+    let actions = checked.order;
+    let s = stretch(image, levels, &actions, first, last, level);
+    let deadline = read::due_at(image, levels, usize::from(actions[last]), checked.cycle);
+    Ok(speed_stretch::read(s.average, deadline, s.margin, t))
+}
+
+// The reading, of any values.
 pub fn speed_reading(image: &[u8], first: usize, last: usize, level: usize, t: u32) -> Reading
     ensures { ReadsSpeed image.now first last level t result }
 {
-    let checked = whole::checked(image);
-    let refusal = checked.refusal;
-    if refusal.number != 0 {
-        return Reading::Refused(refusal);
+    match read_speed(image, first, last, level, t) {
+        Ok(reading) => reading,
+        Err(blame) => Reading::Refused(Fault::from(blame)),
     }
-    let levels = checked.levels;
-    let own = own_refusal(checked.n, levels, first, last, level, t);
-    if own.number != 0 {
-        return Reading::Refused(Fault {
-            number: own.number,
-            action: rules::NO_ACTION,
-        });
-    }
-    let actions = checked.order;
-    let s = stretch(image, levels, &actions, first, last, level);
-    let deadline = read::due_at(image, levels, actions[last] as usize, checked.cycle);
-    speed_stretch::read(s.average, deadline, s.margin, t)
 }
 
 // Whether the reading is a ratio of at most 1: the positions, begun at t, end in time at the level.

@@ -30,9 +30,9 @@ longer-s-requires c =
     let e = t.j - 1 in
     let l = listed-times a.image.now a.actions.now a.last a.level (λ k. (c.type_inv.image k).fits) in (
       short a.image.now a.actions.now a.levels a.first a.last a.level t.j t.s (λ k. (c.type_inv.image k).fits) c.requires t.invariant.1 t.invariant.2,
-      omega (arith, c.average_at-average.ensures, l.average e (omega arith)),
-      omega (arith, c.worst_at-worst.ensures, l.worst e (omega arith)),
-      omega (arith, c.worst_at-worst0.ensures, l.worst0 e (omega arith)),
+      omega (arith, rw c.from-a.ensures at c.average_at-average.ensures, l.average e (omega arith)),
+      omega (arith, rw c.from-a.ensures at c.worst_at-worst.ensures, l.worst e (omega arith)),
+      omega (arith, rw c.from-a.ensures at c.worst_at-worst0.ensures, l.worst0 e (omega arith)),
     )
 
 pub loop-j-preserved : goal.loop-j-preserved
@@ -41,7 +41,7 @@ loop-j-preserved c = (
   search rules,
   search rules,
   c.longer-s.ensures _ (c.loop-j.j - 1) c.loop-j.j _ _ (omega arith) (omega arith)
-      c.average_at-average.ensures c.worst_at-worst.ensures c.worst_at-worst0.ensures c.loop-j.invariant.2,
+      (rw c.from-a.ensures at c.average_at-average.ensures) (rw c.from-a.ensures at c.worst_at-worst.ensures) (rw c.from-a.ensures at c.worst_at-worst0.ensures) c.loop-j.invariant.2,
 )
 
 pub returns : goal.returns

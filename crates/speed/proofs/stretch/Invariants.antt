@@ -5,6 +5,3 @@ use Rattle.speed.proofs.stretch.Given as goal
 
 abbrev pub invariant-loop-j : goal.invariant-loop-j
 invariant-loop-j l = (l.first ≤ l.j) × (l.j ≤ l.last + 1) × StretchOf (listed l.image l.actions) l.j l.last l.level l.s
-
-abbrev pub decreases-loop-j : goal.decreases-loop-j
-decreases-loop-j l = l.j
