@@ -3,10 +3,10 @@
 #![tactic(auto)]
 
 ghost use Rattle.std.specs.Prelude.{◌<◌, ◌≡◌};
-ghost use Rattle.image_write.specs.Writing.{Writes};
+ghost use Rattle.image_write.specs.Writing.{Writes, written};
 ghost use Rattle.encoder.specs.Times.{times, column, encoder_tables};
 
-use image_write::Written;
+use rules::Blame;
 
 const ACTIONS: usize = 9;
 
@@ -73,8 +73,8 @@ fn column(table: [[[u32; 2]; LEVELS]; ACTIONS], which: usize) -> [u32; ENTRIES]
 }
 
 // Writes the encoder's profile: refused only where the image is shorter than its 546 bytes (`Written`, `only-room`).
-pub fn write_image(image: &mut [u8]) -> Written
-    ensures { Writes 9 8 320000 encoder_tables image.old image.new result.refusal result.bytes }
+pub fn write_image(image: &mut [u8]) -> Result<usize, Blame>
+    ensures { Writes 9 8 320000 encoder_tables image.old image.new (written result).refusal (written result).bytes }
 {
     let masks = MASKS;
     let deadlines = DEADLINES;

@@ -40,7 +40,7 @@ pub fn nyokazerubi_boundary() -> u32
 pub fn nyokazerubi_check(image: &[u8]) -> Fault
     ensures { Refuses (image_checks image.now) result }
 {
-    profile::check(image)
+    Fault::of(profile::check(image))
 }
 
 pub fn nyokazerubi_read(
@@ -54,7 +54,13 @@ pub fn nyokazerubi_read(
         (record { masks = masks.old; deadlines = deadlines.old; averages = averages.old; worst = worst_by_action.old })
         (record { masks = masks.new; deadlines = deadlines.new; averages = averages.new; worst = worst_by_action.new }) result }
 {
-    profile::read(image, masks, deadlines, averages, worst_by_action)
+    Unpacked::from(profile::read(
+        image,
+        masks,
+        deadlines,
+        averages,
+        worst_by_action,
+    ))
 }
 
 pub fn nyokazerubi_write(
@@ -71,7 +77,7 @@ pub fn nyokazerubi_write(
         (record { masks = masks.now; deadlines = deadlines.now; averages = averages.now; worst = worst_by_action.now })
         image.old image.new result.refusal result.bytes }
 {
-    profile::write(
+    Written::from(profile::write(
         n,
         levels,
         cycle,
@@ -80,26 +86,26 @@ pub fn nyokazerubi_write(
         averages,
         worst_by_action,
         image,
-    )
+    ))
 }
 
 pub fn nyokazerubi_write_encoder(image: &mut [u8]) -> Written
     ensures { Writes 9 8 320000 encoder_tables image.old image.new result.refusal result.bytes }
 {
-    encoder::write_image(image)
+    Written::from(encoder::write_image(image))
 }
 
 // No slice can be handed back to C: the host takes the part that lies at the place.
 pub fn nyokazerubi_lookup(image: &[u8], action: usize) -> Place
     ensures { Places image.now action result }
 {
-    profile::lookup_place(image, action)
+    Place::from(profile::lookup_place(image, action))
 }
 
 pub fn nyokazerubi_lookup_refusal(image: &[u8], action: usize) -> Fault
     ensures { Refuses (lookup_call image.now action) result }
 {
-    profile::lookup_refusal(image, action)
+    Fault::of(profile::lookup_refusal(image, action))
 }
 
 // ---- the plan and the dry run

@@ -1,13 +1,13 @@
 -- The calls on an image: its own refusals first, then the call's. What reading answers, part by part. Assumes nothing.
 use mathlib.Core.Path.{◌≡◌, refl, ◌∙◌}
-use mathlib.Core.Bool.{true, false}
+use mathlib.Core.Bool.{false}
 use mathlib.Core.List.{List, [], ◌∷◌, ◌++◌}
 use mathlib.Core.Logic.{◌↔◌, ◌⊎◌, inl, inr, ◌≢◌}
 use Prim.Native.Nat.{ℕ, ◌*◌, ◌≤◌, ◌<◌}
 use native.Mathlib.Omega.{arith}
 use lib.Dec.{eqb}
 use lib.ListN.{length}
-use borrow.Author.Tests.{eq-eqb, ne_eqb}
+use borrow.Author.Tests.{ne_eqb}
 use Rattle.rules.specs.Numbers.{most_actions}
 use Rattle.rules.specs.Words.{tab, rows}
 use Rattle.rules.specs.Image.{ProfileTables, mask_of, deadline_of, average_of, worst_of, profile}
@@ -15,12 +15,19 @@ use Rattle.rules.specs.Refusals.{Ground, ◌when◌, First, Refuses, Tight, Acce
 use Rattle.rules.proofs.Differences.{not-above}
 use Rattle.rules.proofs.Refusals.{image-numbered, first-goes_on, first_parts, handed_on, refuses_when, refuses-stops, refuses-goes_on}
 use Rattle.fields.specs.Fields.{splice}
+use Rattle.rules.specs.Reasons.{number_of, fault_of}
+use Rattle.rules.specs.declared.Blame.{Blame}
+use Rattle.rules.specs.declared.Counts.{Counts}
 use Rattle.rules.specs.declared.Fault.{Fault}
+use Rattle.rules.proofs.Reasons.{some_number}
+use Rattle.std.specs.Prelude.{Ok, Err}
 use Rattle.image_check.specs.declared.Checked.{Checked}
-use Rattle.image_check.specs.Checks.{Found, Judged}
+use Rattle.image_check.specs.Checks.{Found}
 use Rattle.image_write.specs.Writing.{table_rooms}
-use Rattle.profile.specs.declared.Unpacked.{Unpacked}
-use Rattle.profile.specs.Calls.{Unread, ReadsImage}
+use Rattle.profile.specs.Calls.{ReadsImage, unpacked}
+
+abbrev pub unrefused : Fault
+unrefused = record { number = 0; action = most_actions }
 
 -- ---- the image's refusals, and one of the call's own after them
 
@@ -48,17 +55,13 @@ module _ (s : List ℕ) (k : ℕ) (A : Type 0) where
 
 -- ---- by what the whole check answers
 
+-- an accepted call names no action, as the check does
+pub none-refused : (s : List ℕ) (k : ℕ) (A : Type 0) → Refuses (image_checks s) unrefused → (A → ⊥) → Refuses (image_checks s ++ (k when A ∷ [])) unrefused
+none-refused s k A a never =
+    let given = no_refusal s k A a.number never in
+    record { number = given; action = handed_on (image_checks s) (k when A ∷ []) _ _ ((λ a z. z), tt) a.action given }
+
 module _ {s : List ℕ} {r : Checked} where
-  pub judged-accepted : Judged s r → r.refusal.number ≡ 0 → Accepted s
-  judged-accepted a none = rw none at a.number
-
-  -- an accepted call hands the check's refusal on
-  pub none-refused : (k : ℕ) (A : Type 0) → Judged s r → r.refusal.number ≡ 0 → (A → ⊥) → Refuses (image_checks s ++ (k when A ∷ [])) r.refusal
-  none-refused k A a none never =
-      let number = no_refusal s k A (judged-accepted a none) never in
-      let given : First (image_checks s ++ (k when A ∷ [])) r.refusal.number = rw none number in
-      record { number = given; action = handed_on (image_checks s) (k when A ∷ []) _ _ ((λ a z. z), tt) a.action given }
-
   pub found-rooms : (T : ProfileTables) → Found s r
       → Tight (table_rooms r.n r.levels T) ↔ Tight (table_rooms (profile s).n (profile s).levels T)
   found-rooms T f = rw (f.n, f.levels) ((λ p. p), (λ p. p))
@@ -81,36 +84,34 @@ has_room n L T f = record {
 }
 
 module _ {s : List ℕ} {T : ProfileTables} where
-  pub refused-reads : {r : Unpacked} (f : Fault) → Refuses (image_call s (table_rooms (profile s).n (profile s).levels T)) f
-      → f.number ≢ 0 → (r.refusal ≡ f) × Unread r → ReadsImage s T T r
-  refused-reads {r} f p some (e, blank) =
-      let other : r.refusal.number ≢ 0 = rw e some in
-      let none : eqb r.refusal.number 0 ≡ false = ne_eqb r.refusal.number 0 other in record {
-        given = rw e p;
-        n = rw none blank.n;
-        levels = rw none blank.levels;
-        cycle = rw none blank.cycle;
-        masks = rw none;
-        deadlines = rw none;
-        averages = rw none;
-        worst = rw none;
+  pub refused-reads : (b : Blame) → Refuses (image_call s (table_rooms (profile s).n (profile s).levels T)) (fault_of b)
+      → ReadsImage s T T (unpacked (Err b))
+  refused-reads b p =
+      let some : eqb (number_of b.reason) 0 ≡ false = ne_eqb (number_of b.reason) 0 (some_number b.reason) in record {
+        given = p;
+        n = rw some;
+        levels = rw some;
+        cycle = rw some;
+        masks = rw some;
+        deadlines = rw some;
+        averages = rw some;
+        worst = rw some;
       }
 
-  pub accepted-reads : {T' : ProfileTables} {r : Unpacked} → Refuses (image_call s (table_rooms (profile s).n (profile s).levels T)) r.refusal
-      → r.refusal.number ≡ 0 → r.n ≡ (profile s).n → r.levels ≡ (profile s).levels → r.cycle ≡ (profile s).cycle
-      → T'.masks ≡ splice T.masks 0 (tab (mask_of s) r.n) → T'.deadlines ≡ splice T.deadlines 0 (tab (deadline_of s) r.n)
-      → T'.averages ≡ splice T.averages 0 (rows (average_of s) r.n r.levels)
-      → T'.worst ≡ splice T.worst 0 (rows (worst_of s) r.n r.levels)
-      → ReadsImage s T T' r
+  pub accepted-reads : {T' : ProfileTables} {c : Counts} → Refuses (image_call s (table_rooms (profile s).n (profile s).levels T)) unrefused
+      → c.n ≡ (profile s).n → c.levels ≡ (profile s).levels → c.cycle ≡ (profile s).cycle
+      → T'.masks ≡ splice T.masks 0 (tab (mask_of s) c.n) → T'.deadlines ≡ splice T.deadlines 0 (tab (deadline_of s) c.n)
+      → T'.averages ≡ splice T.averages 0 (rows (average_of s) c.n c.levels)
+      → T'.worst ≡ splice T.worst 0 (rows (worst_of s) c.n c.levels)
+      → ReadsImage s T T' (unpacked (Ok c))
   unfolding profile
-  accepted-reads {r = r} p none n levels cycle masks deadlines averages worst =
-      let is : eqb r.refusal.number 0 ≡ true = eq-eqb r.refusal.number 0 none in record {
-        given = p;
-        n = rw is n;
-        levels = rw is levels;
-        cycle = rw is cycle;
-        masks = rw is (masks ∙ rw n);
-        deadlines = rw is (deadlines ∙ rw n);
-        averages = rw is (averages ∙ rw (n, levels));
-        worst = rw is (worst ∙ rw (n, levels));
-      }
+  accepted-reads p n levels cycle masks deadlines averages worst = record {
+    given = p;
+    n = n;
+    levels = levels;
+    cycle = cycle;
+    masks = masks ∙ rw n;
+    deadlines = deadlines ∙ rw n;
+    averages = averages ∙ rw (n, levels);
+    worst = worst ∙ rw (n, levels);
+  }

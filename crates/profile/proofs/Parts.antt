@@ -3,20 +3,25 @@ use mathlib.Core.Path.{◌≡◌, refl, ap, ◌∙◌}
 use mathlib.Core.List.{List, []}
 use Prim.Native.Nat.{ℕ, ◌+◌, ◌*◌, ◌/◌, ◌^◌, ◌≤◌, ◌<◌}
 use native.Mathlib.Omega.{arith}
-use lib.Dec.{lit<}
+use lib.Dec.{eqb, lit<}
 use native.Mathlib.Decide.{ℕ_discrete}
 use borrow.Author.Tests.{ne_eqb}
 use lib.ListN.{length}
 use Rattle.rules.specs.Numbers.{refused_name}
 use Rattle.rules.specs.Image.{be, levels, record_bytes, record_at, mask_of, deadline_of, average_of, worst_of, profile}
-use Rattle.rules.specs.Refusals.{First, kept, lookup_call}
+use Rattle.std.specs.Prelude.{Err}
+use mathlib.Core.Bool.{false}
+use Rattle.rules.specs.Reasons.{number_of, fault_of}
+use Rattle.rules.specs.declared.Blame.{Blame}
+use Rattle.rules.specs.Refusals.{First, Refuses, kept, lookup_call}
+use Rattle.rules.proofs.Reasons.{some_number}
 use Rattle.rules.proofs.Refusals.{Sound, accepted-sound}
 use Rattle.fields.specs.Fields.{part}
 use Rattle.fields.proofs.Strides.{stride_more}
 use Rattle.fields.proofs.Parts.{be-part}
 use Rattle.image_fields.specs.Reading.{HasRecord}
 use Rattle.image_fields.proofs.Reading.{has-records, has_record}
-use Rattle.profile.specs.Calls.{Places, record_of}
+use Rattle.profile.specs.Calls.{Places, placed, record_of}
 use Rattle.profile.specs.declared.Place.{Place}
 use Rattle.profile.proofs.Answers.{none-given}
 
@@ -47,6 +52,11 @@ unfolding record_at
 record_next L a = omega (arith, stride_more a (record_bytes L))
 
 -- ---- the place of a lookup
+
+pub refused-places : {s : List ℕ} {a : ℕ} (b : Blame) → Refuses (lookup_call s a) (fault_of b) → Places s a (placed (Err b))
+refused-places b given =
+    let some : eqb (number_of b.reason) 0 ≡ false = ne_eqb (number_of b.reason) 0 (some_number b.reason) in
+    record { given = given; start = rw some; length = rw some }
 
 module _ (s : List ℕ) (a : ℕ) {r : Place} (x : Places s a r) where
   -- with a refusal it is empty

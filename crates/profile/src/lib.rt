@@ -2,16 +2,17 @@
 #![tactic(auto)]
 
 ghost use Rattle.std.specs.Prelude.{◌≡◌};
+ghost use Rattle.rules.specs.Reasons.{fault};
 ghost use Rattle.rules.specs.Refusals.{Refuses, image_checks, lookup_call};
-ghost use Rattle.image_write.specs.Writing.{Writes};
-ghost use Rattle.profile.specs.Calls.{Unread, ReadsImage, Places, LooksUp};
+ghost use Rattle.image_write.specs.Writing.{Writes, written};
+ghost use Rattle.profile.specs.Calls.{ReadsImage, unpacked, Places, placed, LooksUp};
 
-use image_write::Written;
-use rules::Fault;
+use image_check::{Checked, whole};
+use rules::{Blame, Counts, Fault, Reason};
 
-// The answer of reading: the refusal, and without one the counts and the cycle of the profile, else 0.
+// The answer of reading, as C takes it: the refusal, and without one the counts and the cycle of the profile, else 0.
 #[repr(C)]
-#[derive(Drop)]
+#[derive(Clone, Copy)]
 pub struct Unpacked {
     pub refusal: Fault,
     pub n: usize,
@@ -19,32 +20,67 @@ pub struct Unpacked {
     pub cycle: u32,
 }
 
-// The answer of a lookup: the refusal, and without one where the action's own part of the image starts and how many bytes it has, else 0.
+impl From<Result<Counts, Blame>> for Unpacked {
+    ghost from_gives = { λ outcome answer. answer ≡ unpacked outcome };
+
+    fn from(outcome: Result<Counts, Blame>) -> Self {
+        match outcome {
+            Ok(counts) => Unpacked {
+                refusal: Fault::of(Ok(())),
+                n: counts.n,
+                levels: counts.levels,
+                cycle: counts.cycle,
+            },
+            Err(blame) => Unpacked {
+                refusal: Fault::from(blame),
+                n: 0,
+                levels: 0,
+                cycle: 0,
+            },
+        }
+    }
+}
+
+// Where an action's own part of the image starts, and how many bytes it has.
+#[derive(Clone, Copy)]
+pub struct Part {
+    pub start: usize,
+    pub length: usize,
+}
+
+// The answer of a lookup, as C takes it: the refusal, and without one the place of the action's own part of the image, else 0.
 #[repr(C)]
-#[derive(Drop)]
+#[derive(Clone, Copy)]
 pub struct Place {
     pub refusal: Fault,
     pub start: usize,
     pub length: usize,
 }
 
-// The check of an image: refusals 1 to 9, in this order, over the whole image.
-pub fn check(image: &[u8]) -> Fault
-    ensures { Refuses (image_checks image.now) result }
-{
-    image_check::check(image)
+impl From<Result<Part, Blame>> for Place {
+    ghost from_gives = { λ outcome answer. answer ≡ placed outcome };
+
+    fn from(outcome: Result<Part, Blame>) -> Self {
+        match outcome {
+            Ok(part) => Place {
+                refusal: Fault::of(Ok(())),
+                start: part.start,
+                length: part.length,
+            },
+            Err(blame) => Place {
+                refusal: Fault::from(blame),
+                start: 0,
+                length: 0,
+            },
+        }
+    }
 }
 
-// What a refused reading answers.
-fn refused(refusal: Fault) -> Unpacked
-    ensures { (result.refusal ≡ refusal) × Unread result }
+// The check of an image: refusals 1 to 9, in this order, over the whole image.
+pub fn check(image: &[u8]) -> Result<(), Blame>
+    ensures { Refuses (image_checks image.now) (fault result) }
 {
-    Unpacked {
-        refusal,
-        n: 0,
-        levels: 0,
-        cycle: 0,
-    }
+    image_check::check(image)
 }
 
 // Unpacks an image into the lent slices. A refusal leaves them untouched, and what they have beyond the tables stays.
@@ -54,85 +90,62 @@ pub fn read(
     deadlines: &mut [u32],
     averages: &mut [u32],
     worst: &mut [u32],
-) -> Unpacked
+) -> Result<Counts, Blame>
     ensures { ReadsImage image.now
         (record { masks = masks.old; deadlines = deadlines.old; averages = averages.old; worst = worst.old })
-        (record { masks = masks.new; deadlines = deadlines.new; averages = averages.new; worst = worst.new }) result }
+        (record { masks = masks.new; deadlines = deadlines.new; averages = averages.new; worst = worst.new }) (unpacked result) }
 {
-    let checked = image_check::whole::checked(image);
-    let refusal = checked.refusal;
-    let n = checked.n;
-    let levels = checked.levels;
-    if refusal.number != 0 {
-        return refused(refusal);
-    }
-    if image_write::checks::tight(n, levels, masks, deadlines, averages, worst) {
-        return refused(Fault {
-            number: rules::REFUSED_ROOM,
-            action: rules::NO_ACTION,
-        });
-    }
-    image_read::unpack(image, n, levels, masks, deadlines, averages, worst);
-    Unpacked {
-        refusal,
+    let Checked {
         n,
         levels,
-        cycle: checked.cycle,
+        cycle,
+        ..
+    } = whole::checked(image)?;
+    if image_write::checks::tight(n, levels, masks, deadlines, averages, worst) {
+        return Err(Blame::from(Reason::Room));
     }
+    image_read::unpack(image, n, levels, masks, deadlines, averages, worst);
+    Ok(Counts { n, levels, cycle })
 }
 
 // The refusal of a lookup: those of the image, then 15, an absent action.
-pub fn lookup_refusal(image: &[u8], action: usize) -> Fault
-    ensures { Refuses (lookup_call image.now action) result }
+pub fn lookup_refusal(image: &[u8], action: usize) -> Result<(), Blame>
+    ensures { Refuses (lookup_call image.now action) (fault result) }
 {
-    let checked = image_check::whole::checked(image);
-    let given = checked.refusal;
-    if given.number != 0 {
-        return given;
-    }
+    let checked = whole::checked(image)?;
     if checked.n <= action {
-        return Fault {
-            number: rules::REFUSED_NAME,
-            action: rules::NO_ACTION,
-        };
+        return Err(Blame::from(Reason::Name));
     }
-    given
+    Ok(())
 }
 
 // Where the action's own part of the image lies.
-pub fn lookup_place(image: &[u8], action: usize) -> Place
-    ensures { Places image.now action result }
+pub fn lookup_place(image: &[u8], action: usize) -> Result<Part, Blame>
+    ensures { Places image.now action (placed result) }
 {
-    let looked = lookup_refusal(image, action);
-    if looked.number != 0 {
-        return Place {
-            refusal: looked,
-            start: 0,
-            length: 0,
-        };
-    }
+    lookup_refusal(image, action)?;
     let levels = image_fields::read::header(image).levels;
     let next = action + 1;
     let start = image_fields::read::record_at(levels, action);
     let end = image_fields::read::record_at(levels, next);
-    Place {
-        refusal: looked,
+    Ok(Part {
         start,
         length: end - start,
-    }
+    })
 }
 
 // The action's own part of the image, uncopied; empty with a refusal.
 pub fn lookup(image: &[u8], action: usize) -> &[u8]
     ensures { LooksUp image.entry action result }
 {
-    let place = lookup_place(image, action);
-    let start = place.start;
-    let end = start + place.length;
-    &image[start..end]
+    match lookup_place(image, action) {
+        Ok(part) => &image[part.start..part.start + part.length],
+        Err(_) => &image[..0],
+    }
 }
 
-// Packs the tables into the lent image. A refusal leaves it untouched, and what it has beyond the bytes written stays.
+// Packs the tables into the lent image and answers how many bytes that are. A refusal leaves it untouched, and what it has beyond the bytes written
+// stays.
 pub fn write(
     n: usize,
     levels: usize,
@@ -142,10 +155,10 @@ pub fn write(
     averages: &[u32],
     worst: &[u32],
     image: &mut [u8],
-) -> Written
+) -> Result<usize, Blame>
     ensures { Writes n levels cycle
         (record { masks = masks.now; deadlines = deadlines.now; averages = averages.now; worst = worst.now })
-        image.old image.new result.refusal result.bytes }
+        image.old image.new (written result).refusal (written result).bytes }
 {
     image_write::write(n, levels, cycle, masks, deadlines, averages, worst, image)
 }

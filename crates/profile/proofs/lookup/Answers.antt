@@ -7,23 +7,23 @@ use borrow.Author.Rules.{rules}
 use Rattle.profile.proofs.Parts.{placed-within, placed-part}
 use Rattle.profile.proofs.lookup.Goals as goal
 
-pub overflow_add-end : goal.overflow_add-end
-overflow_add-end c =
-    let w = placed-within _ c.args.action c.lookup_place-place.ensures in
+pub overflow_add-result : goal.overflow_add-result
+overflow_add-result c =
+    let w = placed-within _ c.args.action c.in-Ok.ensures in
     search (rules, w)
 
 pub slice_bounds-result-end : goal.slice_bounds-result-end
 slice_bounds-result-end c =
-    let w = placed-within _ c.args.action c.lookup_place-place.ensures in
+    let w = placed-within _ c.args.action c.in-Ok.ensures in
     omega arith
 
-pub returns : goal.returns
-returns c =
-    let at = c.lookup_place-place in
+pub returns-in-Ok : goal.returns-in-Ok
+returns-in-Ok c =
+    let at = c.in-Ok.ensures in
     let whole = c.args.image.ref_ptr in
-    let size : at.result.start + at.result.length - at.result.start ≡ at.result.length = omega arith in record {
-      refusal = at.result.refusal.number;
-      given = at.ensures.given.number;
-      is = rw size (placed-part _ _ at.ensures);
-      lies = ap (λ (offset : ℕ). (whole.0, offset)) (add_comm _ _ ∙ ap (λ (from : ℕ). whole.1 + from) at.ensures.start);
+    let size : c.in-Ok.part.start + c.in-Ok.part.length - c.in-Ok.part.start ≡ c.in-Ok.part.length = omega arith in record {
+      refusal = 0;
+      given = at.given.number;
+      is = rw size (placed-part _ _ at);
+      lies = ap (λ (offset : ℕ). (whole.0, offset)) (add_comm _ _ ∙ ap (λ (from : ℕ). whole.1 + from) at.start);
     }

@@ -2,29 +2,34 @@
 use mathlib.Core.List.{List}
 use Prim.Native.Nat.{ℕ, ◌≤◌}
 use native.Mathlib.Omega.{arith}
+use Rattle.std.proofs.lemmas.Result.{err_from_is_err_and}
 use Rattle.rules.specs.Numbers.{refused_name}
 use Rattle.rules.specs.Image.{profile}
-use Rattle.image_check.proofs.Answers.{judged-refusal}
-use Rattle.profile.proofs.Answers.{image-refusal, own-refusal, none-refused, judged-accepted}
+use Rattle.rules.specs.Reasons.{fault_of}
+use Rattle.rules.proofs.Reasons.{some_number}
+use Rattle.profile.proofs.Answers.{image-refusal, own-refusal, none-refused}
 use Rattle.profile.proofs.lookup_refusal.Goals as goal
 
 -- the call's own ground
 abbrev Absent : List ℕ → ℕ → Type 0
 Absent s a = (profile s).n ≤ a
 
-pub returns-then-given-ne0 : goal.returns-then-given-ne0
-returns-then-given-ne0 c =
-    let s = c.args.image.now in
-    image-refusal s refused_name (Absent s c.args.action) _ (judged-refusal c.checked-checked.ensures) c.if-given-ne0.true
+pub returns-in_err-checked : goal.returns-in_err-checked
+returns-in_err-checked c =
+    let p = err_from_is_err_and c.from_residual.result c.from_residual.ensures.1 in
+    let blame = c.in_err-checked.field-0.0 in
+    rw (p.1, p.2)
+    (image-refusal c.args.image.now refused_name (Absent c.args.image.now c.args.action) (fault_of blame) c.in_err-checked.ensures.given (some_number blame.reason))
 
 pub returns-then-checked-action : goal.returns-then-checked-action
 returns-then-checked-action c =
-    let s = c.args.image.now in
-    let n = (c.checked-checked.ensures.accepted c.if-given-ne0.false).n in
-    own-refusal s refused_name (Absent s c.args.action) (judged-accepted c.checked-checked.ensures c.if-given-ne0.false)
-    (omega (arith, c.if-checked-action.true, n))
+    let judged = c.in_ok-checked.ensures in
+    rw c.from.ensures
+    (own-refusal c.args.image.now refused_name (Absent c.args.image.now c.args.action) judged.given.number
+    (omega (arith, c.if-checked-action.true, judged.accepted.n)))
 
 pub returns : goal.returns
 returns c =
-    let n = (c.checked-checked.ensures.accepted c.if-given-ne0.false).n in
-    none-refused refused_name (Absent c.args.image.now c.args.action) c.checked-checked.ensures c.if-given-ne0.false (λ h. omega arith)
+    let judged = c.in_ok-checked.ensures in
+    let n = judged.accepted.n in
+    none-refused c.args.image.now refused_name (Absent c.args.image.now c.args.action) judged.given (λ h. omega arith)
