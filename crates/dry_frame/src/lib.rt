@@ -5,6 +5,7 @@ ghost use Rattle.std.specs.Prelude.{◌≡◌, false};
 ghost use Rattle.rules.specs.Numbers.{most_actions};
 ghost use Rattle.dry_frame.specs.Frame.{Frames};
 
+use planner::Planned;
 use rules::Fault;
 use run::dry::Dried;
 
@@ -77,14 +78,14 @@ pub fn dry_frame(
     let mut limits = [0i32; 512];
     let mut worst = [0u32; 512];
     let mut bounds = [0i32; 8192];
-    let planned = planner::plan(
+    let planned = Planned::from(planner::plan(
         image,
         policy,
         &mut actions,
         &mut limits,
         &mut worst,
         &mut bounds,
-    );
+    ));
     let refusal = planned.refusal;
     if refusal.number != 0 {
         return refused(refusal);

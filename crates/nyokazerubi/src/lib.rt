@@ -122,7 +122,14 @@ pub fn nyokazerubi_plan(
         (record { order = order.old; limits = limits.old; worst = worst_by_position.old; bounds = bounds.old })
         (record { order = order.new; limits = limits.new; worst = worst_by_position.new; bounds = bounds.new }) result }
 {
-    planner::plan(image, policy, order, limits, worst_by_position, bounds)
+    Planned::from(planner::plan(
+        image,
+        policy,
+        order,
+        limits,
+        worst_by_position,
+        bounds,
+    ))
 }
 
 pub fn nyokazerubi_dry_run(

@@ -1,24 +1,24 @@
 -- What planning answers: refused, and not. Assumes nothing.
-use Prim.Native.Nat.{ℕ, ◌*◌, ◌≤◌}
+use Prim.Native.Nat.{ℕ}
 use mathlib.Core.Path.{◌≡◌, refl}
 use mathlib.Core.List.{List, [], ◌∷◌, ◌++◌}
-use mathlib.Core.Logic.{inl, inr, ⊎_elim, ◌≢◌}
+use mathlib.Core.Logic.{⊎_elim, ◌≢◌}
 use native.Mathlib.Decide.{ℕ_discrete}
 use native.Mathlib.Omega.{arith}
 use borrow.Author.Tests.{ne_eqb}
-use lib.ListN.{length}
-use Rattle.rules.specs.Numbers.{refused_room, refused_policy}
+use Rattle.std.specs.Prelude.{Ok}
+use Rattle.rules.specs.Numbers.{most_actions, refused_room, refused_policy}
 use Rattle.rules.specs.Image.{profile}
 use Rattle.rules.specs.Order.{Order}
 use Rattle.rules.specs.Limits.{LentTables}
-use Rattle.rules.specs.Refusals.{Ground, ◌when◌, First, AtFault, Tight, UnknownPolicy, Accepted, kept, image_checks}
-use Rattle.rules.proofs.Differences.{not-above}
-use Rattle.rules.proofs.Refusals.{Numbered, Sound, accepted_parts, first_stops, first-goes_on, first_parts, handed_on, image-numbered}
+use Rattle.rules.specs.Refusals.{Ground, ◌when◌, First, Refuses, Tight, UnknownPolicy, kept, image_checks}
+use Rattle.rules.proofs.Refusals.{Numbered, Sound, accepted_parts, first_stops, first-goes_on, blameless, refuses-stops, refuses-goes_on, image-numbered}
 use Rattle.image_check.specs.declared.Checked.{Checked}
 use Rattle.image_check.specs.Checks.{Judged}
+use Rattle.rules.specs.declared.Fault.{Fault}
 use Rattle.planner.specs.declared.Planned.{Planned}
-use Rattle.plan_tables.specs.Filling.{PlanInput, SomePlanInput, EntriesFit, AllFilled}
-use Rattle.planner.specs.Planning.{plan_rooms, Plans, Admits}
+use Rattle.plan_tables.specs.Filling.{PlanInput, SomePlanInput, AllFilled}
+use Rattle.planner.specs.Planning.{plan_rooms, planned, Plans}
 
 -- ---- what is kept
 
@@ -61,102 +61,80 @@ own_checks policy n L lent = refused_policy when UnknownPolicy policy ∷ refuse
 abbrev own : List ℕ → ℕ → LentTables → List Ground
 own s policy lent = own_checks policy (profile s).n (profile s).levels lent
 
-module _ (n L : ℕ) (lent : LentTables) where
-  pub record Roomy : Type 0 where
-    pub order_room : n ≤ length lent.order
-    pub entries_room : EntriesFit (n * L) lent
+-- ---- refused
 
-  pub roomy : (policy : ℕ) → First (own_checks policy n L lent) 0 → Roomy
-  roomy policy (inl p) = absurd (omega arith)
-  roomy policy (inr (_, inl p)) = absurd (omega arith)
-  roomy policy (inr (_, inr p)) = record {
-    order_room = not-above (λ h. p.0 (inl h));
-    entries_room = record {
-      limits_room = not-above (λ h. p.0 (inr (inl h)));
-      worst_room = not-above (λ h. p.0 (inr (inr (inl h))));
-      bounds_room = not-above (λ h. p.0 (inr (inr (inr (inl h)))));
-    };
-  }
+-- with what is given for it
+abbrev pub refused : Fault → Planned
+refused f = record { refusal = f; n = 0; levels = 0; cycle = 0 }
 
--- ---- by what the check of the image answers: refused with 1 to 9, or judged for 20 and 17
-
-module _ {s : List ℕ} {r : Checked} (a : Judged s r) (policy : ℕ) (lent : LentTables) where
-  -- 20 and 17 blame no action, so the action is the check's
-  named : {k : ℕ} → First (image_checks s ++ own s policy lent) k → AtFault (image_checks s ++ own s policy lent) r.refusal.action
-  named p = handed_on (image_checks s) (own s policy lent) _ _ ((λ a z. z), ((λ a z. z), tt)) a.action p
-
-  pub image-refused : r.refusal.number ≢ 0 → Admits s policy lent r
-  image-refused some =
-      let number = first_stops (image_checks s) (own s policy lent) r.refusal.number a.number some in
-      record { number = number; action = named number; found = λ none. absurd (some none) }
-
-  pub own-judged : (unknown tight : ℕ) {k : ℕ} → r.refusal.number ≡ 0 → First (refused_policy when UnknownPolicy policy ∷ []) unknown
-      → First (refused_room when Tight (plan_rooms r.n r.levels lent) ∷ []) tight → k ≡ kept unknown tight unknown
-      → Admits s policy lent (record {
-        refusal = record { number = k; action = r.refusal.action };
-        n = r.n;
-        levels = r.levels;
-        cycle = r.cycle;
-        order = r.order;
-        unfit = r.unfit;
-      })
-  own-judged unknown tight {k} none p q e =
-      let found = a.accepted none in
-      let given = first-both (refused_policy when UnknownPolicy policy ∷ []) (refused_room when Tight (plan_rooms r.n r.levels lent) ∷ []) unknown tight
-      (omega arith, tt) p q e in
-      let number = first-goes_on (image_checks s) (own s policy lent) k (image-numbered s) (rw none at a.number) (rw (found.n, found.levels) at given) in
-      record {
-        number = number;
-        action = named number;
-        found = λ _. record { n = found.n; levels = found.levels; cycle = found.cycle; order = found.order; rest = found.rest };
-      }
-
--- ---- by what both checks answer
-
-module _ {s : List ℕ} {policy : ℕ} {lent : LentTables} {r : Checked} (a : Admits s policy lent r) where
-  pub refused-plans : {p : Planned} → r.refusal.number ≢ 0 → p ≡ record { refusal = r.refusal; n = 0; levels = 0; cycle = 0 } → Plans s policy lent lent p
-  refused-plans some e = rw e (record {
-    number = a.number;
-    action = a.action;
+module _ {s : List ℕ} {policy : ℕ} (lent : LentTables) where
+  refused-plans : (f : Fault) → Refuses (image_checks s ++ own s policy lent) f → f.number ≢ 0 → Plans s policy lent lent (refused f)
+  refused-plans f given some = record {
+    number = given.number;
+    action = given.action;
     n = kept-old _ _ _ some;
     levels = kept-old _ _ _ some;
     cycle = kept-old _ _ _ some;
     o = by_number (profile s).n;
     the_order = λ none. absurd (some none);
     tables_are = kept-old _ _ _ some;
-  })
+  }
 
-  module _ (none : r.refusal.number ≡ 0) where
-    -- the image is accepted, and neither 20 nor 17 is given
-    parts : Accepted s × First (own s policy lent) 0
-    parts = elim (first_parts (image_checks s) (own s policy lent) 0 (image-numbered s) (rw none at a.number)) [
-      | inl x ↦ absurd (x.1 refl)
-      | inr x ↦ x
-    ]
+  -- 1 to 9
+  pub image-refused : (f : Fault) → Refuses (image_checks s) f → f.number ≢ 0 → Plans s policy lent lent (refused f)
+  image-refused f given some = refused-plans f (refuses-stops (image_checks s) (own s policy lent) f given some) some
 
-    input : PlanInput s r.n r.levels r.cycle r.order (a.found none).order.0
-    input =
-        let found = a.found none in
-        record { accepted = parts.0; n_is = found.n; levels_are = found.levels; cycle_is = found.cycle; lists = found.order.2 }
+  -- ---- of an accepted image
 
-    pub some_input : SomePlanInput s r.n r.levels r.cycle r.order
-    some_input = ((a.found none).order.0, input)
+  module _ {c : Checked} (judged : Judged s (Ok c)) where
+    goes_on : {k : ℕ} → First (own s policy lent) k → Refuses (image_checks s ++ own s policy lent) (record { number = k; action = most_actions })
+    goes_on {k} given =
+        refuses-goes_on (image_checks s) (own s policy lent) _ (image-numbered s) judged.given.number
+        (blameless (own s policy lent) k ((λ a z. z), ((λ a z. z), tt)) given)
 
-    pub has_room : Roomy r.n r.levels lent
-    has_room = let found = a.found none in rw (found.n, found.levels) (roomy _ _ lent policy parts.1)
+    -- 20
+    pub policy-refused : (k : ℕ) → First (refused_policy when UnknownPolicy policy ∷ []) k → k ≢ 0
+        → Plans s policy lent lent (refused (record { number = k; action = most_actions }))
+    policy-refused k given some =
+        let room = refused_room when Tight (plan_rooms (profile s).n (profile s).levels lent) ∷ [] in
+        refused-plans _ (goes_on (first_stops (refused_policy when UnknownPolicy policy ∷ []) room k given some)) some
 
-    pub all_written : {after : LentTables}
-        → ((o : Order (profile s).n) → PlanInput s r.n r.levels r.cycle r.order o → AllFilled s policy lent after o)
-        → Plans s policy lent after (record { refusal = r.refusal; n = r.n; levels = r.levels; cycle = r.cycle })
-    all_written filled =
-        let found = a.found none in
-        record {
-          number = a.number;
-          action = a.action;
-          n = kept_new _ _ _ none found.n;
-          levels = kept_new _ _ _ none found.levels;
-          cycle = kept_new _ _ _ none found.cycle;
-          o = found.order.0;
-          the_order = λ _. found.order.1;
-          tables_are = kept_new _ _ _ none (filled found.order.0 input);
-        }
+    module _ (known : First (refused_policy when UnknownPolicy policy ∷ []) 0) where
+      own_is : {k : ℕ} → First (refused_room when Tight (plan_rooms c.n c.levels lent) ∷ []) k → First (own s policy lent) k
+      own_is {k} given =
+          let found = judged.accepted in
+          let room = refused_room when Tight (plan_rooms (profile s).n (profile s).levels lent) ∷ [] in
+          first-goes_on (refused_policy when UnknownPolicy policy ∷ []) room k (omega arith, tt) known (rw (found.n, found.levels) at given)
+
+      -- 17
+      pub tight-refused : (k : ℕ) → First (refused_room when Tight (plan_rooms c.n c.levels lent) ∷ []) k → k ≢ 0
+          → Plans s policy lent lent (refused (record { number = k; action = most_actions }))
+      tight-refused k given some = refused-plans _ (goes_on (own_is given)) some
+
+      -- ---- not refused
+
+      module _ (room : First (refused_room when Tight (plan_rooms c.n c.levels lent) ∷ []) 0) where
+        input : PlanInput s c.n c.levels c.cycle c.order judged.accepted.order.0
+        input =
+            let found = judged.accepted in
+            record { accepted = judged.given.number; n_is = found.n; levels_are = found.levels; cycle_is = found.cycle; lists = found.order.2 }
+
+        pub some_input : SomePlanInput s c.n c.levels c.cycle c.order
+        some_input = (judged.accepted.order.0, input)
+
+        pub all_written : {after : LentTables}
+            → ((o : Order (profile s).n) → PlanInput s c.n c.levels c.cycle c.order o → AllFilled s policy lent after o)
+            → Plans s policy lent after (planned (Ok (record { n = c.n; levels = c.levels; cycle = c.cycle })))
+        all_written filled =
+            let found = judged.accepted in
+            let given = goes_on (own_is room) in
+            record {
+              number = given.number;
+              action = given.action;
+              n = found.n;
+              levels = found.levels;
+              cycle = found.cycle;
+              o = found.order.0;
+              the_order = λ _. found.order.1;
+              tables_are = filled found.order.0 input;
+            }

@@ -88,14 +88,14 @@ pub fn plan_text(image: &[u8], policy: u32, out: &mut [u8]) -> usize
     let mut limits = [0i32; 512];
     let mut worst = [0u32; 512];
     let mut bounds = [0i32; 8192];
-    let planned = planner::plan(
+    let planned = Planned::from(planner::plan(
         image,
         policy,
         &mut order,
         &mut limits,
         &mut worst,
         &mut bounds,
-    );
+    ));
     if planned.refusal.number != 0 {
         return put_fault(out, 0, planned.refusal);
     }

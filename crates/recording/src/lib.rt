@@ -99,7 +99,9 @@ pub fn open(
     if !whole_frames(image, bytes) {
         return unopened(length_refusal(image, policy));
     }
-    let planned = planner::plan(image, policy, order, limits, worst, bounds);
+    let planned = Planned::from(planner::plan(
+        image, policy, order, limits, worst, bounds,
+    ));
     let refusal = planned.refusal;
     if refusal.number != 0 {
         return unopened(refusal);

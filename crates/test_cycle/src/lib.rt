@@ -34,7 +34,7 @@ fn plan_and_tell<R: Print>(rt: &R, image: &[u8], row: [u32; 24]) -> io::Result<(
     let mut limits = [0i32; 512];
     let mut worst = [0u32; 512];
     let mut bounds = [0i32; 8192];
-    planner::plan(
+    let _ = planner::plan(
         image,
         rules::POLICY_2008,
         &mut order,

@@ -21,7 +21,7 @@ fn main(rt: HostRuntime) -> io::Result<()> {
     let mut limits = [0i32; 6];
     let mut worst = [0u32; 6];
     let mut bounds = [0i32; 96];
-    planner::plan(
+    let _ = planner::plan(
         &image,
         rules::POLICY_2008,
         &mut order,

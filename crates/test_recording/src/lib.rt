@@ -84,7 +84,7 @@ fn tell_frame<R: Print>(rt: &R, row: [u32; 24]) -> io::Result<()> {
     let mut limits = [0i32; 6];
     let mut worst = [0u32; 6];
     let mut bounds = [0i32; 96];
-    planner::plan(
+    let _ = planner::plan(
         &image,
         rules::POLICY_2008,
         &mut order,
