@@ -51,6 +51,7 @@ fn arrange(masks: &[u64], urgency: &[u32; 64], n: usize) -> [u8; 64]
     let mut waiting = [0u64; 64];
     let mut done: u64 = 0;
     let mut free = release(masks, all_below(n), 0, 0, &mut waiting);
+    // As many as are done have their place: the set is counted.
     let mut k: usize = 0;
     while k < n {
         let a = next(urgency, free);
@@ -109,14 +110,12 @@ pub fn fit(
         (lent_profile n cycle masks deadlines.now worst.now stride) order.now result }
 {
     let mut end: u32 = 0;
-    let mut k: usize = 0;
-    while k < n {
+    for k in 0..n {
         let a = order[k] as usize;
         end += worst[a * stride];
         if due(deadlines[a], cycle) < end {
             return false;
         }
-        k += 1;
     }
     true
 }
