@@ -15,8 +15,8 @@ pub fn put_line(out: &mut [u8], at: usize, line: Line) -> usize
     if refusal.number != 0 {
         return put_refusal(out, at, refusal.number);
     }
-    let overrun = run::one_if(line.overrun);
-    let late = run::one_if(line.late);
+    let overrun = u32::from(line.overrun);
+    let late = u32::from(line.late);
     let second = put_field(&mut *out, at, line.decisions, b' ');
     put_four(out, second, line.lowest, line.end, overrun, late)
 }
