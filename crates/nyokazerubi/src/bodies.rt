@@ -8,7 +8,6 @@ ghost use Rattle.repeat_run.specs.Calls.{steps_of, begins_of};
 ghost use Rattle.repeat_frame.specs.BodyFrame.{BodyFrames};
 ghost use Rattle.nyokazerubi.specs.Flat.{body_lent, next_flat, Asks, asked_left};
 
-use crate::runs;
 use crate::runs::Given;
 use repeat_frame::BodyFramed;
 use repeat_limits::Limited;
@@ -23,12 +22,13 @@ pub const BODY_NUMBERS: usize = 5;
 fn body_lent(numbers: &[u32; BODY_NUMBERS]) -> Body
     ensures { result ≡ body_lent numbers.now }
 {
+    let [n, levels, cycle, repeats, policy] = *numbers;
     Body {
-        n: numbers[0],
-        levels: numbers[1],
-        cycle: numbers[2],
-        repeats: numbers[3],
-        policy: numbers[4],
+        n,
+        levels,
+        cycle,
+        repeats,
+        policy,
     }
 }
 
@@ -85,8 +85,9 @@ pub fn begins(body: &[u32; BODY_NUMBERS]) -> BodyBegins
     BodyRun::begins(lent)
 }
 
-// The next record is `made` where a decision was made, `gone` where it coasts, else `run`.
-#[derive(Drop)]
+// The next record is `made` where a decision was made, `gone` where it coasts, else `run`: apart, so that the lent record takes what changes and no
+// more.
+#[derive(Clone, Copy)]
 pub struct Asked {
     pub run: BodyRun,
     pub given: Given,
@@ -109,7 +110,7 @@ pub fn ask_flat(run: BodyRun, order: &[u8], summaries: &[u32], worst: &[u32]) ->
     let made = asked.made;
     Asked {
         run: next,
-        given: runs::flat(answer),
+        given: Given::from(answer),
         gone,
         coasts: asked.coasts,
         made,

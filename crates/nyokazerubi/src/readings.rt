@@ -9,36 +9,35 @@ use speed_stretch::Reading;
 
 // The refusal, and without one whether it is spent, and else the ratio. What does not count is 0 or no.
 #[repr(C)]
-#[derive(Drop)]
+#[derive(Clone, Copy)]
 pub struct Read {
     pub refusal: Fault,
     pub spent: bool,
     pub ratio: f64,
 }
 
-fn flat(reading: Reading) -> Read
-    ensures { result ≡ read_of (reading_of reading) }
-{
-    let none = Fault {
-        number: 0,
-        action: rules::NO_ACTION,
-    };
-    match reading {
-        Reading::Ratio(ratio) => Read {
-            refusal: none,
-            spent: false,
-            ratio,
-        },
-        Reading::Spent => Read {
-            refusal: none,
-            spent: true,
-            ratio: 0.0,
-        },
-        Reading::Refused(refusal) => Read {
-            refusal,
-            spent: false,
-            ratio: 0.0,
-        },
+impl From<Reading> for Read {
+    ghost from_gives = { λ reading read. read ≡ read_of (reading_of reading) };
+
+    fn from(reading: Reading) -> Self {
+        let none = Fault::of(Ok(()));
+        match reading {
+            Reading::Ratio(ratio) => Read {
+                refusal: none,
+                spent: false,
+                ratio,
+            },
+            Reading::Spent => Read {
+                refusal: none,
+                spent: true,
+                ratio: 0.0,
+            },
+            Reading::Refused(refusal) => Read {
+                refusal,
+                spent: false,
+                ratio: 0.0,
+            },
+        }
     }
 }
 
@@ -51,7 +50,7 @@ pub fn nyokazerubi_speed_reading(
 ) -> Read
     ensures { ReadsFlat image.now first last level t result }
 {
-    flat(speed::speed_reading(image, first, last, level, t))
+    Read::from(speed::speed_reading(image, first, last, level, t))
 }
 
 pub fn nyokazerubi_on_time(image: &[u8], first: usize, last: usize, level: usize, t: u32) -> bool

@@ -11,7 +11,7 @@ use run::{Answer, Run};
 // The answer of asking, laid flat, since an enum does not cross to C: the refusal, and without one the action, its level, whether decided,
 // and late. With a refusal these are 0 or no.
 #[repr(C)]
-#[derive(Drop)]
+#[derive(Clone, Copy)]
 pub struct Given {
     pub refusal: Refusal,
     pub action: u32,
@@ -22,35 +22,37 @@ pub struct Given {
 
 // ---- asking by value, its answer laid flat. It is not exported: a call within the archive would then stay a call
 
-#[derive(Drop)]
+#[derive(Clone, Copy)]
 pub struct Asked {
     pub run: Run,
     pub given: Given,
 }
 
-pub fn flat(answer: Answer) -> Given
-    ensures { (next : rules.Run) → result ≡ given_of (with_run answer next) }
-{
-    match answer {
-        Answer::Refused(refusal) => Given {
-            refusal,
-            action: 0,
-            level: 0,
-            decided: false,
-            late: false,
-        },
-        Answer::Given {
-            action,
-            level,
-            decided,
-            late,
-        } => Given {
-            refusal: Refusal { number: 0 },
-            action,
-            level,
-            decided,
-            late,
-        },
+impl From<Answer> for Given {
+    ghost from_gives = { λ answer given. (next : rules.Run) → given ≡ given_of (with_run answer next) };
+
+    fn from(answer: Answer) -> Self {
+        match answer {
+            Answer::Refused(refusal) => Given {
+                refusal,
+                action: 0,
+                level: 0,
+                decided: false,
+                late: false,
+            },
+            Answer::Given {
+                action,
+                level,
+                decided,
+                late,
+            } => Given {
+                refusal: Refusal { number: 0 },
+                action,
+                level,
+                decided,
+                late,
+            },
+        }
     }
 }
 
@@ -63,7 +65,7 @@ pub fn ask_flat(run: Run, order: &[u8], limits: &[i32], bounds: &[i32]) -> Asked
     let answer = asked.answer;
     Asked {
         run: next,
-        given: flat(answer),
+        given: Given::from(answer),
     }
 }
 

@@ -1,7 +1,7 @@
 // The same of a body repeated: Three, in a cycle of 40, which two repeats fit. A case is a line of bodies.txt: `start`, n, how often, and the year, 2008 where there is none; `ask`, and
 // how much of the order is lent; `report`, the clock, and how much of the worst times is lent.
 use crate::{end_line, part, say, say_given, through};
-use nyokazerubi::runs;
+use nyokazerubi::runs::Given;
 use repeat_run::BodyRun;
 use rules::Body;
 use std::io;
@@ -104,7 +104,7 @@ fn ask<R: Print>(
     let lent = through::body_asked(run, &order[0..k], summaries, worst);
     let value = run.ask(&order[0..k], summaries, worst);
     let answer = value.answer;
-    let alike = say_given(rt, lent.given, runs::flat(answer))?;
+    let alike = say_given(rt, lent.given, Given::from(answer))?;
     tell_record(rt, alike, lent.run, value.run)?;
     Ok(lent.run)
 }
