@@ -111,10 +111,10 @@ module _ (s : List ℕ) (policy : ℕ) (durations : List ℕ) (before : FrameLis
   no_blame : Blameless rest
   no_blame = ((λ a z. z), ((λ a z. z), tt))
 
-  frames-not : {after : FrameLists} {r : Framed} (f : Fault) → Refuses whole f → f.number ≢ 0
+  frames-not : {after : FrameLists} (f : Fault) → Refuses whole f → f.number ≢ 0
       → after.order ≡ before.order → after.levels ≡ before.levels → after.decided ≡ before.decided
-      → r ≡ refused f → Frames s policy durations before after r
-  frames-not f p some a b c e = rw e (record {
+      → Frames s policy durations before after (refused f)
+  frames-not f p some a b c = record {
     number = p.number;
     action = p.action;
     n = kept-old _ _ _ some;
@@ -129,7 +129,7 @@ module _ (s : List ℕ) (policy : ℕ) (durations : List ℕ) (before : FrameLis
     late = kept-old _ _ _ some;
     counted = λ none. absurd (some none);
     demand = λ none. absurd (some none);
-  })
+  }
 
 -- ---- after planning
 
@@ -187,11 +187,11 @@ module _ {s : List ℕ} {policy : ℕ} {lent : LentTables} {p : Planned} (P : Pl
 
   -- the answers: refused by planning, by the order's room, by the dry run, and not
   module _ (durations : List ℕ) (before : FrameLists) where
-    pub plan-refused : {r : Framed} → p.refusal.number ≢ 0 → r ≡ refused p.refusal → Frames s policy durations before before r
-    plan-refused some e =
+    pub plan-refused : p.refusal.number ≢ 0 → Frames s policy durations before before (refused p.refusal)
+    plan-refused some =
         frames-not s policy durations before p.refusal
         (refuses-stops checks (rest s policy durations before) p.refusal (record { number = by_checks some; action = named }) some)
-        some refl refl refl e
+        some refl refl refl
 
     then_own : p.refusal.number ≡ 0 → {k : ℕ} → First (rest s policy durations before) k
         → Refuses (whole s policy durations before) (record { number = k; action = most_actions })
@@ -199,11 +199,11 @@ module _ {s : List ℕ} {policy : ℕ} {lent : LentTables} {p : Planned} (P : Pl
         refuses-goes_on checks (rest s policy durations before) _ (plan-numbered s policy) (passed none)
         (blameless (rest s policy durations before) k (no_blame s policy durations before) f)
 
-    pub order-refused : {r : Framed} → p.refusal.number ≡ 0 → length before.order < p.n
-        → r ≡ refused (record { number = refused_room; action = most_actions }) → Frames s policy durations before before r
-    order-refused none l e =
+    pub order-refused : p.refusal.number ≡ 0 → length before.order < p.n
+        → Frames s policy durations before before (refused (record { number = refused_room; action = most_actions }))
+    order-refused none l =
         frames-not s policy durations before _
-        (then_own none (inl (inr (inl (omega (arith, n_is none))), refl))) (λ z. omega arith) refl refl refl e
+        (then_own none (inl (inr (inl (omega (arith, n_is none))), refl))) (λ z. omega arith) refl refl refl
 
     module _ (after : FrameLists) {q : Dried} (none : p.refusal.number ≡ 0) (room : p.n ≤ length before.order)
         (dries : Dries p.n p.levels (unordered lent) durations (dry_lists before) (dry_lists after) q) where
@@ -213,13 +213,12 @@ module _ {s : List ℕ} {policy : ℕ} {lent : LentTables} {p : Planned} (P : Pl
       own_is : First (rest s policy durations before) q.refusal.number
       own_is = own-of-dry (sound none) P.sized durations before q.refusal.number (omega (arith, n_is none)) dries'.refused
 
-      pub dry-refused : {r : Framed} → q.refusal.number ≢ 0 → after.order ≡ before.order
-          → r ≡ refused (record { number = q.refusal.number; action = most_actions })
-          → Frames s policy durations before after r
-      dry-refused some same e =
+      pub dry-refused : q.refusal.number ≢ 0 → after.order ≡ before.order
+          → Frames s policy durations before after (refused (record { number = q.refusal.number; action = most_actions }))
+      dry-refused some same =
           frames-not s policy durations before _ (then_own none own_is) some same
           (dries'.levels ∙ sym (kept-old q.refusal.number _ before.levels some))
-          (dries'.decided ∙ sym (kept-old q.refusal.number _ before.decided some)) e
+          (dries'.decided ∙ sym (kept-old q.refusal.number _ before.decided some))
 
       written : lent ≡ with_fronts zeros (planner_tables policy (profile s) P.plans.o)
       written = rw none at P.plans.tables_are
@@ -244,12 +243,11 @@ module _ {s : List ℕ} {policy : ℕ} {lent : LentTables} {p : Planned} (P : Pl
               late = rw dry-none at dries'.late ∙ ap (λ (r : Run). r.late) ends;
             }
 
-        pub framed : {r : Framed} → after.order ≡ splice before.order 0 (tab (λ k. get_or lent.order k 0) p.n) → r ≡ answer
-            → Frames s policy durations before after r
-        framed e is =
+        pub run_dry : after.order ≡ splice before.order 0 (tab (λ k. get_or lent.order k 0) p.n) → Frames s policy durations before after answer
+        run_dry e =
             let listed = reads-order policy (profile s) P.plans.o zeros written in
             let given : First (whole s policy durations before) p.refusal.number = rw none (then_own none (rw dry-none at own_is)).number in
-            rw is (record {
+            record {
               number = given;
               action = handed_on checks (rest s policy durations before) _ _ (no_blame s policy durations before) named given;
               n = kept_new _ _ _ none (n_is none);
@@ -264,4 +262,4 @@ module _ {s : List ℕ} {policy : ℕ} {lent : LentTables} {p : Planned} (P : Pl
               late = kept_new _ _ _ none cycled.late;
               counted = λ _. count-is cycled;
               demand = λ _. promise cycled level (sound none).not_table (P.plans.the_order none) (not_unfit (profile s) (sound none).not_unfit);
-            })
+            }

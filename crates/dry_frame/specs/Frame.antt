@@ -1,16 +1,31 @@
 -- A frame run dry: from an image, a policy and n by L durations by position to what the cycle gave, with demand 3 as its promise.
-use Rattle.std.specs.Prelude.{ℕ, suc, ◌*◌, ◌≤◌, ◌<◌, ◌≡◌, false, List, [], ◌∷◌, length, get_or}
-use Rattle.rules.specs.Numbers.{longest_coast}
+use Rattle.std.specs.Prelude.{ℕ, suc, ◌*◌, ◌≤◌, ◌<◌, ◌≡◌, false, List, [], ◌∷◌, length, get_or, Result, Ok, Err}
+use Rattle.rules.specs.Numbers.{most_actions, longest_coast}
 use Rattle.rules.specs.Words.{sum, tab, one_if}
 use Rattle.rules.specs.Image.{profile}
 use Rattle.rules.specs.Order.{Order, TheOrder}
 use Rattle.rules.specs.Limits.{Tables, tables, limit_by, planned}
+use Rattle.rules.specs.Reasons.{fault_of}
+use Rattle.rules.specs.declared.Blame.{Blame}
 use Rattle.rules.specs.Refusals.{First, AtFault, kept}
 use Rattle.rules.specs.Run.{Run, decides}
 use Rattle.rules.specs.Dry.{before, cell, frame_call}
 use Rattle.rules.specs.Demand.{Policy, clock, Kept}
 use Rattle.fields.specs.Fields.{splice}
+use Rattle.dry_frame.specs.declared.Frame.{Frame}
 use Rattle.dry_frame.specs.declared.Framed.{Framed}
+
+-- What is told of a frame, laid flat: with a refusal 0 and no.
+abbrev pub framed : Result Frame Blame → Framed
+framed (Ok f) = record {
+  refusal = record { number = 0; action = most_actions };
+  n = f.n;
+  decisions = f.dry.decisions;
+  end = f.dry.end;
+  overrun = f.dry.overrun;
+  late = f.dry.late;
+}
+framed (Err b) = record { refusal = fault_of b; n = 0; decisions = 0; end = 0; overrun = false; late = false }
 
 -- The three lists that the call writes, as they are lent: an action, a level and a decided mark (1 or 0) for each position.
 pub record FrameLists : Type 0 where

@@ -172,7 +172,9 @@ pub fn nyokazerubi_dry_frame(
         (record { order = order.old; levels = given.old; decided = marks.old })
         (record { order = order.new; levels = given.new; decided = marks.new }) result }
 {
-    dry_frame::dry_frame(image, policy, durations, order, given, marks)
+    Framed::from(dry_frame::dry_frame(
+        image, policy, durations, order, given, marks,
+    ))
 }
 
 // ---- the refresh

@@ -50,14 +50,14 @@ pub fn dry_text(image: &[u8], policy: u32, bytes: &[u8], out: &mut [u8]) -> usiz
     let mut order = [0u8; 64];
     let mut given = [0u8; 64];
     let mut marks = [0u8; 64];
-    let framed = dry_frame::dry_frame(
+    let framed = Framed::from(dry_frame::dry_frame(
         image,
         policy,
         &durations[..count],
         &mut order,
         &mut given,
         &mut marks,
-    );
+    ));
     if framed.refusal.number != 0 {
         return put_fault(out, 0, framed.refusal);
     }

@@ -1,35 +1,46 @@
 -- Refused by planning, by the room of the order or by the dry run, and else the frame. Assumes nothing.
 use mathlib.Core.Path.{refl}
 use borrow.Author.Rules.{rules}
+use Rattle.std.proofs.lemmas.Result.{err_from_is_err_and}
 use Rattle.rules.specs.Limits.{LentTables}
-use Rattle.dry_frame.proofs.Answers.{Planning, plan-refused, order-refused, dry-refused, framed}
+use Rattle.rules.proofs.Reasons.{some_number}
+use Rattle.planner.specs.declared.Planned.{Planned}
+use Rattle.planner.specs.Planning.{Plans}
+use Rattle.dry_frame.proofs.Answers.{zeros, Planning, plan-refused, order-refused, dry-refused, run_dry}
 use Rattle.dry_frame.proofs.dry_frame.Goals as goal
-use Rattle.dry_frame.proofs.dry_frame.Goals.{After-plan-planned}
+use Rattle.dry_frame.proofs.dry_frame.Goals.{After-plan}
 
-abbrev lent : After-plan-planned → LentTables
-lent c = let new = c.plan-planned.new in record { order = new.order; limits = new.limits; worst = new.worst; bounds = new.bounds }
+abbrev lent : After-plan → LentTables
+lent c = let new = c.plan.new in record { order = new.order; limits = new.limits; worst = new.worst; bounds = new.bounds }
 
-planning : (c : After-plan-planned) → Planning c.args.image.now c.args.policy (lent c) c.plan-planned.result
-planning c =
+planning : (c : After-plan) {p : Planned} → Plans c.args.image.now c.args.policy zeros (lent c) p → Planning c.args.image.now c.args.policy (lent c) p
+planning c plans =
     record {
-      plans = c.plan-planned.ensures;
+      plans = plans;
       sized = record { order_room = search rules; limits_room = search rules; worst_room = search rules; bounds_room = search rules };
     }
 
 -- ---- the answers
 
-pub returns-then-refusal-ne0 : goal.returns-then-refusal-ne0
-returns-then-refusal-ne0 c = plan-refused (planning (goal.at.returns-then-refusal-ne0 c).After-plan-planned) _ _ c.if-refusal-ne0.true c.refused.ensures
+pub returns-in_err-counts : goal.returns-in_err-counts
+returns-in_err-counts c =
+    let p = err_from_is_err_and c.from_residual.result c.from_residual.ensures.1 in
+    let planned = planning (goal.at.returns-in_err-counts c).After-plan c.in_err-counts.ensures in
+    rw (p.1, p.2) (plan-refused planned _ _ (some_number c.in_err-counts.field-0.0.reason))
 
 pub returns-then-order-n : goal.returns-then-order-n
 returns-then-order-n c =
-    order-refused (planning (goal.at.returns-then-order-n c).After-plan-planned) _ _ c.if-refusal-ne0.false c.if-order-n.true c.unblamed.ensures
+    let planned = planning (goal.at.returns-then-order-n c).After-plan c.in_ok-counts.ensures in
+    rw c.from.ensures (order-refused planned _ _ refl c.if-order-n.true)
 
-pub returns-then-dried-ne0 : goal.returns-then-dried-ne0
-returns-then-dried-ne0 c =
-    dry-refused (planning (goal.at.returns-then-dried-ne0 c).After-plan-planned) _ _ _ c.if-refusal-ne0.false c.if-order-n.false c.dry_run-dried.ensures c.if-dried-ne0.true refl c.unblamed-then-dried-ne0.ensures
+pub returns-in_err-dry : goal.returns-in_err-dry
+returns-in_err-dry c =
+    let made = c.from_residual-in_err-dry in
+    let p = err_from_is_err_and made.result made.ensures.1 in
+    let planned = planning (goal.at.returns-in_err-dry c).After-plan c.in_ok-counts.ensures in
+    rw (p.1, p.2) (dry-refused planned _ _ _ refl c.if-order-n.false c.in_err-dry.ensures (some_number c.in_err-dry.field-0.0) refl)
 
 pub returns : goal.returns
 returns c =
-    framed (planning (goal.at.returns c).After-plan-planned) _ _ _ c.if-refusal-ne0.false c.if-order-n.false c.dry_run-dried.ensures c.if-dried-ne0.false
-    c.copy_front.ensures c.answered.ensures
+    let planned = planning (goal.at.returns c).After-plan c.in_ok-counts.ensures in
+    run_dry planned _ _ _ refl c.if-order-n.false c.in_ok-dry.ensures refl c.copy_front.ensures
