@@ -62,7 +62,7 @@ fn stretch(
     s
 }
 
-// The reading of positions `first` to `last` at the level and time t, or why there is none.
+// The speed reading, or why there is none.
 fn read_speed(
     image: &[u8],
     first: usize,
@@ -81,7 +81,7 @@ fn read_speed(
     Ok(speed_stretch::read(s.average, deadline, s.margin, t))
 }
 
-// The reading, of any values.
+// The reading of positions `first` to `last` at the level and time t, any values.
 pub fn speed_reading(image: &[u8], first: usize, last: usize, level: usize, t: u32) -> Reading
     ensures { ReadsSpeed image.now first last level t result }
 {
