@@ -21,7 +21,7 @@ use run::Answer;
 // copies the record without gaps. What an asking and a report store by turns, position, coast left and whether an action runs, has neighbours that
 // are stored apart: fields that a call only hands on are read together, and that would wait for one stored alone a moment ago.
 #[repr(C)]
-#[derive(Clone, Copy)]
+#[derive(Clone, Copy, PartialEq, Eq)]
 pub struct BodyRun {
     pub body: Body,
     pub level: u32,

@@ -87,7 +87,7 @@ pub const SUMMARY_NUMBERS: usize = 4;
 
 // What every call over a body repeated takes of it: n, L and the cycle of the body, how often it is repeated, and by which policy it was planned.
 #[repr(C)]
-#[derive(Clone, Copy)]
+#[derive(Clone, Copy, PartialEq, Eq)]
 pub struct Body {
     pub n: u32,
     pub levels: u32,
