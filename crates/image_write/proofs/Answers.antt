@@ -1,6 +1,6 @@
 -- What a yes or a no says. Assumes nothing.
 use mathlib.Core.Path.{◌≡◌}
-use mathlib.Core.Bool.{Bool, true}
+use mathlib.Core.Bool.{true}
 use mathlib.Core.List.{List, [], ◌∷◌, ◌++◌}
 use mathlib.Core.Logic.{◌⊎◌, inl, inr, ⊎_elim, ⊎_map, ◌↔◌}
 use Prim.Native.Nat.{ℕ, ◌<◌}
@@ -10,21 +10,6 @@ use Rattle.rules.specs.Refusals.{Tight}
 
 pub less-says : (a b : ℕ) → (ltb a b ≡ true) ↔ (a < b)
 less-says a b = (ltb-true a b, lt-ltb a b)
-
--- what does not hold adds nothing to an answer
-pub or_else : {P Q : Type 0} {b : Bool} → (P → ⊥) → (b ≡ true) ↔ Q → (b ≡ true) ↔ (P ⊎ Q)
-or_else {P} {Q} {b} never says = ((λ e. inr (says.0 e)), back)
-  where
-    back : P ⊎ Q → b ≡ true
-    back (inl p) = absurd (never p)
-    back (inr q) = says.1 q
-
-pub or_nothing : {P : Type 0} {b : Bool} → (b ≡ true) ↔ P → (b ≡ true) ↔ (P ⊎ ⊥)
-or_nothing {P} {b} says = ((λ e. inl (says.0 e)), back)
-  where
-    back : P ⊎ ⊥ → b ≡ true
-    back (inl p) = says.1 p
-    back (inr q) = absurd q
 
 -- one slice more
 pub tight_and : (rooms : List (ℕ × ℕ)) (last : ℕ × ℕ) → (Tight rooms ⊎ (last.0 < last.1)) ↔ Tight (rooms ++ (last ∷ []))
