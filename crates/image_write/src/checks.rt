@@ -66,10 +66,9 @@ pub fn range(
         n result }
 {
     for a in 0..n {
-        if scan::out_of_range(masks[a], deadlines[a], cycle, n) {
-            return Some(a);
-        }
-        if long_time(averages, worst, levels, a, ordered) {
+        if scan::out_of_range(masks[a], deadlines[a], cycle, n)
+            || long_time(averages, worst, levels, a, ordered)
+        {
             return Some(a);
         }
     }

@@ -54,10 +54,9 @@ pub fn refusal(
     if image_fields::scan::count_out(n, levels, cycle) {
         return Err(Blame::from(Reason::Count));
     }
-    if checks::tight(n, levels, masks, deadlines, averages, worst) {
-        return Err(Blame::from(Reason::Room));
-    }
-    if room < image_pack::image_bytes(n, levels) {
+    if checks::tight(n, levels, masks, deadlines, averages, worst)
+        || room < image_pack::image_bytes(n, levels)
+    {
         return Err(Blame::from(Reason::Room));
     }
     // The lowest action at fault for 7 and for 6. 6 is given before 7 and looked for after it: where no row breaks the rule of 7, one test a row

@@ -1,20 +1,19 @@
 -- Each test settles a ground of the row, in the row's order. Assumes nothing.
 use Prim.Native.Nat.{ℕ, ◌≤◌, ◌<◌}
+use mathlib.Core.Path.{◌≡◌, refl, ap, ◌∙◌}
+use mathlib.Core.Bool.{Bool, true, not}
 use mathlib.Core.List.{List, ◌∷◌}
 use mathlib.Core.Logic.{◌⊎◌, inl, inr, ⊎_elim, ◌↔◌}
 use native.Mathlib.Omega.{arith}
-use Rattle.rules.specs.Numbers.{most_actions, refused_count, refused_range, refused_table, refused_room}
-use Rattle.rules.specs.Image.{ProfileTables, image_bytes, of_tables}
-use Rattle.rules.specs.Refusals.{Ground, ◌blames◌below◌, Refuses, CountOut, WriteFault, TableFault, Tight}
-use Rattle.rules.specs.declared.Fault.{Fault}
 use Rattle.std.specs.Prelude.{Option, None, Some}
 use Rattle.std.specs.Option.{is_some}
-use mathlib.Core.Bool.{Bool, true, not}
-use Rattle.rules.proofs.Tests.{not-both}
 use Rattle.std.proofs.lemmas.Result.{err_from_is_err_and}
+use Rattle.rules.specs.Numbers.{most_actions, refused_count, refused_range, refused_table, refused_room}
+use Rattle.rules.specs.Image.{ProfileTables, image_bytes, of_tables}
+use Rattle.rules.specs.Refusals.{Lowest, Ground, ◌blames◌below◌, Refuses, CountOut, WriteFault, TableFault, Tight}
+use Rattle.rules.specs.declared.Fault.{Fault}
+use Rattle.rules.proofs.Tests.{not-both}
 use Rattle.rules.proofs.Faults.{Faultless}
-use Rattle.rules.specs.Refusals.{Lowest}
-use mathlib.Core.Path.{◌≡◌, refl, ap, ◌∙◌}
 use Rattle.rules.proofs.Refusals.{refuses_when, refuses_on, refuses_blamed}
 use Rattle.order.specs.Judged.{order_checks}
 use Rattle.image_fields.proofs.Faults.{denied}
@@ -24,7 +23,7 @@ use Rattle.image_write.proofs.Answers.{tight_and}
 use Rattle.image_write.proofs.Accepting.{counted, roomy}
 use Rattle.image_write.proofs.Judging.{masked, timed, judged}
 use Rattle.image_write.proofs.refusal.Goals as goal
-use Rattle.image_write.proofs.refusal.Goals.{Else-room-image_bytes, In_default, In_default-fallen}
+use Rattle.image_write.proofs.refusal.Goals.{Else-room-image_bytes, In_default, In_default-fallen, then-tight-via-then-tight, then-tight-via-else-tight+then-room-image_bytes}
 
 module _ (n L cycle : ℕ) (T : ProfileTables) (room : ℕ) where
   -- the row from 6 on
@@ -115,17 +114,13 @@ returns-then-count_out c = rw c.from.ensures (refuses_when refused_count (c.coun
 pub returns-then-tight : goal.returns-then-tight
 returns-then-tight c =
     let x = c.args in
+    let short : Tight (table_rooms x.n x.levels (record { masks = x.masks.now; deadlines = x.deadlines.now; averages = x.averages.now; worst = x.worst.now })) ⊎ (x.room < image_bytes x.n x.levels) =
+    elim c.then-tight.branch [
+      | then-tight-via-then-tight w ↦ inl (c.tight.ensures.0 w.if-tight.true)
+      | then-tight-via-else-tight+then-room-image_bytes w ↦ inr (omega (arith, w.image_bytes.ensures, w.if-room-image_bytes.true))
+    ] in
     rw c.from-then-tight.ensures
-    (refused-17 x.n x.levels x.cycle (record { masks = x.masks.now; deadlines = x.deadlines.now; averages = x.averages.now; worst = x.worst.now }) x.room (denied c.count_out.ensures c.if-count_out.false)
-    ((tight-says x.n x.levels x.cycle (record { masks = x.masks.now; deadlines = x.deadlines.now; averages = x.averages.now; worst = x.worst.now }) x.room).0 (inl (c.tight.ensures.0 c.if-tight.true))))
-
-pub returns-then-room-image_bytes : goal.returns-then-room-image_bytes
-returns-then-room-image_bytes c =
-    let x = c.args in
-    let short : x.room < image_bytes x.n x.levels = omega (arith, c.image_bytes.ensures) in
-    rw c.from-then-room-image_bytes.ensures
-    (refused-17 x.n x.levels x.cycle (record { masks = x.masks.now; deadlines = x.deadlines.now; averages = x.averages.now; worst = x.worst.now }) x.room (denied c.count_out.ensures c.if-count_out.false)
-    ((tight-says x.n x.levels x.cycle (record { masks = x.masks.now; deadlines = x.deadlines.now; averages = x.averages.now; worst = x.worst.now }) x.room).0 (inr short)))
+    (refused-17 x.n x.levels x.cycle (record { masks = x.masks.now; deadlines = x.deadlines.now; averages = x.averages.now; worst = x.worst.now }) x.room (denied c.count_out.ensures c.if-count_out.false) ((tight-says x.n x.levels x.cycle (record { masks = x.masks.now; deadlines = x.deadlines.now; averages = x.averages.now; worst = x.worst.now }) x.room).0 short))
 
 pub range-out-requires-clause-unbroken : goal.range-out-requires-clause-unbroken
 range-out-requires-clause-unbroken c = λ e. none_found _ _ (none_left _ c.is_none-ordered.ensures e) c.table-fallen.ensures

@@ -7,20 +7,22 @@ use Rattle.rules.specs.Image.{of_tables}
 use Rattle.rules.proofs.Faults.{lowest-here, lowest-none}
 use Rattle.image_fields.proofs.Faults.{denied}
 use Rattle.image_write.proofs.checks.range.Goals as goal
+use Rattle.image_write.proofs.checks.range.Goals.{then-out_of_range-via-then-out_of_range, then-out_of_range-via-else-out_of_range+then-long_time}
 
 pub returns-then-out_of_range : goal.returns-then-out_of_range
 unfolding of_tables
-returns-then-out_of_range c =
-    (lowest-here c.loop-a-test.true c.loop-a.invariant.1 (inl (c.out_of_range.ensures.0 c.if-out_of_range.true)), c.loop-a-test.true)
+returns-then-out_of_range c = (
+  lowest-here c.loop-a-test.true c.loop-a.invariant.1
+      (elim c.then-out_of_range.branch [
+        | then-out_of_range-via-then-out_of_range w ↦ inl (c.out_of_range.ensures.0 w.if-out_of_range.true)
+        | then-out_of_range-via-else-out_of_range+then-long_time w ↦ inr (w.long_time.ensures.0 w.if-long_time.true)
+      ]),
+  c.loop-a-test.true,
+)
 
 pub long_time-requires-clause-le_levels : goal.long_time-requires-clause-le_levels
 long_time-requires-clause-le_levels c =
     (c.requires.roomy.1, λ e. c.requires.unbroken e c.loop-a.a c.loop-a-test.true)
-
-pub returns-then-long_time : goal.returns-then-long_time
-unfolding of_tables
-returns-then-long_time c =
-    (lowest-here c.loop-a-test.true c.loop-a.invariant.1 (inr (c.long_time.ensures.0 c.if-long_time.true)), c.loop-a-test.true)
 
 pub loop-a-preserved : goal.loop-a-preserved
 unfolding of_tables
