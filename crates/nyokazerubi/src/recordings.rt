@@ -2,7 +2,7 @@
 ghost use Rattle.std.specs.Prelude.{[]};
 ghost use Rattle.recording.specs.Recording.{Opens, totals_of, Rehearses};
 
-use recording::{Line, Opened, Totals};
+use recording::{Counted, Line, Opened, Totals};
 
 pub fn nyokazerubi_open_recording(
     image: &[u8],
@@ -17,7 +17,7 @@ pub fn nyokazerubi_open_recording(
         (record { order = order.old; limits = limits.old; worst = worst_by_position.old; bounds = bounds.old })
         (record { order = order.new; limits = limits.new; worst = worst_by_position.new; bounds = bounds.new }) result }
 {
-    recording::open(
+    Opened::from(recording::open(
         image,
         policy,
         bytes,
@@ -25,7 +25,7 @@ pub fn nyokazerubi_open_recording(
         limits,
         worst_by_position,
         bounds,
-    )
+    ))
 }
 
 pub fn nyokazerubi_rehearse(
@@ -42,6 +42,7 @@ pub fn nyokazerubi_rehearse(
         frame.now (totals_of totals.old) (record { totals = totals.new; line = result }) }
 {
     let out = recording::rehearse(*totals, n, levels, limits, worst_by_position, bounds, frame);
-    *totals = out.totals;
-    out.line
+    let counted = Counted::of(*totals, out);
+    *totals = counted.totals;
+    counted.line
 }

@@ -41,8 +41,8 @@ module _ (s : List ℕ) (policy bytes : ℕ) (before : LentTables) where
   no_blame : Blameless own
   no_blame = ((λ a z. z), ((λ a z. z), tt))
 
-  opens_not : {r : Opened} (f : Fault) → Refuses (recording_call s policy bytes rooms) f → f.number ≢ 0 → r ≡ unopened f → Opens s policy bytes before before r
-  opens_not f p some e = rw e (record {
+  opens_not : (f : Fault) → Refuses (recording_call s policy bytes rooms) f → f.number ≢ 0 → Opens s policy bytes before before (unopened f)
+  opens_not f p some = record {
     number = p.number;
     action = p.action;
     n = kept-old _ _ _ some;
@@ -52,7 +52,7 @@ module _ (s : List ℕ) (policy bytes : ℕ) (before : LentTables) where
     o = by_number (profile s).n;
     the_order = λ none. absurd (some none);
     tables_are = kept-old _ _ _ some;
-  })
+  }
 
   -- ---- the length is no recording's
 
@@ -79,8 +79,8 @@ module _ (s : List ℕ) (policy bytes : ℕ) (before : LentTables) where
     some_number : f.number ≢ 0
     some_number e = ⊎_elim (λ x. x.1 e) (λ x. omega (arith, fourteen x.1, e)) parts
 
-    pub length-refused : {r : Opened} → r ≡ unopened f → Opens s policy bytes before before r
-    length-refused e = opens_not f (record { number = number_is; action = action-is }) some_number e
+    pub length-refused : Opens s policy bytes before before (unopened f)
+    length-refused = opens_not f (record { number = number_is; action = action-is }) some_number
 
   -- ---- it is, and the image is planned
 
@@ -99,10 +99,10 @@ module _ (s : List ℕ) (policy bytes : ℕ) (before : LentTables) where
         let image = handed_back checks room p.refusal.action ((λ a z. z), tt) plans.action in
         handed_on checks own _ p.refusal.action no_blame image planned-is
 
-    pub plan-refused : {r : Opened} → p.refusal.number ≢ 0 → r ≡ unopened p.refusal → Opens s policy bytes before after r
-    plan-refused some e =
+    pub plan-refused : p.refusal.number ≢ 0 → Opens s policy bytes before after (unopened p.refusal)
+    plan-refused some =
         let same : after ≡ before = plans.tables_are ∙ sym (kept-old _ _ _ some) in
-        rw same (opens_not p.refusal (record { number = planned-is; action = named-is }) some e)
+        rw same (opens_not p.refusal (record { number = planned-is; action = named-is }) some)
 
     module _ (none : p.refusal.number ≡ 0) where
       sound : Sound s
@@ -138,8 +138,8 @@ module _ (s : List ℕ) (policy bytes : ℕ) (before : LentTables) where
         frames = bytes / (p.n * p.levels * duration_bytes);
       }
 
-      pub opened : Opens s policy bytes before after answer
-      opened = record {
+      pub planned-opens : Opens s policy bytes before after answer
+      planned-opens = record {
         number = planned-is;
         action = named-is;
         n = plans.n;

@@ -35,14 +35,14 @@ uncounted t f = record { totals = t; line = record { refusal = f; decisions = 0;
 abbrev pub own : Totals → List Ground
 own t = refused_turn when (totals_fit (totals_of t) ≢ true) ∷ refused_trace when (most_frames ≤ t.frames) ∷ []
 
-refused : {n L : ℕ} {T : LentTables} {frame : List ℕ} {t : Totals} {r : Counted} (f : Refusal)
-    → First (recorded_call (totals_of t) n L frame (recorded_rooms n L T frame)) f.number → f.number ≢ 0 → r ≡ uncounted t f
-    → Rehearses n L T frame (totals_of t) r
-refused f first some e = rw e (record { number = first; line = kept-old _ _ _ some; totals = kept-old _ _ _ some })
+refused : {n L : ℕ} {T : LentTables} {frame : List ℕ} {t : Totals} (f : Refusal)
+    → First (recorded_call (totals_of t) n L frame (recorded_rooms n L T frame)) f.number → f.number ≢ 0
+    → Rehearses n L T frame (totals_of t) (uncounted t f)
+refused f first some = record { number = first; line = kept-old _ _ _ some; totals = kept-old _ _ _ some }
 
-pub totals-refused : {n L : ℕ} {T : LentTables} {frame : List ℕ} {t : Totals} {r : Counted} (k : ℕ) → First (own t) k → k ≢ 0
-    → r ≡ uncounted t (record { number = k }) → Rehearses n L T frame (totals_of t) r
-totals-refused {n} {L} {T} {frame} {t} k first some e = refused (record { number = k }) (by first) some e
+pub totals-refused : {n L : ℕ} {T : LentTables} {frame : List ℕ} {t : Totals} (k : ℕ) → First (own t) k → k ≢ 0
+    → Rehearses n L T frame (totals_of t) (uncounted t (record { number = k }))
+totals-refused {n} {L} {T} {frame} {t} k first some = refused (record { number = k }) (by first) some
   where
     by : First (own t) k → First (recorded_call (totals_of t) n L frame (recorded_rooms n L T frame)) k
     by (inl x) = inl x
@@ -75,8 +75,8 @@ module _ {n L : ℕ} {T : LentTables} {frame : List ℕ} {t : Totals} {k : ℕ} 
   number_is : First (recorded_call before n L frame rooms) k
   number_is = inr (fitting.0, inr (fitting.1, x.judged))
 
-  pub frame_refused : {r : Counted} → k ≢ 0 → r ≡ uncounted t (record { number = k }) → Rehearses n L T frame before r
-  frame_refused some e = refused (record { number = k }) number_is some e
+  pub frame_refused : k ≢ 0 → Rehearses n L T frame before (uncounted t (record { number = k }))
+  frame_refused some = refused (record { number = k }) number_is some
 
   -- ---- and so is the frame
 

@@ -1,21 +1,38 @@
 -- What opening a recording and running a frame of it answer.
-use Rattle.std.specs.Prelude.{ℕ, ◌*◌, ◌/◌, ◌≤◌, ◌<◌, ◌≡◌, Bool, true, false, cond, List, [], ◌∷◌, ◌⊎◌, eqb, length, get_or}
-use Rattle.rules.specs.Numbers.{longest_coast}
+use Rattle.std.specs.Prelude.{ℕ, ◌*◌, ◌/◌, ◌≤◌, ◌<◌, ◌≡◌, Bool, true, false, cond, List, [], ◌∷◌, ◌⊎◌, eqb, length, get_or, Result, Ok, Err}
+use Rattle.rules.specs.Numbers.{most_actions, longest_coast}
 use Rattle.rules.specs.Image.{profile}
 use Rattle.rules.specs.Order.{Order, TheOrder}
 use Rattle.rules.specs.Limits.{Tables, limit_by, LentTables, planner_tables}
+use Rattle.rules.specs.Reasons.{number_of, fault_of}
+use Rattle.rules.specs.declared.Reason.{Reason}
+use Rattle.rules.specs.declared.Blame.{Blame}
 use Rattle.rules.specs.Refusals.{First, AtFault, kept, Short, CountsOut}
 use Rattle.rules.specs.Dry.{cell}
 use Rattle.rules.specs.Demand.{Policy, clock, Kept}
 use Rattle.rules.specs.Recording as rules
 use Rattle.rules.specs.Recording.{frame_bytes, Ran, ran_of, with_frame, NotFrames, recording_call, recorded_call}
 use Rattle.planner.specs.Planning.{plan_rooms, with_fronts}
+use Rattle.recording.specs.declared.Recording.{Recording}
 use Rattle.recording.specs.declared.Opened.{Opened}
 use Rattle.recording.specs.declared.Totals.{Totals}
+use Rattle.recording.specs.declared.Ran as said
+use Rattle.recording.specs.declared.Rehearsed.{Rehearsed}
 use Rattle.recording.specs.declared.Line.{Line}
 use Rattle.recording.specs.declared.Counted.{Counted}
 
 -- ---- the recording
+
+-- What is told of a recording opened, laid flat: with a refusal 0.
+abbrev pub opened : Result Recording Blame → Opened
+opened (Ok x) = record {
+  refusal = record { number = 0; action = most_actions };
+  n = x.n;
+  levels = x.levels;
+  frame_bytes = x.frame_bytes;
+  frames = x.frames;
+}
+opened (Err b) = record { refusal = fault_of b; n = 0; levels = 0; frame_bytes = 0; frames = 0 }
 
 -- The answer to an image s, a policy and a recording of so many bytes, and what it leaves of the lent tables: the planner's at their fronts,
 -- whose tails are kept, and with a refusal all that was there. Without one the order is the profile's; with one o counts for nothing.
@@ -38,6 +55,32 @@ totals_of T = record { frames = T.frames; decisions = T.decisions; overruns = T.
 
 abbrev pub ran_said : Line → Ran
 ran_said l = record { decisions = l.decisions; lowest = l.lowest; end = l.end; overrun = l.overrun; late = l.late }
+
+abbrev pub told : said.Ran → Ran
+told x = record { decisions = x.decisions; lowest = x.lowest; end = x.end; overrun = x.overrun; late = x.late }
+
+-- What is told of a frame, laid flat: with a refusal 0 and no; and with the totals after it, which a refusal leaves as they were.
+abbrev pub line_told : Result said.Ran Reason → Line
+line_told (Ok x) = record {
+  refusal = record { number = 0 };
+  decisions = x.decisions;
+  lowest = x.lowest;
+  end = x.end;
+  overrun = x.overrun;
+  late = x.late;
+}
+line_told (Err reason) = record {
+  refusal = record { number = number_of reason };
+  decisions = 0;
+  lowest = 0;
+  end = 0;
+  overrun = false;
+  late = false;
+}
+
+abbrev pub counted : Totals → Result Rehearsed Reason → Counted
+counted before (Ok x) = record { totals = x.totals; line = line_told (Ok x.ran) }
+counted before (Err reason) = record { totals = before; line = line_told (Err reason) }
 
 -- A refused line says its number, and all else is 0 or no.
 abbrev pub none_ran : Ran

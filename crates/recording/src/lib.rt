@@ -4,33 +4,65 @@
 // first. No call takes more of a recording than its length and one frame.
 #![tactic(auto)]
 
-ghost use Rattle.std.specs.Prelude.{◌+◌, ◌-◌, ◌*◌, ◌/◌, ◌%◌, ◌≤◌, ◌<◌, min, ◌≡◌, true, false, [], ◌∷◌, ◌++◌, ◌≢◌};
+ghost use Rattle.std.specs.Prelude.{◌+◌, ◌-◌, ◌*◌, ◌/◌, ◌%◌, ◌≤◌, ◌<◌, ◌≡◌, true, false, [], ◌∷◌, ◌++◌, ◌≢◌};
 ghost use Rattle.rules.specs.Numbers.{most_actions, most_frames, refused_turn, refused_trace, refused_policy};
+ghost use Rattle.rules.specs.Reasons.{number, fault_of};
 ghost use Rattle.rules.specs.Refusals.{◌when◌, First, Refuses, UnknownPolicy, image_checks};
 ghost use Rattle.rules.specs.Run.{begun, ended};
 ghost use Rattle.rules.specs.Dry.{cell, dry_call};
 ghost use Rattle.rules.specs.Recording.{durations, with_frame, totals_fit};
 ghost use Rattle.run.specs.Calls.{run_of};
 ghost use Rattle.run.specs.Cycle.{Running};
-ghost use Rattle.recording.specs.Recording.{LengthFits, Opens, totals_of, ran_said, recorded_rooms, Rehearses};
+ghost use Rattle.recording.specs.Recording.{LengthFits, opened, Opens, totals_of, told, line_told, counted, recorded_rooms, Rehearses};
 ghost use Rattle.recording.specs.Cycle.{Waits, Cycling, Ends};
 
 use image_fields::read;
-use rules::{Fault, Refusal};
+use rules::{Blame, Fault, Reason, Refusal};
 use run::Run;
 
 // ---- the recording
 
-// What opening a recording answers: with a refusal all else is 0; without one what the header says, the bytes of a frame, and how many frames
-// there are.
+// A recording opened: what the header says, the bytes of a frame, and how many frames there are.
+#[derive(Clone, Copy)]
+pub struct Recording {
+    pub n: usize,
+    pub levels: usize,
+    pub frame_bytes: usize,
+    pub frames: usize,
+}
+
+// The same laid flat for C, behind the refusal. With one all else is 0.
 #[repr(C)]
-#[derive(Drop)]
+#[derive(Clone, Copy)]
 pub struct Opened {
     pub refusal: Fault,
     pub n: usize,
     pub levels: usize,
     pub frame_bytes: usize,
     pub frames: usize,
+}
+
+impl From<Result<Recording, Blame>> for Opened {
+    ghost from_gives = { λ outcome flat. flat ≡ opened outcome };
+
+    fn from(outcome: Result<Recording, Blame>) -> Self {
+        match outcome {
+            Ok(recording) => Opened {
+                refusal: Fault::of(Ok(())),
+                n: recording.n,
+                levels: recording.levels,
+                frame_bytes: recording.frame_bytes,
+                frames: recording.frames,
+            },
+            Err(blame) => Opened {
+                refusal: Fault::from(blame),
+                n: 0,
+                levels: 0,
+                frame_bytes: 0,
+                frames: 0,
+            },
+        }
+    }
 }
 
 // Whether so many bytes are at most 4,096 whole frames of the counts in the header; no where there is no header, or a count is 0.
@@ -48,37 +80,18 @@ fn whole_frames(image: &[u8], bytes: usize) -> bool
     (bytes % frame_bytes == 0) & (bytes / frame_bytes <= rules::MOST_FRAMES as usize)
 }
 
-// What a refused call answers.
-fn unopened(refusal: Fault) -> Opened
-    ensures { result ≡ record { refusal = refusal; n = 0; levels = 0; frame_bytes = 0; frames = 0 } }
-{
-    Opened {
-        refusal,
-        n: 0,
-        levels: 0,
-        frame_bytes: 0,
-        frames: 0,
-    }
-}
-
 // The refusal of a recording whose length is not that of its frames: the image's, then 20, else 14.
-fn length_refusal(image: &[u8], policy: u32) -> Fault
+fn length_refusal(image: &[u8], policy: u32) -> Blame
     ensures { Refuses
-        (image_checks image.now ++ (refused_policy when UnknownPolicy policy ∷ refused_trace when Unit {0} ∷ [])) result }
+        (image_checks image.now ++ (refused_policy when UnknownPolicy policy ∷ refused_trace when Unit {0} ∷ [])) (fault_of result) }
 {
-    let refusal = image_check::check(image);
-    if refusal.number != 0 {
-        return refusal;
+    if let Err(blame) = image_check::check(image) {
+        return blame;
     }
-    let unknown = planner::policy_refusal(policy);
-    let length = Refusal {
-        number: rules::REFUSED_TRACE,
-    };
-    let own = planner::first_of(unknown, length);
-    Fault {
-        number: own.number,
-        action: rules::NO_ACTION,
+    if let Err(reason) = planner::policy_refusal(policy) {
+        return Blame::from(reason);
     }
+    Blame::from(Reason::Trace)
 }
 
 // Plans an image by a policy for a recording of so many bytes. A refusal leaves the tables untouched, so the length is judged before planning,
@@ -91,31 +104,24 @@ pub fn open(
     limits: &mut [i32],
     worst: &mut [u32],
     bounds: &mut [i32],
-) -> Opened
+) -> Result<Recording, Blame>
     ensures { Opens image.now policy bytes
         (record { order = order.old; limits = limits.old; worst = worst.old; bounds = bounds.old })
-        (record { order = order.new; limits = limits.new; worst = worst.new; bounds = bounds.new }) result }
+        (record { order = order.new; limits = limits.new; worst = worst.new; bounds = bounds.new }) (opened result) }
 {
     if !whole_frames(image, bytes) {
-        return unopened(length_refusal(image, policy));
+        return Err(length_refusal(image, policy));
     }
-    let planned = Planned::from(planner::plan(
-        image, policy, order, limits, worst, bounds,
-    ));
-    let refusal = planned.refusal;
-    if refusal.number != 0 {
-        return unopened(refusal);
-    }
-    let n = planned.n;
-    let levels = planned.levels;
+    let counts = planner::plan(image, policy, order, limits, worst, bounds)?;
+    let n = counts.n;
+    let levels = counts.levels;
     let frame_bytes = n * levels * rules::DURATION_BYTES;
-    Opened {
-        refusal,
+    Ok(Recording {
         n,
         levels,
         frame_bytes,
         frames: bytes / frame_bytes,
-    }
+    })
 }
 
 // ---- a frame
@@ -130,9 +136,26 @@ pub struct Totals {
     pub lates: u32,
 }
 
-// The line of a frame: the refusal; the decisions made, the lowest level given, the clock at the end, and the two marks.
+// What a frame run comes to: the decisions made, the lowest level given, the clock at the end, and the two marks.
+#[derive(Clone, Copy)]
+pub struct Ran {
+    pub decisions: u32,
+    pub lowest: u32,
+    pub end: u32,
+    pub overrun: bool,
+    pub late: bool,
+}
+
+// A frame run and counted: that, and the totals with it.
+#[derive(Clone, Copy)]
+pub struct Rehearsed {
+    pub totals: Totals,
+    pub ran: Ran,
+}
+
+// The line of a frame, laid flat for C: the refusal, and what it comes to. With a refusal that is 0 and no.
 #[repr(C)]
-#[derive(Drop)]
+#[derive(Clone, Copy)]
 pub struct Line {
     pub refusal: Refusal,
     pub decisions: u32,
@@ -142,11 +165,54 @@ pub struct Line {
     pub late: bool,
 }
 
+impl From<Result<Ran, Reason>> for Line {
+    ghost from_gives = { λ outcome line. line ≡ line_told outcome };
+
+    fn from(outcome: Result<Ran, Reason>) -> Self {
+        match outcome {
+            Ok(ran) => Line {
+                refusal: Refusal { number: 0 },
+                decisions: ran.decisions,
+                lowest: ran.lowest,
+                end: ran.end,
+                overrun: ran.overrun,
+                late: ran.late,
+            },
+            Err(reason) => Line {
+                refusal: Refusal::from(reason),
+                decisions: 0,
+                lowest: 0,
+                end: 0,
+                overrun: false,
+                late: false,
+            },
+        }
+    }
+}
+
 // The totals after a frame, and its line.
-#[derive(Drop)]
+#[derive(Clone, Copy)]
 pub struct Counted {
     pub totals: Totals,
     pub line: Line,
+}
+
+impl Counted {
+    // A refused frame counts in none.
+    pub fn of(totals: Totals, outcome: Result<Rehearsed, Reason>) -> Self
+        ensures { result ≡ counted totals outcome }
+    {
+        match outcome {
+            Ok(rehearsed) => Counted {
+                totals: rehearsed.totals,
+                line: Line::from(Ok(rehearsed.ran)),
+            },
+            Err(reason) => Counted {
+                totals,
+                line: Line::from(Err(reason)),
+            },
+        }
+    }
 }
 
 // Whether each field is in its range.
@@ -162,45 +228,28 @@ fn in_range(totals: Totals) -> bool
 }
 
 // Out of range 11, a frame too many 14.
-fn totals_refusal(totals: Totals) -> u32
-    ensures { First (refused_turn when (totals_fit (totals_of totals) ≢ true) ∷ refused_trace when (most_frames ≤ totals.frames) ∷ []) result }
+fn totals_refusal(totals: Totals) -> Result<(), Reason>
+    ensures { First (refused_turn when (totals_fit (totals_of totals) ≢ true) ∷ refused_trace when (most_frames ≤ totals.frames) ∷ []) (number result) }
 {
     if !in_range(totals) {
-        return rules::REFUSED_TURN;
+        return Err(Reason::Turn);
     }
     if rules::MOST_FRAMES <= totals.frames {
-        return rules::REFUSED_TRACE;
+        return Err(Reason::Trace);
     }
-    0
+    Ok(())
 }
 
 // A frame run more.
-fn with_line(totals: Totals, line: &Line) -> Totals
-    requires { (totals_fit (totals_of totals) ≡ true) × (totals.frames < most_frames) × (line.now.decisions ≤ most_actions) }
-    ensures { totals_of result ≡ with_frame (totals_of totals) (ran_said line.now) }
+fn with_ran(totals: Totals, ran: Ran) -> Totals
+    requires { (totals_fit (totals_of totals) ≡ true) × (totals.frames < most_frames) × (ran.decisions ≤ most_actions) }
+    ensures { totals_of result ≡ with_frame (totals_of totals) (told ran) }
 {
     Totals {
         frames: totals.frames + 1,
-        decisions: totals.decisions + line.decisions,
-        overruns: totals.overruns + run::one_if(line.overrun),
-        lates: totals.lates + run::one_if(line.late),
-    }
-}
-
-// What a refused frame answers: it counts in none.
-fn uncounted(totals: Totals, refusal: Refusal) -> Counted
-    ensures { result ≡ record { totals = totals; line = record { refusal = refusal; decisions = 0; lowest = 0; end = 0; overrun = false; late = false } } }
-{
-    Counted {
-        totals,
-        line: Line {
-            refusal,
-            decisions: 0,
-            lowest: 0,
-            end: 0,
-            overrun: false,
-            late: false,
-        },
+        decisions: totals.decisions + ran.decisions,
+        overruns: totals.overruns + u32::from(ran.overrun),
+        lates: totals.lates + u32::from(ran.late),
     }
 }
 
@@ -214,12 +263,12 @@ fn frame_refusal(
     worst: &[u32],
     bounds: &[i32],
     frame: &[u8],
-) -> u32
+) -> Result<(), Reason>
     ensures { First (dry_call n levels (durations frame.now) (recorded_rooms n levels
-        (record { order = []; limits = limits.now; worst = worst.now; bounds = bounds.now }) frame.now)) result }
+        (record { order = []; limits = limits.now; worst = worst.now; bounds = bounds.now }) frame.now)) (number result) }
 {
     if !run::counts_fit(n, levels) {
-        return rules::REFUSED_COUNT;
+        return Err(Reason::Count);
     }
     let cells = n * levels;
     if (limits.len() < cells)
@@ -227,27 +276,21 @@ fn frame_refusal(
         | (bounds.len() < cells * rules::LONGEST_COAST)
         | (frame.len() < cells * rules::DURATION_BYTES)
     {
-        return rules::REFUSED_ROOM;
+        return Err(Reason::Room);
     }
     if recording_bytes::all_short(frame, cells) {
-        return 0;
+        return Ok(());
     }
-    rules::REFUSED_DURATION
+    Err(Reason::Duration)
 }
 
 // ---- a frame's cycle
 
 // A cycle so far: its record, and the lowest level given.
-#[derive(Drop)]
+#[derive(Clone, Copy)]
 struct Cycled {
     run: Run,
     lowest: u32,
-}
-
-fn lower(a: u32, b: u32) -> u32
-    ensures { result ≡ min a b }
-{
-    if a < b { a } else { b }
 }
 
 // The running action takes its duration at its level, read where it lies, and ends.
@@ -273,7 +316,7 @@ fn stretch(from: Cycled, limits: &[i32], worst: &[u32], bounds: &[i32], frame: &
 {
     let begun = from.run;
     let decided = begun.decided(limits, bounds).run;
-    let lowest = lower(from.lowest, decided.level);
+    let lowest = from.lowest.min(decided.level);
     let mut run = passed(decided, worst, frame);
     while 0 < run.left {
         run = passed(run.coasted(), worst, frame);
@@ -314,30 +357,23 @@ pub fn rehearse(
     worst: &[u32],
     bounds: &[i32],
     frame: &[u8],
-) -> Counted
+) -> Result<Rehearsed, Reason>
     ensures { Rehearses n levels (record { order = []; limits = limits.now; worst = worst.now; bounds = bounds.now })
-        frame.now (totals_of totals) result }
+        frame.now (totals_of totals) (counted totals result) }
 {
-    let untaken = totals_refusal(totals);
-    if untaken != 0 {
-        return uncounted(totals, Refusal { number: untaken });
-    }
-    let number = frame_refusal(n, levels, limits, worst, bounds, frame);
-    if number != 0 {
-        return uncounted(totals, Refusal { number });
-    }
+    totals_refusal(totals)?;
+    frame_refusal(n, levels, limits, worst, bounds, frame)?;
     let cycled = cycle(n, levels, limits, worst, bounds, frame);
     let last = cycled.run;
-    let line = Line {
-        refusal: Refusal { number },
+    let ran = Ran {
         decisions: last.decisions,
         lowest: cycled.lowest,
         end: last.clock,
         overrun: last.overrun,
         late: last.late,
     };
-    Counted {
-        totals: with_line(totals, &line),
-        line,
-    }
+    Ok(Rehearsed {
+        totals: with_ran(totals, ran),
+        ran,
+    })
 }

@@ -51,7 +51,7 @@ fn next_frame<S: Read>(
 {
     let bytes = opened.frame_bytes;
     let read = read_from(recording, &mut frame[..bytes])?;
-    Ok(recording::rehearse(
+    let outcome = recording::rehearse(
         totals,
         opened.n,
         opened.levels,
@@ -59,7 +59,8 @@ fn next_frame<S: Read>(
         worst,
         bounds,
         &frame[..read],
-    ))
+    );
+    Ok(Counted::of(totals, outcome))
 }
 
 // The totals before the first frame.
@@ -118,7 +119,7 @@ pub fn rehearse<S: Read + Seek, W: Write>(
     let mut limits = [0i32; 512];
     let mut worst = [0u32; 512];
     let mut bounds = [0i32; 8192];
-    let opened = recording::open(
+    let opened = Opened::from(recording::open(
         image,
         policy,
         files::file_length(&mut *recording),
@@ -126,7 +127,7 @@ pub fn rehearse<S: Read + Seek, W: Write>(
         &mut limits,
         &mut worst,
         &mut bounds,
-    );
+    ));
     if opened.refusal.number != 0 {
         return Ok(print_lines::put_fault(out, 0, opened.refusal));
     }

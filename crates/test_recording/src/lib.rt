@@ -39,7 +39,7 @@ fn open<R: Print>(rt: &R, image: &[u8], row: [u32; 24]) -> io::Result<()> {
     let b = part(row[2], 6);
     let c = part(row[3], 6);
     let d = part(row[4], 96);
-    let opened = recording::open(
+    let opened = Opened::from(recording::open(
         image,
         test_kit::year(row[5]),
         count(row[0]),
@@ -47,7 +47,7 @@ fn open<R: Print>(rt: &R, image: &[u8], row: [u32; 24]) -> io::Result<()> {
         &mut limits[0..b],
         &mut worst[0..c],
         &mut bounds[0..d],
-    );
+    ));
     say_opened(rt, opened)?;
     say(
         rt,
@@ -108,18 +108,16 @@ fn rehearse<R: Print>(
 ) -> io::Result<()> {
     let frame = frame_of(row, 10, 1);
     let bytes = part(row[9], 256);
-    say_counted(
-        rt,
-        recording::rehearse(
-            totals,
-            count(row[4]),
-            count(row[5]),
-            limits,
-            worst,
-            bounds,
-            &frame[0..bytes],
-        ),
-    )
+    let outcome = recording::rehearse(
+        totals,
+        count(row[4]),
+        count(row[5]),
+        limits,
+        worst,
+        bounds,
+        &frame[0..bytes],
+    );
+    say_counted(rt, Counted::of(totals, outcome))
 }
 
 fn say_counted<R: Print>(rt: &R, counted: Counted) -> io::Result<()> {
@@ -163,7 +161,7 @@ fn open_and_tell<R: Print>(rt: &R, image: &[u8], row: [u32; 24]) -> io::Result<(
     let mut limits = [0i32; 512];
     let mut worst = [0u32; 512];
     let mut bounds = [0i32; 8192];
-    let opened = recording::open(
+    let opened = Opened::from(recording::open(
         image,
         rules::POLICY_2008,
         0,
@@ -171,7 +169,7 @@ fn open_and_tell<R: Print>(rt: &R, image: &[u8], row: [u32; 24]) -> io::Result<(
         &mut limits,
         &mut worst,
         &mut bounds,
-    );
+    ));
     let frame = frame_of(row, 0, opened.levels);
     let none = Totals {
         frames: 0,
@@ -181,13 +179,12 @@ fn open_and_tell<R: Print>(rt: &R, image: &[u8], row: [u32; 24]) -> io::Result<(
     };
     let n = opened.n;
     let levels = opened.levels;
-    let once = recording::rehearse(none, n, levels, &limits, &worst, &bounds, &frame);
+    let first = recording::rehearse(none, n, levels, &limits, &worst, &bounds, &frame);
+    let once = Counted::of(none, first);
     let totals = once.totals;
     say_counted(rt, once)?;
-    say_counted(
-        rt,
-        recording::rehearse(totals, n, levels, &limits, &worst, &bounds, &frame),
-    )
+    let second = recording::rehearse(totals, n, levels, &limits, &worst, &bounds, &frame);
+    say_counted(rt, Counted::of(totals, second))
 }
 
 // A frame of 64 durations: those of a row from one of its numbers on, each as often as there are levels.

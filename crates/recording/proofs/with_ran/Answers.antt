@@ -3,8 +3,9 @@ use native.Mathlib.Numerals.{add-one}
 use native.Mathlib.Omega.{arith}
 use Rattle.rules.specs.Recording.{with_frame}
 use Rattle.rules.proofs.Recording.{in_range-exact}
+use Rattle.run.proofs.Ranges.{mark-number}
 use Rattle.recording.specs.Recording.{totals_of}
-use Rattle.recording.proofs.with_line.Goals as goal
+use Rattle.recording.proofs.with_ran.Goals as goal
 
 pub overflow_add-result-2 : goal.overflow_add-result-2
 overflow_add-result-2 c =
@@ -12,12 +13,12 @@ overflow_add-result-2 c =
 
 pub overflow_add-result-3 : goal.overflow_add-result-3
 overflow_add-result-3 c =
-    omega (arith, (in_range-exact (totals_of c.args.totals)).0 c.requires.0, c.requires.1, c.one_if.ensures.1)
+    omega (arith, (in_range-exact (totals_of c.args.totals)).0 c.requires.0, c.requires.1, mark-number c.args.ran.overrun)
 
 pub overflow_add-result-4 : goal.overflow_add-result-4
 overflow_add-result-4 c =
-    omega (arith, (in_range-exact (totals_of c.args.totals)).0 c.requires.0, c.requires.1, c.one_if-2.ensures.1)
+    omega (arith, (in_range-exact (totals_of c.args.totals)).0 c.requires.0, c.requires.1, mark-number c.args.ran.late)
 
 pub returns : goal.returns
 unfolding with_frame
-returns c = rw (add-one, c.one_if.ensures.0, c.one_if-2.ensures.0)
+returns c = rw (add-one, c.from.ensures, c.from-2.ensures, (mark-number c.args.ran.overrun).0, (mark-number c.args.ran.late).0)
