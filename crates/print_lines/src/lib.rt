@@ -10,7 +10,7 @@ ghost use Rattle.text.specs.Put.{Puts};
 ghost use Rattle.print_lines.specs.Lines.{four_line, refused_text, fault_said, fault_text};
 
 pub use rehearse::{put_line, put_totals};
-use rules::Fault;
+use rules::{Fault, Reason};
 use text::{put_byte, put_bytes, put_number};
 
 // A number and the byte after it: a space or a newline.
@@ -49,10 +49,10 @@ pub fn put_said(out: &mut [u8], at: usize, fault: Fault) -> usize
 {
     let word = put_bytes(&mut *out, at, b"refused ");
     let number = put_number(&mut *out, word, fault.number);
-    if fault.number < rules::REFUSED_SPARE {
+    if fault.number < Reason::Spare as u32 {
         return number;
     }
-    if rules::REFUSED_LOOP < fault.number {
+    if (Reason::Loop as u32) < fault.number {
         return number;
     }
     let space = put_byte(&mut *out, number, b' ');

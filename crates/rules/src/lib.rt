@@ -106,7 +106,7 @@ pub struct Counts {
 
 // ---- refusals
 
-// Why a call is refused. Each reason has a number of its own, which C and the programs say.
+// Why a call is refused. Each reason has a number of its own, which C and the programs say: `refused_short` to `refused_policy` of specs/Numbers.
 #[derive(Clone, Copy, PartialEq, Eq)]
 pub enum Reason {
     Short = 1,
@@ -179,46 +179,6 @@ pub struct Fault {
 
 // The action where none is at fault: the number after the last that an action can have.
 pub const NO_ACTION: u32 = 64;
-
-pub const REFUSED_SHORT: u32 = 1;
-
-pub const REFUSED_VERSION: u32 = 2;
-
-pub const REFUSED_COUNT: u32 = 3;
-
-pub const REFUSED_LENGTH: u32 = 4;
-
-pub const REFUSED_SPARE: u32 = 5;
-
-pub const REFUSED_RANGE: u32 = 6;
-
-pub const REFUSED_TABLE: u32 = 7;
-
-pub const REFUSED_LOOP: u32 = 8;
-
-pub const REFUSED_UNFIT: u32 = 9;
-
-pub const REFUSED_FINISHED: u32 = 10;
-
-pub const REFUSED_TURN: u32 = 11;
-
-pub const REFUSED_BACK: u32 = 12;
-
-pub const REFUSED_CLOCK: u32 = 13;
-
-pub const REFUSED_TRACE: u32 = 14;
-
-pub const REFUSED_NAME: u32 = 15;
-
-pub const REFUSED_DURATION: u32 = 16;
-
-pub const REFUSED_ROOM: u32 = 17;
-
-pub const REFUSED_READING: u32 = 18;
-
-pub const REFUSED_REPEATS: u32 = 19;
-
-pub const REFUSED_POLICY: u32 = 20;
 
 impl From<Reason> for Refusal {
     ghost from_gives = { λ reason refusal. refusal.number ≡ number_of reason };

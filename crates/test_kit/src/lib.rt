@@ -9,7 +9,7 @@ ghost use Rattle.io.specs.Counts.{IsPrefixLen};
 ghost use Rattle.rules.specs.Numbers.{policy_2008};
 ghost use Rattle.text.specs.Words.{from_word, digits_say, capped};
 
-use rules::Fault;
+use rules::{Fault, Reason};
 use std::io;
 use std::rt::Files;
 use text::put_bytes;
@@ -134,7 +134,7 @@ pub fn say_number<P: Print>(rt: &P, words: &[u8], n: u32) -> io::Result<()> {
 // The words, and the refusal of an image: its number, with 5 to 8 the action at fault too.
 pub fn say_fault<P: Print>(rt: &P, words: &[u8], fault: Fault) -> io::Result<()> {
     say_number(rt, words, fault.number)?;
-    if (rules::REFUSED_SPARE <= fault.number) & (fault.number <= rules::REFUSED_LOOP) {
+    if (Reason::Spare as u32 <= fault.number) & (fault.number <= Reason::Loop as u32) {
         say_number(rt, b" ", fault.action)?;
     }
     Ok(())
