@@ -25,24 +25,24 @@ module _ {b : Body} {T : LentBody} {place after t longest : ℕ} {f : Fit} (h : 
     length-is = omega (arith, long, rest-left h.summarised.counts.some_action s)
 
     -- the level fits where the coast begins
-    first_fits : t + mix_from b (rest_lent b T) x (f.levels - 1) ≤ b.cycle
+    first_fits : t + mix_from b (rest_lent b T) x f.level ≤ b.cycle
     unfolding lent_plan
     first_fits = omega (
       arith,
-      (time_at-most _ (pos b.cycle)).0 ((time-less t (pos b.cycle) (mix_from b (rest_lent b T) x (f.levels - 1))).0 (record { le = pass _ (h.fits x s) })),
+      (time_at-most _ (pos b.cycle)).0 ((time-less t (pos b.cycle) (mix_from b (rest_lent b T) x f.level)).0 (record { le = pass _ (h.fits x s) })),
     )
 
     -- at the top level, with room at its last position too
-    pub long_granted : f.levels ≡ b.levels → t + last_mix b (rest_lent b T) x (f.levels - 1) longest ≤ b.cycle
-        → longest - 1 ≡ left_granted longest_coast (lent_plan b T) t x (f.levels - 1)
+    pub long_granted : f.level + 1 ≡ b.levels → t + last_mix b (rest_lent b T) x f.level longest ≤ b.cycle
+        → longest - 1 ≡ left_granted longest_coast (lent_plan b T) t x f.level
     long_granted top room =
         let all : longest ≡ suc (longest - 1) = omega (arith, some) in
-        granted_ends b T t x (f.levels - 1) (longest - 1) s.present
-        (subst (Ends b T t x (f.levels - 1)) all (record { top = omega (arith, top); longest = length-is; room = omega (arith, room, first_fits) }))
+        granted_ends b T t x f.level (longest - 1) s.present
+        (subst (Ends b T t x f.level) all (record { top = omega (arith, top); longest = length-is; room = omega (arith, room, first_fits) }))
 
     -- else each position tells
-    pub each_granted : (f.levels ≡ b.levels → b.cycle < t + last_mix b (rest_lent b T) x (f.levels - 1) longest) → {left : ℕ}
-        → left ≡ left_granted longest_coast (lent_each b T) t x (f.levels - 1) → left ≡ left_granted longest_coast (lent_plan b T) t x (f.levels - 1)
-    each_granted late e = e ∙ granted_each b T t x (f.levels - 1) s.present (λ E.
-        let there = subst (Ends b T t x (f.levels - 1)) (sym length-is) E in
-        omega (arith, there.room, late (omega (arith, there.top, h.level, h.some))))
+    pub each_granted : (f.level + 1 ≡ b.levels → b.cycle < t + last_mix b (rest_lent b T) x f.level longest) → {left : ℕ}
+        → left ≡ left_granted longest_coast (lent_each b T) t x f.level → left ≡ left_granted longest_coast (lent_plan b T) t x f.level
+    each_granted late e = e ∙ granted_each b T t x f.level s.present (λ E.
+        let there = subst (Ends b T t x f.level) (sym length-is) E in
+        omega (arith, there.room, late (omega (arith, there.top, h.level))))

@@ -1,5 +1,5 @@
 -- What a decision of a body repeated is, and what its functions need.
-use Rattle.std.specs.Prelude.{ℕ, suc, ◌+◌, ◌-◌, ◌*◌, ◌≤◌, ◌<◌, ◌≡◌, Bool, true, false, not, cond, ◌&&◌, ◌||◌, List, [], ◌⊎◌, ltb, pos, length, get_or}
+use Rattle.std.specs.Prelude.{ℕ, suc, ◌+◌, ◌-◌, ◌*◌, ◌≤◌, ◌<◌, ◌≡◌, Bool, true, false, not, ◌&&◌, ◌||◌, List, [], ◌⊎◌, ltb, pos, length, get_or, Option, Some, None}
 use Rattle.std.specs.Int.Signed.{le_z}
 use Rattle.rules.specs.Numbers.{most_actions, most_levels, longest_coast, summary_numbers}
 use Rattle.rules.specs.Words.{sum}
@@ -29,10 +29,6 @@ pub record Chooses (P : Plan) (t x : ℕ) (c : Choice) : Type 0 where
 abbrev pub most_cells : ℕ
 most_cells = most_actions * most_levels
 
--- the levels up to the greatest that fits; none where none fits
-abbrev pub fitting_levels : Plan → ℕ → ℕ → ℕ
-fitting_levels P t x = cond (fits P t x) (suc (level_given P t x)) 0
-
 -- a place of a body and fewer bodies after it than there are repeats, with the summaries lent as long as the body says
 pub record Summarised (b : Body) (summaries : List ℕ) (place after : ℕ) : Type 0 where
   pub counts : CountsIn b
@@ -40,11 +36,17 @@ pub record Summarised (b : Body) (summaries : List ℕ) (place after : ℕ) : Ty
   pub inside : place < b.n
   pub fewer : after < b.repeats
 
--- The levels that fit, whichever position stands there, and the room at the greatest of them.
-pub record Fits (b : Body) (summaries : List ℕ) (place after t : ℕ) (f : Fit) : Type 0 where
-  pub levels : (x : ℕ) → Standing b x place after
-      → f.levels ≡ fitting_levels (lent_plan b (record { order = []; summaries = summaries; worst = [] })) t x
-  pub own : 0 < f.levels → f.own ≡ room_left b.cycle t (later_of b.policy (stretch_at summaries (f.levels - 1)) after)
+-- The greatest level that fits, whichever position stands there, and the room at it.
+pub record Greatest (b : Body) (summaries : List ℕ) (place after t : ℕ) (f : Fit) : Type 0 where
+  pub fits : (x : ℕ) → Standing b x place after → fits (lent_plan b (record { order = []; summaries = summaries; worst = [] })) t x ≡ true
+  pub level : (x : ℕ) → Standing b x place after → f.level ≡ level_given (lent_plan b (record { order = []; summaries = summaries; worst = [] })) t x
+  pub own : f.own ≡ room_left b.cycle t (later_of b.policy (stretch_at summaries f.level) after)
+
+-- with none, no level fits
+abbrev pub Fits : Body → List ℕ → ℕ → ℕ → ℕ → Option Fit → Type 0
+Fits b summaries place after t None =
+    (x : ℕ) → Standing b x place after → fits (lent_plan b (record { order = []; summaries = summaries; worst = [] })) t x ≡ false
+Fits b summaries place after t (Some f) = Greatest b summaries place after t f
 
 -- a level, and a time, before the bodies that come after some place
 pub record MayRise (b : Body) (summaries : List ℕ) (q after t : ℕ) : Type 0 where
@@ -133,13 +135,12 @@ pub record Walks (b : Body) (summaries worst : List ℕ) (r : Reached) (stop q :
 pub record MayGrant (b : Body) (T : LentBody) (place after : ℕ) (f : Fit) (t : ℕ) : Type 0 where
   pub summarised : Summarised b T.summaries place after
   pub timed : b.n * b.levels ≤ length T.worst
-  pub some : 0 < f.levels
-  pub level : f.levels - 1 < b.levels
+  pub level : f.level < b.levels
   pub early : t ≤ last_start
-  pub rooms : Fits b T.summaries place after t f
-  pub fits : (x : ℕ) → Standing b x place after → le_z (pos t) ((lent_plan b T).limit x (f.levels - 1)) ≡ true
-  pub none_above : (x : ℕ) → Standing b x place after → suc (f.levels - 1) < b.levels
-      → le_z (pos t) ((lent_plan b T).limit x (suc (f.levels - 1))) ≡ false
+  pub rooms : Greatest b T.summaries place after t f
+  pub fits : (x : ℕ) → Standing b x place after → le_z (pos t) ((lent_plan b T).limit x f.level) ≡ true
+  pub none_above : (x : ℕ) → Standing b x place after → suc f.level < b.levels
+      → le_z (pos t) ((lent_plan b T).limit x (suc f.level)) ≡ false
 
 -- a place and a time, with the summaries and the worst times
 pub record MayChoose (b : Body) (T : LentBody) (place after t : ℕ) : Type 0 where

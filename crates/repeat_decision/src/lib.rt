@@ -14,7 +14,7 @@ use repeat_limits::{Room, has_room, last_reach, room_before, room_nearer, taken}
 use rules::Body;
 
 // What a decision takes: the level, what it leaves to coast, and whether no level fits.
-#[derive(Drop)]
+#[derive(Clone, Copy)]
 pub struct Choice {
     pub level: u32,
     pub left: u8,
@@ -23,29 +23,27 @@ pub struct Choice {
 
 // ---- the level
 
-// How many levels there are up to the greatest that fits at a time, with the room at that level; 0 where none does.
+// A level that fits at a time, with the room at it.
 #[derive(Clone, Copy)]
 struct Fit {
-    levels: usize,
+    level: usize,
     own: Room,
 }
 
-fn fitting(body: Body, summaries: &[u32], place: usize, after: u32, t: u64) -> Fit
+// The greatest that does, if there is one.
+fn fitting(body: Body, summaries: &[u32], place: usize, after: u32, t: u64) -> Option<Fit>
     requires { Summarised body summaries.now place after × (t ≤ last_start) }
     ensures { Fits body summaries.now place after t result }
 {
     let levels = body.levels as usize;
     let row = place * levels;
-    let mut q = levels;
-    while 0 < q {
-        let own = room_before(body.policy, summaries, q - 1, after as u64, body.cycle, t);
-        if has_room(summaries, row + q - 1, own) {
-            return Fit { levels: q, own };
+    for level in (0..levels).rev() {
+        let own = room_before(body.policy, summaries, level, after as u64, body.cycle, t);
+        if has_room(summaries, row + level, own) {
+            return Some(Fit { level, own });
         }
-        q -= 1;
     }
-    let own = Room { mix: 0, average: 0 };
-    Fit { levels: 0, own }
+    None
 }
 
 // The room at the level above one, if there is such a level. It is worked out for the level given alone: of the levels that do not fit, the averages
@@ -174,18 +172,12 @@ fn along(
     here
 }
 
-fn lesser(a: usize, b: usize) -> usize
-    ensures { result ≡ min a b }
-{
-    if a < b { a } else { b }
-}
-
 // The lesser of the longest coast and what is left of the frame: `own` of this body, and the bodies after it.
 fn most(n: usize, own: usize, after: u32) -> usize
     requires { (n ≤ most_actions) × (own ≤ most_actions) × (after < most_repeats) }
     ensures { result ≡ min longest_coast (after * n + own) }
 {
-    lesser(rules::LONGEST_COAST, after as usize * n + own)
+    rules::LONGEST_COAST.min(after as usize * n + own)
 }
 
 // What a decision leaves to coast for the level given, read at each position: one less than the greatest r that qualifies. It is found from below, body
@@ -205,10 +197,10 @@ fn left_walked(
         × (longest ≡ min longest_coast (after * body.n + (body.n - place))) }
     ensures { (x : ℕ) → Standing body x place after
         → result ≡ left_granted longest_coast
-        (lent_each body (record { order = []; summaries = summaries.now; worst = worst.now })) t x (fit.levels - 1) }
+        (lent_each body (record { order = []; summaries = summaries.now; worst = worst.now })) t x fit.level }
 {
     let levels = body.levels as usize;
-    let level = fit.levels - 1;
+    let level = fit.level;
     let cells = body.n as usize * levels;
     let end = longest - 1;
     let first = place * levels + level;
@@ -227,7 +219,7 @@ fn left_walked(
     );
     while 0 < here.rest {
         here = in_body(body, summaries, here, level);
-        let stop = lesser(here.entry + here.rest * levels, cells + level);
+        let stop = (here.entry + here.rest * levels).min(cells + level);
         here = along(body, summaries, worst, here, stop, level);
         if here.entry < stop {
             return (end - here.rest) as u8;
@@ -250,12 +242,12 @@ fn left_granted(
     requires { MayGrant body (record { order = []; summaries = summaries.now; worst = worst.now }) place after fit t }
     ensures { (x : ℕ) → Standing body x place after
         → result ≡ left_granted longest_coast
-        (lent_plan body (record { order = []; summaries = summaries.now; worst = worst.now })) t x (fit.levels - 1) }
+        (lent_plan body (record { order = []; summaries = summaries.now; worst = worst.now })) t x fit.level }
 {
     let n = body.n as usize;
     let longest = most(n, n - place, after);
-    if fit.levels == body.levels as usize {
-        let last = last_reach(body, summaries, place, after, fit.levels - 1, longest);
+    if fit.level + 1 == body.levels as usize {
+        let last = last_reach(body, summaries, place, after, fit.level, longest);
         if t + last <= body.cycle as u64 {
             return (longest - 1) as u8;
         }
@@ -278,17 +270,16 @@ pub fn choose(
     ensures { (x : ℕ) → Standing body x place after
         → Chooses (lent_plan body (record { order = []; summaries = summaries.now; worst = worst.now })) t x result }
 {
-    let fit = fitting(body, summaries, place, after, t);
-    if fit.levels == 0 {
+    let Some(fit) = fitting(body, summaries, place, after, t) else {
         return Choice {
             level: 0,
             left: 0,
             late: true,
         };
-    }
+    };
     let left = left_granted(body, summaries, worst, place, after, fit, t);
     Choice {
-        level: (fit.levels - 1) as u32,
+        level: fit.level as u32,
         left,
         late: false,
     }

@@ -22,7 +22,7 @@ module _ {b : Body} {T : LentBody} {place after longest t : ℕ} {f : Fit} (h : 
     (long : longest ≡ min longest_coast (after * b.n + (b.n - place))) where
   -- what stays
   setting : ((k : ℕ) → Fits w32 (get_or T.summaries k 0)) → ((k : ℕ) → Fits w32 (get_or T.worst k 0))
-      → Setting b T place after t (f.levels - 1) (longest - 1)
+      → Setting b T place after t f.level (longest - 1)
   setting numbers times = record {
     summarised = h.summarised;
     timed = h.timed;
@@ -34,7 +34,7 @@ module _ {b : Body} {T : LentBody} {place after longest t : ℕ} {f : Fit} (h : 
   }
 
   -- the entry of the decision
-  first-in : place * b.levels + (f.levels - 1) < b.n * b.levels
+  first-in : place * b.levels + f.level < b.n * b.levels
   first-in = omega (arith, row h.summarised, h.level)
 
   few-cells : (b.n * b.levels ≤ most_cells) × (b.levels ≤ most_levels)
@@ -45,13 +45,13 @@ onward-here-requires c =
     let h = c.requires in
     let S = setting h.0 h.1 c.type_inv.summaries c.type_inv.worst in
     let cells = few-cells h.0 h.1 in
-    (cells.1, omega (arith, first-in h.0 h.1, cells), omega arith, first-near S (h.0.rooms.own h.0.some) c.room_above-above.ensures _ (S.few_times _))
+    (cells.1, omega (arith, first-in h.0 h.1, cells), omega arith, first-near S h.0.rooms.own c.room_above-above.ensures _ (S.few_times _))
 
 pub loop-here-init : goal.loop-here-init
 loop-here-init c =
     let h = c.requires in
     let S = setting h.0 h.1 c.type_inv.summaries c.type_inv.worst in
-    (S, coast_moved S c.onward-here.ensures (first-coast S (h.0.rooms.own h.0.some) c.room_above-above.ensures h.0.fits h.0.none_above))
+    (S, coast_moved S c.onward-here.ensures (first-coast S h.0.rooms.own c.room_above-above.ensures h.0.fits h.0.none_above))
 
 -- ---- in the loop
 
@@ -63,24 +63,24 @@ looked c = let l = c.loop-here.invariant in looking l.0 l.1 c.loop-here-test.tru
 
 pub along-here-requires : goal.along-here-requires
 along-here-requires c =
-    rw c.lesser-stop.ensures (may_walk c.loop-here.invariant.0 (looked (goal.at.along-here-requires c).After-in_body-here).0)
+    rw c.min-stop.ensures (may_walk c.loop-here.invariant.0 (looked (goal.at.along-here-requires c).After-in_body-here).0)
 
 -- where the walk ends
 walk : (c : After-along-here) → let a = c.args in let r = c.in_body-here.result in
-    Walks a.body a.summaries.now a.worst.now r (stop_from a.body r (a.fit.levels - 1)) (a.fit.levels - 1) c.along-here.result
-walk c = rw c.lesser-stop.ensures at c.along-here.ensures
+    Walks a.body a.summaries.now a.worst.now r (stop_from a.body r a.fit.level) a.fit.level c.along-here.result
+walk c = rw c.min-stop.ensures at c.along-here.ensures
 
 pub returns-then-here-stop : goal.returns-then-here-stop
 returns-then-here-stop c x s =
     let S = c.loop-here.invariant.0 in
     let L = (looked (goal.at.returns-then-here-stop c).After-in_body-here).0 in
-    stops_at S L (walk (goal.at.returns-then-here-stop c).After-along-here) (omega (arith, c.if-here-stop.true, c.lesser-stop.ensures)) x s
+    stops_at S L (walk (goal.at.returns-then-here-stop c).After-along-here) (omega (arith, c.if-here-stop.true, c.min-stop.ensures)) x s
 
 pub loop-here-preserved : goal.loop-here-preserved
 loop-here-preserved c =
     let S = c.loop-here.invariant.0 in
     let L = (looked (goal.at.loop-here-preserved c).After-in_body-here).0 in
-    (S, (again S L (walk (goal.at.loop-here-preserved c).After-along-here) (omega (arith, c.if-here-stop.false, c.lesser-stop.ensures))).0)
+    (S, (again S L (walk (goal.at.loop-here-preserved c).After-along-here) (omega (arith, c.if-here-stop.false, c.min-stop.ensures))).0)
 
 -- ---- after it
 
