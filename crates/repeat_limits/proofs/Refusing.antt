@@ -12,9 +12,6 @@ use lib.ListN.{length}
 use borrow.Author.Tests.{eq-eqb, ne_eqb, ltb-false, leb-false}
 use Rattle.rules.specs.Numbers.{most_actions, most_levels, last_clock, most_repeats, longest_coast, policy_2008, policy_2005, summary_numbers, refused_count, refused_room, refused_reading, refused_repeats}
 use Rattle.rules.specs.Refusals.{Test, ◌if◌, first, UnknownPolicy}
-use Rattle.rules.specs.Reasons.{number_of}
-use Rattle.rules.specs.declared.Reason.{Reason}
-use Rattle.rules.specs.declared.Reason.TheVariants.{Short, Version, Count, Length, Spare, Range, Table, Loop, Unfit, Finished, Turn, Back, Clock, Trace, Name, Duration, Room, Reading, Repeats, Policy}
 use Rattle.rules.specs.Repeat.{LentBody, positions, body_tests, known_tests, body_limit_refusal, body_bound_refusal}
 use Rattle.rules.specs.declared.Body.{Body}
 use Rattle.rules.proofs.Tests.{neither}
@@ -26,29 +23,6 @@ use Rattle.repeat_limits.specs.Limits.{CountsIn, Stands, Summed}
 clear : (b : Bool) (k m : ℕ) → 0 < k → 0 ≡ cond b k m → (b ≡ false) × (0 ≡ m)
 clear true k m p e = absurd (omega arith)
 clear false k m p e = (refl, e)
-
--- a reason has a number
-pub some-number : (r : Reason) → number_of r ≢ 0
-some-number Short e = absurd (omega arith)
-some-number Version e = absurd (omega arith)
-some-number Count e = absurd (omega arith)
-some-number Length e = absurd (omega arith)
-some-number Spare e = absurd (omega arith)
-some-number Range e = absurd (omega arith)
-some-number Table e = absurd (omega arith)
-some-number Loop e = absurd (omega arith)
-some-number Unfit e = absurd (omega arith)
-some-number Finished e = absurd (omega arith)
-some-number Turn e = absurd (omega arith)
-some-number Back e = absurd (omega arith)
-some-number Clock e = absurd (omega arith)
-some-number Trace e = absurd (omega arith)
-some-number Name e = absurd (omega arith)
-some-number Duration e = absurd (omega arith)
-some-number Room e = absurd (omega arith)
-some-number Reading e = absurd (omega arith)
-some-number Repeats e = absurd (omega arith)
-some-number Policy e = absurd (omega arith)
 
 -- ---- the body
 

@@ -7,24 +7,28 @@ use mathlib.Core.Logic.{inl, inr, ◌≢◌, ◌↔◌}
 use native.Mathlib.Omega.{arith}
 use lib.Dec.{lit<}
 use lib.ListN.{length}
-use Rattle.rules.specs.Numbers.{most_repeats, refused_unfit, refused_room, refused_repeats, refused_policy}
+use Rattle.rules.specs.Numbers.{most_actions, most_repeats, refused_unfit, refused_room, refused_repeats, refused_policy}
+use Rattle.std.specs.Prelude.{None, Ok, Err}
 use Rattle.rules.specs.Words.{Some, sum}
 use Rattle.rules.specs.Image.{Profile, profile}
 use Rattle.rules.specs.Order.{Order}
-use Rattle.rules.specs.Refusals.{Ground, ◌when◌, First, Count, Range, Table, Looped, Unfit, Length, Tight, UnknownPolicy, kept, loop_checks}
-use Rattle.rules.specs.Repeat.{unrolled, OwnDeadline, Repeats, LentBody, no_body, body_checks, body_call}
+use Rattle.rules.specs.Refusals.{Ground, ◌when◌, First, Refuses, Count, Range, Table, Looped, Unfit, Length, Tight, UnknownPolicy, loop_checks}
+use Rattle.rules.specs.Reasons.{number_of, fault_of}
+use Rattle.rules.specs.declared.Reason.{Reason}
+use Rattle.rules.specs.declared.Blame.{Blame}
+use Rattle.rules.specs.Repeat.{unrolled, OwnDeadline, Repeats, LentBody, body_checks, body_call}
 use Rattle.rules.proofs.Differences.{not-above}
-use Rattle.rules.proofs.Refusals.{Numbered, Blameless, first_stops, first-goes_on, first_parts, first-none, handed_on, loop-numbered}
+use Rattle.rules.proofs.Refusals.{Numbered, Blameless, first_stops, first-goes_on, first_parts, first-none, blameless, refuses-stops, refuses-goes_on, loop-numbered}
+use Rattle.rules.proofs.Reasons.{some_number}
 use Rattle.image_fields.specs.Reading.{HasRecords}
 use Rattle.image_fields.proofs.Reading.{has-records}
 use Rattle.image_check.specs.declared.Checked.{Checked}
-use Rattle.image_check.specs.Checks.{BodyAnswers}
-use Rattle.planner.proofs.Answers.{kept-old, kept_new, by_number, first-both}
+use Rattle.image_check.specs.Checks.{CheckAnswers}
+use Rattle.planner.proofs.Answers.{kept-old, by_number}
 use Rattle.repeat_laws.proofs.Fits.{unfit-exact}
 use Rattle.repeat_tables.specs.Summing.{BodyInput, SomeBodyInput, EntriesFit, BodyFilled}
-use Rattle.repeat_planner.specs.declared.BodyPlanned.{BodyPlanned}
-use Rattle.repeat_planner.specs.Admitting.{Passed, Admits}
-use Rattle.repeat_planner.specs.PlanningBody.{body_rooms, PlansBody}
+use Rattle.repeat_planner.specs.Admitting.{Passed}
+use Rattle.repeat_planner.specs.PlanningBody.{body_rooms, body_planned, PlansBody}
 
 -- ---- 1 to 8
 
@@ -96,39 +100,23 @@ clear s N policy rooms p = elim (first_parts (loop_checks s) rest 0 (loop-number
 
 -- ---- by what a check answers: refused, or what comes after it
 
--- What comes after it blames no action, so the action is its own.
-module _ {row : List Ground} {s : List ℕ} {r : Checked} (a : Admits row s r) (rest : List Ground) (no_blame : Blameless rest) where
-  pub admits_stops : r.refusal.number ≢ 0 → Admits (row ++ rest) s r
-  admits_stops some =
-      let number = first_stops row rest r.refusal.number a.number some in
-      record { number = number; action = handed_on row rest _ _ no_blame a.action number; found = λ none. absurd (some none) }
+-- What comes after it blames no action.
+module _ {row : List Ground} {s : List ℕ} (rest : List Ground) (no_blame : Blameless rest) where
+  pub stopped : {b : Blame} → CheckAnswers row s (Err b) → CheckAnswers (row ++ rest) s (Err b)
+  stopped {b} a = record { given = refuses-stops row rest (fault_of b) a.given (some_number _); accepted = tt }
 
-  pub admits_on : {k : ℕ} → Numbered row → r.refusal.number ≡ 0 → First rest k
-      → Admits (row ++ rest) s (record {
-        refusal = record { number = k; action = r.refusal.action };
-        n = r.n;
-        levels = r.levels;
-        cycle = r.cycle;
-        order = r.order;
-        unfit = r.unfit;
-      })
-  admits_on {k} m none p =
-      let found = a.found none in
-      let number = first-goes_on row rest k m (rw none at a.number) p in
-      record {
-        number = number;
-        action = handed_on row rest _ _ no_blame a.action number;
-        found = λ _. record { n = found.n; levels = found.levels; cycle = found.cycle; order = found.order; rest = found.rest };
-      }
+  module _ {r : Checked} (m : Numbered row) (a : CheckAnswers row s (Ok r)) where
+    given_on : (k : ℕ) → First rest k → Refuses (row ++ rest) (record { number = k; action = most_actions })
+    given_on k p = refuses-goes_on row rest _ m a.given.number (blameless rest k no_blame p)
 
--- the check up to 8
-pub body_admits : {s : List ℕ} {r : Checked} → BodyAnswers (loop_checks s) s r → Admits (loop_checks s) s r
-body_admits a = record { number = a.answers.number; action = a.answers.action; found = a.answers.accepted }
+    pub refused_on : (reason : Reason) → First rest (number_of reason) → CheckAnswers (row ++ rest) s (Err (record { reason = reason; action = None }))
+    refused_on reason p = record { given = given_on (number_of reason) p; accepted = tt }
 
-pub passed : {s : List ℕ} {r : Checked} → BodyAnswers (loop_checks s) s r → r.refusal.number ≡ 0 → Passed s r.n r.levels r.cycle
-passed a none =
-    let found = a.answers.accepted none in
-    record { none = rw none at a.answers.number; n_is = found.n; levels_are = found.levels; cycle_is = found.cycle }
+    pub passed_on : First rest 0 → CheckAnswers (row ++ rest) s (Ok r)
+    passed_on p = record { given = given_on 0 p; accepted = a.accepted }
+
+pub passed : {s : List ℕ} {r : Checked} → CheckAnswers (loop_checks s) s (Ok r) → Passed s r.n r.levels r.cycle
+passed a = record { none = a.given.number; n_is = a.accepted.n; levels_are = a.accepted.levels; cycle_is = a.accepted.cycle }
 
 pub body-numbered : (s : List ℕ) (N : ℕ) → Numbered (body_checks s N)
 body-numbered s N = (lit< tt, (lit< tt, (lit< tt, (lit< tt, (lit< tt, (lit< tt, (lit< tt, (lit< tt, (lit< tt, (lit< tt, tt))))))))))
@@ -140,23 +128,19 @@ policy_checks s N policy = body_checks s N ++ (refused_policy when UnknownPolicy
 pub policy-numbered : (s : List ℕ) (N policy : ℕ) → Numbered (policy_checks s N policy)
 policy-numbered s N policy = (lit< tt, (lit< tt, (lit< tt, (lit< tt, (lit< tt, (lit< tt, (lit< tt, (lit< tt, (lit< tt, (lit< tt, (lit< tt, tt)))))))))))
 
--- the check with 19 and 9
-module _ {s : List ℕ} {N : ℕ} {r : Checked} (a : Admits (body_checks s N) s r) where
-  pub body-records : r.refusal.number ≡ 0 → HasRecords s r.levels r.n
-  body-records none =
-      let found = a.found none in
-      let given = (first-none (body_checks s N) (body-numbered s N)).0 (rw none at a.number) in
-      has-records s found.n found.levels given.1.1.0 given.1.1.1.0
+-- 20 and 17, of an image that the check with 19 and 9 accepts
+module _ {s : List ℕ} {N : ℕ} {r : Checked} (a : CheckAnswers (body_checks s N) s (Ok r)) (policy : ℕ) (lent : LentBody) where
+  abbrev room : List Ground
+  room = refused_room when Tight (body_rooms (profile s).n (profile s).levels lent) ∷ []
 
-  room-said : (lent : LentBody) {k : ℕ} → r.refusal.number ≡ 0 → First (refused_room when Tight (body_rooms r.n r.levels lent) ∷ []) k
-      → First (refused_room when Tight (body_rooms (profile s).n (profile s).levels lent) ∷ []) k
-  room-said lent none p = let found = a.found none in rw (found.n, found.levels) at p
+  pub policy-said : (k : ℕ) → First (refused_policy when UnknownPolicy policy ∷ []) k → k ≢ 0
+      → First (refused_policy when UnknownPolicy policy ∷ room) k
+  policy-said k p some = first_stops (refused_policy when UnknownPolicy policy ∷ []) room k p some
 
-  -- and 20 before it
-  pub own-said : (policy : ℕ) (lent : LentBody) {k m x : ℕ} → r.refusal.number ≡ 0 → First (refused_policy when UnknownPolicy policy ∷ []) k
-      → First (refused_room when Tight (body_rooms r.n r.levels lent) ∷ []) m → x ≡ kept k m k
-      → First (refused_policy when UnknownPolicy policy ∷ refused_room when Tight (body_rooms (profile s).n (profile s).levels lent) ∷ []) x
-  own-said policy lent {k} {m} none p q e = first-both (refused_policy when UnknownPolicy policy ∷ []) (refused_room when Tight (body_rooms (profile s).n (profile s).levels lent) ∷ []) k m (lit< tt, tt) p (room-said lent none q) e
+  pub room-said : (k : ℕ) → First (refused_policy when UnknownPolicy policy ∷ []) 0
+      → First (refused_room when Tight (body_rooms r.n r.levels lent) ∷ []) k → First (refused_policy when UnknownPolicy policy ∷ room) k
+  room-said k known p =
+      first-goes_on (refused_policy when UnknownPolicy policy ∷ []) room k (lit< tt, tt) known (rw (a.accepted.n, a.accepted.levels) at p)
 
 -- ---- by what all checks answer
 
@@ -164,25 +148,28 @@ module _ {s : List ℕ} {N : ℕ} {r : Checked} (a : Admits (body_checks s N) s 
 pub same_body : {x y : LentBody} → x.order ≡ y.order → x.summaries ≡ y.summaries → x.worst ≡ y.worst → x ≡ y
 same_body a b c = λ i. record { order = a i; summaries = b i; worst = c i }
 
-module _ {s : List ℕ} {N policy : ℕ} (lent : LentBody) {r : Checked} (a : Admits (body_call s N policy (body_rooms (profile s).n (profile s).levels lent)) s r) where
-  pub refused-plans : {p : BodyPlanned} → r.refusal.number ≢ 0 → p ≡ record { refusal = r.refusal; body = no_body } → PlansBody s N policy lent lent p
-  refused-plans some e = rw e (record {
-    number = a.number;
-    action = a.action;
-    body = kept-old _ _ _ some;
-    o = by_number (profile s).n;
-    the_order = λ none. absurd (some none);
-    tables_are = kept-old _ _ _ some;
-  })
+module _ {s : List ℕ} {N policy : ℕ} (lent : LentBody) where
+  pub refused-plans : (b : Blame) → CheckAnswers (body_call s N policy (body_rooms (profile s).n (profile s).levels lent)) s (Err b)
+      → PlansBody s N policy lent lent (body_planned (Err b))
+  refused-plans b a =
+      let some = some_number b.reason in
+      record {
+        number = a.given.number;
+        action = a.given.action;
+        body = kept-old _ _ _ some;
+        o = by_number (profile s).n;
+        the_order = λ none. absurd (some none);
+        tables_are = kept-old _ _ _ some;
+      }
 
-  module _ (none : r.refusal.number ≡ 0) where
+  module _ {r : Checked} (a : CheckAnswers (body_call s N policy (body_rooms (profile s).n (profile s).levels lent)) s (Ok r)) where
     -- nothing is given
     nothing : Clear s N policy (body_rooms (profile s).n (profile s).levels lent)
-    nothing = clear s N policy _ (rw none at a.number)
+    nothing = clear s N policy _ a.given.number
 
-    input : BodyInput s r.n r.levels r.order (a.found none).order.0
+    input : BodyInput s r.n r.levels r.order a.accepted.order.0
     input =
-        let found = a.found none in
+        let found = a.accepted in
         record {
           counts = nothing.body.not_count;
           long = nothing.body.not_length;
@@ -193,14 +180,14 @@ module _ {s : List ℕ} {N policy : ℕ} (lent : LentBody) {r : Checked} (a : Ad
         }
 
     pub some_input : SomeBodyInput s r.n r.levels r.order
-    some_input = ((a.found none).order.0, input)
+    some_input = (a.accepted.order.0, input)
 
     pub order_room : r.n ≤ length lent.order
-    order_room = omega (arith, (a.found none).n, not-above (λ h. nothing.room (inl h)))
+    order_room = omega (arith, a.accepted.n, not-above (λ h. nothing.room (inl h)))
 
     pub entries_room : EntriesFit (r.n * r.levels) lent
     entries_room =
-        let found = a.found none in
+        let found = a.accepted in
         rw (found.n, found.levels) (record {
           summaries_room = not-above (λ h. nothing.room (inr (inl h)));
           worst_room = not-above (λ h. nothing.room (inr (inr (inl h))));
@@ -208,19 +195,19 @@ module _ {s : List ℕ} {N policy : ℕ} (lent : LentBody) {r : Checked} (a : Ad
 
     pub few : HasRecords s r.levels r.n
     few =
-        let found = a.found none in
+        let found = a.accepted in
         has-records s found.n found.levels nothing.body.not_count nothing.body.not_length
 
     pub all_written : {after : LentBody} → ((o : Order (profile s).n) → BodyInput s r.n r.levels r.order o → BodyFilled s policy lent after o)
-        → PlansBody s N policy lent after (record { refusal = r.refusal; body = record { n = r.n; levels = r.levels; cycle = r.cycle; repeats = N; policy = policy } })
+        → PlansBody s N policy lent after (body_planned (Ok (record { n = r.n; levels = r.levels; cycle = r.cycle; repeats = N; policy = policy })))
     all_written filled =
-        let found = a.found none in
+        let found = a.accepted in
         let written = filled found.order.0 input in
         record {
-          number = a.number;
-          action = a.action;
-          body = kept_new _ _ _ none (λ i. record { n = found.n i; levels = found.levels i; cycle = found.cycle i; repeats = N; policy = policy });
+          number = a.given.number;
+          action = a.given.action;
+          body = (λ i. record { n = found.n i; levels = found.levels i; cycle = found.cycle i; repeats = N; policy = policy });
           o = found.order.0;
           the_order = λ _. found.order.1;
-          tables_are = kept_new _ _ _ none (same_body written.order_is written.summaries_are written.worst_is);
+          tables_are = (same_body written.order_is written.summaries_are written.worst_is);
         }

@@ -1,8 +1,11 @@
 -- Planning a body repeated: the order, the summaries of the rest of the body and the worst times, written to lent tables.
-use Rattle.std.specs.Prelude.{ℕ, ◌*◌, ◌≡◌, List, [], ◌∷◌, length}
-use Rattle.rules.specs.Numbers.{summary_numbers}
+use Rattle.std.specs.Prelude.{ℕ, ◌*◌, ◌≡◌, List, [], ◌∷◌, length, Result, Ok, Err}
+use Rattle.rules.specs.Numbers.{most_actions, summary_numbers}
 use Rattle.rules.specs.Image.{profile}
 use Rattle.rules.specs.Order.{Order, TheOrder}
+use Rattle.rules.specs.Reasons.{fault_of}
+use Rattle.rules.specs.declared.Blame.{Blame}
+use Rattle.rules.specs.declared.Body.{Body}
 use Rattle.rules.specs.Refusals.{First, AtFault, kept}
 use Rattle.rules.specs.Repeat.{LentBody, body_tables, body_of, no_body, body_call}
 use Rattle.fields.specs.Fields.{splice}
@@ -20,6 +23,11 @@ with_body_fronts lent new = record {
   summaries = splice lent.summaries 0 new.summaries;
   worst = splice lent.worst 0 new.worst;
 }
+
+-- What is told of planning, laid flat: what the header says, N and the policy, and with a refusal 0.
+abbrev pub body_planned : Result Body Blame → BodyPlanned
+body_planned (Ok b) = record { refusal = record { number = 0; action = most_actions }; body = b }
+body_planned (Err b) = record { refusal = fault_of b; body = no_body }
 
 -- What planning answers, and what it leaves of the lent tables: planning's at their fronts, whose tails are kept, and with a refusal all that
 -- was there. Without one the order is the body's; with one there need not be any, and o counts for nothing.

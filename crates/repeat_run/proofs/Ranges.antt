@@ -21,16 +21,17 @@ use Rattle.rules.specs.Repeat.{LentBody, positions, body_tests, body_in_range, b
 use Rattle.rules.specs.declared.Body.{Body}
 use Rattle.rules.proofs.Tests.{failed, and-true, neither}
 use Rattle.rules.proofs.Calls.{InCycle, in_cycle_facts, facts_in_cycle}
+use Rattle.rules.proofs.Reasons.{some_number}
 use Rattle.repeat_laws.proofs.Places.{place-lt}
 use Rattle.repeat_limits.specs.Limits.{CountsIn}
-use Rattle.repeat_limits.proofs.Refusing.{some-number, counts_in, Products, products}
+use Rattle.repeat_limits.proofs.Refusing.{counts_in, Products, products}
 use Rattle.repeat_run.specs.Calls.{MayDecide}
 
 -- ---- refused or not
 
 pub ok-number : {A : Type 0} (r : Result A Reason) → eqb (number r) 0 ≡ is_ok r
 ok-number (Ok _) = refl
-ok-number (Err reason) = ne_eqb _ _ (some-number reason)
+ok-number (Err reason) = ne_eqb _ _ (some_number reason)
 
 pub none-ok : {A : Type 0} (r : Result A Reason) → is_err r ≡ false → number r ≡ 0
 none-ok (Ok _) e = refl
@@ -38,7 +39,7 @@ none-ok (Err _) e = cc
 
 pub some-err : {A : Type 0} (r : Result A Reason) → is_err r ≡ true → number r ≢ 0
 some-err (Ok _) e = cc
-some-err (Err reason) e = some-number reason
+some-err (Err reason) e = some_number reason
 
 -- ---- in range
 

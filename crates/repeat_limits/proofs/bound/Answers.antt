@@ -4,8 +4,9 @@ use mathlib.Core.List.{[]}
 use native.Mathlib.Omega.{arith}
 use Rattle.std.proofs.lemmas.Result.{err_from_is_err_and}
 use Rattle.rules.specs.Repeat.{LentBody, body_bound_refusal}
+use Rattle.rules.proofs.Reasons.{some_number}
 use Rattle.repeat_laws.proofs.Standing.{place_in, fewer, rest-left}
-use Rattle.repeat_limits.proofs.Refusing.{some-number, products, Bounded, bound-bounded}
+use Rattle.repeat_limits.proofs.Refusing.{products, Bounded, bound-bounded}
 use Rattle.repeat_limits.proofs.Answers.{bound-refused, absent-is, present-is, bound_answered}
 use Rattle.repeat_limits.proofs.Rooms.{kept}
 use Rattle.repeat_limits.proofs.bound.Goals as goal
@@ -25,7 +26,7 @@ module _ (c : In_ok-bound_refusal) where
 pub returns-in_err-bound_refusal : goal.returns-in_err-bound_refusal
 returns-in_err-bound_refusal c =
     let p = err_from_is_err_and c.from_residual.result c.from_residual.ensures.1 in
-    rw (p.1, p.2) (bound-refused _ _ _ _ _ _ (some-number _) c.in_err-bound_refusal.ensures)
+    rw (p.1, p.2) (bound-refused _ _ _ _ _ _ (some_number _) c.in_err-bound_refusal.ensures)
 
 pub overflow_mul-body : goal.overflow_mul-body
 overflow_mul-body c = omega (arith, (products (bounded (goal.at.overflow_mul-body c).In_ok-bound_refusal).stands.counts).total)

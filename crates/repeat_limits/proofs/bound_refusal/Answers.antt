@@ -5,7 +5,8 @@ use native.Mathlib.Omega.{arith}
 use Rattle.std.proofs.lemmas.Result.{err_from_is_err_and}
 use Rattle.rules.specs.Refusals.{first}
 use Rattle.rules.specs.Repeat.{known_tests, body_bound_refusal}
-use Rattle.repeat_limits.proofs.Refusing.{some-number, counts_in, known-passes, Products, products, body-first, bound_passed}
+use Rattle.rules.proofs.Reasons.{some_number}
+use Rattle.repeat_limits.proofs.Refusing.{counts_in, known-passes, Products, products, body-first, bound_passed}
 use Rattle.repeat_limits.proofs.bound_refusal.Goals as goal
 use Rattle.repeat_limits.proofs.bound_refusal.Goals.{In_ok-known_refusal}
 
@@ -21,7 +22,7 @@ unfolding body_bound_refusal
 returns-in_err-known_refusal c =
     let e = c.in_err-known_refusal.ensures in
     let p = err_from_is_err_and c.from_residual.result c.from_residual.ensures.1 in
-    rw (p.1, p.2) (e ∙ body-first c.args.body _ (λ z. some-number _ (e ∙ z)))
+    rw (p.1, p.2) (e ∙ body-first c.args.body _ (λ z. some_number _ (e ∙ z)))
 
 pub overflow_mul-cells-2 : goal.overflow_mul-cells-2
 overflow_mul-cells-2 c = omega (arith, few (goal.at.overflow_mul-cells-2 c).In_ok-known_refusal)

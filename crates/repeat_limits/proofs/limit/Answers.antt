@@ -6,7 +6,8 @@ use mir.Val.{SFits}
 use mir.Facts.{to_z-of_z}
 use Rattle.std.proofs.lemmas.Result.{err_from_is_err_and}
 use Rattle.rules.specs.Repeat.{body_limit_refusal}
-use Rattle.repeat_limits.proofs.Refusing.{some-number, limit-stands}
+use Rattle.rules.proofs.Reasons.{some_number}
+use Rattle.repeat_limits.proofs.Refusing.{limit-stands}
 use Rattle.repeat_limits.proofs.Answers.{limit-refused, limit_answered}
 use Rattle.repeat_limits.proofs.limit.Goals as goal
 use Rattle.repeat_limits.proofs.limit.Goals.{After-limit_at}
@@ -14,7 +15,7 @@ use Rattle.repeat_limits.proofs.limit.Goals.{After-limit_at}
 pub returns-in_err-limit_refusal : goal.returns-in_err-limit_refusal
 returns-in_err-limit_refusal c =
     let p = err_from_is_err_and c.from_residual.result c.from_residual.ensures.1 in
-    rw (p.1, p.2) (limit-refused _ _ _ _ _ (some-number _) c.in_err-limit_refusal.ensures)
+    rw (p.1, p.2) (limit-refused _ _ _ _ _ (some_number _) c.in_err-limit_refusal.ensures)
 
 pub limit_at-requires : goal.limit_at-requires
 limit_at-requires c = limit-stands _ _ _ _ c.in_ok-limit_refusal.ensures

@@ -10,9 +10,9 @@ use mir.Val.{Fits}
 use Rattle.rules.specs.Numbers.{most_positions}
 use Rattle.rules.specs.Run.{Run, gives}
 use Rattle.rules.specs.Repeat.{LentBody, lent_each, lent_plan, action_at, body_ask_refusal, body_ask}
+use Rattle.rules.proofs.Reasons.{some_number}
 use Rattle.repeat_laws.proofs.Places.{place-lt}
 use Rattle.run.proofs.Turns.{asked-refused, asked-decided, asked_coasted}
-use Rattle.repeat_limits.proofs.Refusing.{some-number}
 use Rattle.repeat_run.specs.Calls.{steps_of}
 use Rattle.repeat_run.proofs.Ranges.{Askable, askable}
 use Rattle.repeat_run.proofs.Turns.{may_choose}
@@ -50,7 +50,7 @@ returns-in-Err-clause-answer c =
     let e = c.in-Err.ensures in
     c.refused.ensures.1 ∙ rw (sym e) (asked-refused _ (action_at r.body.n c.args.order.now r.position)
     (lent_plan r.body (record { order = c.args.order.now; summaries = c.args.summaries.now; worst = c.args.worst.now })) (steps_of r)
-    (some-number _))
+    (some_number _))
 
 pub spot_of-spot-requires : goal.spot_of-spot-requires
 spot_of-spot-requires c = let h = ready (goal.at.spot_of-spot-requires c).In_default in (h.ranged.counts, h.may.more)

@@ -5,8 +5,8 @@ use native.Mathlib.Omega.{arith}
 use lib.Dec.{ltb}
 use lib.ListN.{get_or}
 use Rattle.rules.specs.Repeat.{body_report_refusal, body_report}
+use Rattle.rules.proofs.Reasons.{some_number}
 use Rattle.run.proofs.Turns.{reported-refused, reported-ended}
-use Rattle.repeat_limits.proofs.Refusing.{some-number}
 use Rattle.repeat_run.specs.Calls.{steps_of}
 use Rattle.repeat_run.proofs.Ranges.{Reportable, reportable, cell_in}
 use Rattle.repeat_run.proofs.Turns.{left_ended}
@@ -52,7 +52,7 @@ passed-run-requires c =
 pub returns-in-Err-clause-answer : goal.returns-in-Err-clause-answer
 unfolding body_report
 returns-in-Err-clause-answer c =
-    let e = c.in-Err.ensures in rw (c.from.ensures, sym e) (reported-refused _ _ _ _ (some-number _))
+    let e = c.in-Err.ensures in rw (c.from.ensures, sym e) (reported-refused _ _ _ _ (some_number _))
 
 pub returns-clause-answer : goal.returns-clause-answer
 unfolding body_report
