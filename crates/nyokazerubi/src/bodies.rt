@@ -46,7 +46,8 @@ pub fn nyokazerubi_plan_body(
         (record { order = order.old; summaries = summaries.old; worst = worst_by_position.old })
         (record { order = order.new; summaries = summaries.new; worst = worst_by_position.new }) result }
 {
-    repeat_planner::plan(image, repeats, policy, order, summaries, worst_by_position)
+    let planned = repeat_planner::plan(image, repeats, policy, order, summaries, worst_by_position);
+    BodyPlanned::from(planned)
 }
 
 pub fn nyokazerubi_body_limit(

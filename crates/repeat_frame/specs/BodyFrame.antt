@@ -1,11 +1,13 @@
 -- A frame of a body repeated, run dry: from an image, N, a policy and n N by L durations by unrolled position to what the frame gave, with demands 2 and 3
 -- over the unrolled system as its promise.
-use Rattle.std.specs.Prelude.{ℕ, suc, ◌*◌, ◌≤◌, ◌<◌, ◌≡◌, false, List, [], ◌∷◌, length, get_or}
-use Rattle.rules.specs.Numbers.{longest_coast}
+use Rattle.std.specs.Prelude.{ℕ, suc, ◌*◌, ◌≤◌, ◌<◌, ◌≡◌, false, List, [], ◌∷◌, length, get_or, Result, Ok, Err}
+use Rattle.rules.specs.Numbers.{most_actions, longest_coast}
 use Rattle.rules.specs.Words.{sum, tab, one_if}
 use Rattle.rules.specs.Image.{profile}
 use Rattle.rules.specs.Order.{Order, TheOrder}
 use Rattle.rules.specs.Limits.{tables, planned}
+use Rattle.rules.specs.Reasons.{fault_of}
+use Rattle.rules.specs.declared.Blame.{Blame}
 use Rattle.rules.specs.Refusals.{First, AtFault, kept}
 use Rattle.rules.specs.Run.{Run, decides}
 use Rattle.rules.specs.Dry.{before, cell}
@@ -13,7 +15,20 @@ use Rattle.rules.specs.Repeat.{unrolled, action_at, body_frame_call}
 use Rattle.fields.specs.Fields.{splice}
 use Rattle.dry_frame.specs.declared.Framed.{Framed}
 use Rattle.dry_frame.specs.Frame.{FrameLists, level_got, time_taken, Promised}
+use Rattle.repeat_frame.specs.declared.BodyFrame.{BodyFrame}
 use Rattle.repeat_frame.specs.declared.BodyFramed.{BodyFramed}
+
+-- What is told of a frame, laid flat: with a refusal 0 and no.
+abbrev pub body_framed : Result BodyFrame Blame → BodyFramed
+body_framed (Ok f) = record {
+  refusal = record { number = 0; action = most_actions };
+  decisions = f.decisions;
+  end = f.end;
+  positions = f.positions;
+  overrun = f.overrun;
+  late = f.late;
+}
+body_framed (Err b) = record { refusal = fault_of b; decisions = 0; end = 0; positions = 0; overrun = false; late = false }
 
 -- The lengths of the lent slices, each with what is needed of it: of the order the body's, of the others an entry for each unrolled position.
 abbrev pub body_frame_rooms : ℕ → ℕ → ℕ → List ℕ → FrameLists → List (ℕ × ℕ)

@@ -2,26 +2,37 @@
 // positions are its promise.
 #![tactic(auto)]
 
-ghost use Rattle.std.specs.Prelude.{◌≡◌, false, [], ◌+◌, ◌%◌};
+ghost use Rattle.std.specs.Prelude.{◌≡◌, [], ◌+◌, ◌%◌};
 ghost use Rattle.rules.specs.Numbers.{longest_coast};
+ghost use Rattle.rules.specs.Reasons.{number};
 ghost use Rattle.rules.specs.Refusals.{First};
 ghost use Rattle.rules.specs.Run.{given, ended};
 ghost use Rattle.rules.specs.Dry.{cell};
 ghost use Rattle.rules.specs.Repeat.{lent_plan};
 ghost use Rattle.repeat_limits.specs.Limits.{CountsIn};
 ghost use Rattle.repeat_run.specs.Calls.{steps_of, MayDecide};
-ghost use Rattle.repeat_frame.specs.BodyFrame.{BodyFrames};
+ghost use Rattle.repeat_frame.specs.BodyFrame.{body_framed, BodyFrames};
 ghost use Rattle.repeat_frame.specs.Walk.{own_call, MayPass, MayWalk, Walks};
 
 use repeat_decision::choose;
 use repeat_limits::spot_of;
 use repeat_run::BodyRun;
-use rules::{Body, Fault};
+use rules::{Blame, Body, Fault, Reason};
 
-// The refusal; without one the decisions made, the clock at the end, which goes on past the latest clock, the number of positions and the two
-// marks, else 0 and no.
+// What a frame of a body run dry comes to: the decisions made, the clock at the end, which goes on past the latest clock, the number of positions and
+// the two marks.
+#[derive(Clone, Copy)]
+pub struct BodyFrame {
+    pub decisions: u32,
+    pub end: u64,
+    pub positions: u32,
+    pub overrun: bool,
+    pub late: bool,
+}
+
+// The same laid flat for C, behind the refusal. With one these are 0 and no.
 #[repr(C)]
-#[derive(Drop)]
+#[derive(Clone, Copy)]
 pub struct BodyFramed {
     pub refusal: Fault,
     pub decisions: u32,
@@ -31,17 +42,28 @@ pub struct BodyFramed {
     pub late: bool,
 }
 
-// What a refused call answers.
-fn refused(refusal: Fault) -> BodyFramed
-    ensures { result ≡ record { refusal = refusal; decisions = 0; end = 0; positions = 0; overrun = false; late = false } }
-{
-    BodyFramed {
-        refusal,
-        decisions: 0,
-        end: 0,
-        positions: 0,
-        overrun: false,
-        late: false,
+impl From<Result<BodyFrame, Blame>> for BodyFramed {
+    ghost from_gives = { λ outcome flat. flat ≡ body_framed outcome };
+
+    fn from(outcome: Result<BodyFrame, Blame>) -> Self {
+        match outcome {
+            Ok(frame) => BodyFramed {
+                refusal: Fault::of(Ok(())),
+                decisions: frame.decisions,
+                end: frame.end,
+                positions: frame.positions,
+                overrun: frame.overrun,
+                late: frame.late,
+            },
+            Err(blame) => BodyFramed {
+                refusal: Fault::from(blame),
+                decisions: 0,
+                end: 0,
+                positions: 0,
+                overrun: false,
+                late: false,
+            },
+        }
     }
 }
 
@@ -96,23 +118,26 @@ fn walk(
         (record { order = []; levels = given.new; decided = marks.new }) (steps_of result) }
 {
     let mut run = repeat_run::begun(body);
-    let mut i = 0;
-    while i < body.repeats * body.n {
-        let at = i as usize;
+    for at in 0..(body.repeats * body.n) as usize {
         let turn = asked(run, summaries, worst);
         given[at] = turn.level as u8;
-        marks[at] = run::one_if(run.left == 0) as u8;
+        marks[at] = u8::from(run.left == 0);
         run = passed(turn, worst, durations);
-        i += 1;
     }
     run
 }
 
 // Room 17, an entry too long 16.
-fn own_refusal(body: Body, durations: &[u32], order: &[u8], given: &[u8], marks: &[u8]) -> u32
+fn own_refusal(
+    body: Body,
+    durations: &[u32],
+    order: &[u8],
+    given: &[u8],
+    marks: &[u8],
+) -> Result<(), Reason>
     requires { CountsIn body }
     ensures { First (own_call body durations.now
-        (record { order = order.now; levels = given.now; decided = marks.now })) result }
+        (record { order = order.now; levels = given.now; decided = marks.now })) (number result) }
 {
     let n = body.n as usize;
     let positions = body.repeats as usize * n;
@@ -122,12 +147,12 @@ fn own_refusal(body: Body, durations: &[u32], order: &[u8], given: &[u8], marks:
         | (given.len() < positions)
         | (marks.len() < positions)
     {
-        return rules::REFUSED_ROOM;
+        return Err(Reason::Room);
     }
-    if run::dry::all_short(durations, cells) {
-        return 0;
+    if !run::dry::all_short(durations, cells) {
+        return Err(Reason::Duration);
     }
-    rules::REFUSED_DURATION
+    Ok(())
 }
 
 // Plans the body by the policy, runs the frame over n N by L durations by unrolled position, and writes the body's order, the levels given and the decided marks.
@@ -140,43 +165,31 @@ pub fn dry_frame(
     order: &mut [u8],
     given: &mut [u8],
     marks: &mut [u8],
-) -> BodyFramed
+) -> Result<BodyFrame, Blame>
     ensures { BodyFrames image.now repeats policy durations.now
         (record { order = order.old; levels = given.old; decided = marks.old })
-        (record { order = order.new; levels = given.new; decided = marks.new }) result }
+        (record { order = order.new; levels = given.new; decided = marks.new }) (body_framed result) }
 {
     // room for the greatest body: 64 actions at 8 levels, four numbers each
     let mut actions = [0u8; 64];
     let mut summaries = [0u32; 2048];
     let mut worst = [0u32; 512];
-    let planned = repeat_planner::plan(
+    let body = repeat_planner::plan(
         image,
         repeats,
         policy,
         &mut actions,
         &mut summaries,
         &mut worst,
-    );
-    let refusal = planned.refusal;
-    if refusal.number != 0 {
-        return refused(refusal);
-    }
-    let body = planned.body;
-    let number = own_refusal(body, durations, order, given, marks);
-    if number != 0 {
-        return refused(Fault {
-            number,
-            action: rules::NO_ACTION,
-        });
-    }
+    )?;
+    own_refusal(body, durations, order, given, marks)?;
     let last = walk(body, &summaries, &worst, durations, given, marks);
     fields::copy_front(&actions, body.n as usize, order);
-    BodyFramed {
-        refusal,
+    Ok(BodyFrame {
         decisions: last.decisions,
         end: last.clock,
         positions: body.repeats * body.n,
         overrun: last.overrun,
         late: last.late,
-    }
+    })
 }

@@ -128,7 +128,9 @@ pub fn begin(
         (record { order = order.new; summaries = summaries.new; worst = worst.new })
         out.old out.new result }
 {
-    let planned = repeat_planner::plan(image, repeats, policy, order, summaries, worst);
+    let planned = BodyPlanned::from(repeat_planner::plan(
+        image, repeats, policy, order, summaries, worst,
+    ));
     if planned.refusal.number != 0 {
         let refusal = Fault {
             number: planned.refusal.number,

@@ -12,7 +12,7 @@ pub fn tell_all<R: Print>(rt: &R, text: &[u8]) -> io::Result<()> {
     let mut order = [0u8; 3];
     let mut summaries = [0u32; 24];
     let mut worst = [0u32; 6];
-    repeat_planner::plan(
+    let _ = repeat_planner::plan(
         &image,
         1,
         rules::POLICY_2008,

@@ -46,14 +46,14 @@ fn plan<R: Print>(rt: &R, image: &[u8], row: [u32; 24], policy: u32) -> io::Resu
     let a = part(row[1], 4);
     let b = part(row[2], 25);
     let c = part(row[3], 7);
-    let planned = repeat_planner::plan(
+    let planned = BodyPlanned::from(repeat_planner::plan(
         image,
         row[0],
         policy,
         &mut order[0..a],
         &mut summaries[0..b],
         &mut worst[0..c],
-    );
+    ));
     say_planned(rt, planned)?;
     say_tables(rt, &order, &summaries, &worst)
 }
@@ -102,7 +102,7 @@ fn say_planned<R: Print>(rt: &R, planned: BodyPlanned) -> io::Result<()> {
 fn plan_three(policy: u32, summaries: &mut [u32], worst: &mut [u32]) {
     let image = test_kit::samples::three();
     let mut order = [0u8; 3];
-    repeat_planner::plan(&image, 1, policy, &mut order, summaries, worst);
+    let _ = repeat_planner::plan(&image, 1, policy, &mut order, summaries, worst);
 }
 
 fn body_of(row: [u32; 24], policy: u32) -> Body {

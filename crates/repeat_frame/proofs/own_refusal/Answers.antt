@@ -14,12 +14,12 @@ roomy c =
     let a = c.args in
     tested_roomy _ _ _ a.durations.now (record { order = a.order.now; levels = a.given.now; decided = a.marks.now }) c.if-durations-cells.false
 
-pub returns-then-all_short : goal.returns-then-all_short
-returns-then-all_short c =
+pub returns-then-not-all_short : goal.returns-then-not-all_short
+returns-then-not-all_short c =
     let d = c.args.durations.now in
-    inr (roomy (goal.at.returns-then-all_short c).Else-durations-cells, inr (none-long _ d (sym c.all_short.ensures ∙ c.if-all_short.true), refl))
+    inr (roomy (goal.at.returns-then-not-all_short c).Else-durations-cells, inl (one-long _ d (sym c.all_short.ensures ∙ c.if-not-all_short.true), refl))
 
 pub returns : goal.returns
 returns c =
     let d = c.args.durations.now in
-    inr (roomy (goal.at.returns c).Else-durations-cells, inl (one-long _ d (sym c.all_short.ensures ∙ c.if-all_short.false), refl))
+    inr (roomy (goal.at.returns c).Else-durations-cells, inr (none-long _ d (sym c.all_short.ensures ∙ c.if-not-all_short.false), refl))
