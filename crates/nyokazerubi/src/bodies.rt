@@ -182,5 +182,6 @@ pub fn nyokazerubi_body_dry_frame(
         (record { order = order.old; levels = given.old; decided = marks.old })
         (record { order = order.new; levels = given.new; decided = marks.new }) result }
 {
-    repeat_frame::dry_frame(image, repeats, policy, durations, order, given, marks)
+    let framed = repeat_frame::dry_frame(image, repeats, policy, durations, order, given, marks);
+    BodyFramed::from(framed)
 }

@@ -183,7 +183,7 @@ fn dry_text(image: &[u8], repeats: u32, bytes: &[u8], out: &mut [u8]) -> usize
     let mut order = [0u8; 64];
     let mut given = [0u8; MOST_STEPS];
     let mut marks = [0u8; MOST_STEPS];
-    let framed = repeat_frame::dry_frame(
+    let framed = BodyFramed::from(repeat_frame::dry_frame(
         image,
         repeats,
         rules::POLICY_2008,
@@ -191,7 +191,7 @@ fn dry_text(image: &[u8], repeats: u32, bytes: &[u8], out: &mut [u8]) -> usize
         &mut order,
         &mut given,
         &mut marks,
-    );
+    ));
     if framed.refusal.number != 0 {
         return print_lines::put_fault(out, 0, framed.refusal);
     }
