@@ -8,8 +8,9 @@ ghost use Rattle.text.specs.Put.{Puts};
 ghost use Rattle.print_lines.specs.Lines.{four_line};
 ghost use Rattle.print.specs.Dry.{TellsDry};
 
-use dry_frame::Framed;
 use print_lines::{put_fault, put_four};
+use rules::Fault;
+use run::dry::Dry;
 
 // Position, action, level and decided, a line for each position.
 fn put_steps(out: &mut [u8], order: &[u8], given: &[u8], marks: &[u8], n: usize) -> usize
@@ -19,26 +20,24 @@ fn put_steps(out: &mut [u8], order: &[u8], given: &[u8], marks: &[u8], n: usize)
         out.new result }
 {
     let mut to = 0;
-    let mut i = 0;
-    while i < n {
+    for i in 0..n {
         let action = order[i] as u32;
         let level = given[i] as u32;
         let mark = marks[i] as u32;
         to = put_four(&mut *out, to, i as u32, action, level, mark);
-        i += 1;
     }
     to
 }
 
 // Decisions, end, overrun, late.
-fn put_end(out: &mut [u8], at: usize, framed: Framed) -> usize
+fn put_end(out: &mut [u8], at: usize, dry: Dry) -> usize
     requires { IsPrefixLen at out.old }
     ensures { Puts out.old at
-        (four_line framed.decisions framed.end (one_if framed.overrun) (one_if framed.late)) out.new result }
+        (four_line dry.decisions dry.end (one_if dry.overrun) (one_if dry.late)) out.new result }
 {
-    let overrun = run::one_if(framed.overrun);
-    let late = run::one_if(framed.late);
-    put_four(out, at, framed.decisions, framed.end, overrun, late)
+    let overrun = u32::from(dry.overrun);
+    let late = u32::from(dry.late);
+    put_four(out, at, dry.decisions, dry.end, overrun, late)
 }
 
 // Position, action, level and decided, by the policy; then decisions, end, overrun, late.
@@ -50,17 +49,19 @@ pub fn dry_text(image: &[u8], policy: u32, bytes: &[u8], out: &mut [u8]) -> usiz
     let mut order = [0u8; 64];
     let mut given = [0u8; 64];
     let mut marks = [0u8; 64];
-    let framed = Framed::from(dry_frame::dry_frame(
+    let run_dry = dry_frame::dry_frame(
         image,
         policy,
         &durations[..count],
         &mut order,
         &mut given,
         &mut marks,
-    ));
-    if framed.refusal.number != 0 {
-        return put_fault(out, 0, framed.refusal);
+    );
+    match run_dry {
+        Ok(frame) => {
+            let at = put_steps(&mut *out, &order, &given, &marks, frame.n);
+            put_end(out, at, frame.dry)
+        }
+        Err(blame) => put_fault(out, 0, Fault::from(blame)),
     }
-    let at = put_steps(&mut *out, &order, &given, &marks, framed.n);
-    put_end(out, at, framed)
 }

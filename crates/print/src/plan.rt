@@ -7,18 +7,18 @@ ghost use Rattle.text.specs.Digits.{space, signed};
 ghost use Rattle.text.specs.Put.{Puts};
 ghost use Rattle.print.specs.Plan.{counts_line, position_line, TellsPlan};
 
-use planner::Planned;
 use print_lines::{put_fault, put_field};
+use rules::{Counts, Fault};
 use text::{put_byte, put_number, put_signed};
 
 // Actions, levels, cycle.
-fn put_counts(out: &mut [u8], planned: Planned) -> usize
-    requires { (planned.n ≤ most_actions) × (planned.levels ≤ most_levels) }
-    ensures { Puts out.old 0 (counts_line planned.n planned.levels planned.cycle) out.new result }
+fn put_counts(out: &mut [u8], counts: Counts) -> usize
+    requires { (counts.n ≤ most_actions) × (counts.levels ≤ most_levels) }
+    ensures { Puts out.old 0 (counts_line counts.n counts.levels counts.cycle) out.new result }
 {
-    let second = put_field(&mut *out, 0, planned.n as u32, b' ');
-    let third = put_field(&mut *out, second, planned.levels as u32, b' ');
-    put_field(out, third, planned.cycle, b'\n')
+    let second = put_field(&mut *out, 0, counts.n as u32, b' ');
+    let third = put_field(&mut *out, second, counts.levels as u32, b' ');
+    put_field(out, third, counts.cycle, b'\n')
 }
 
 // The limits of a position, each after a space.
@@ -28,11 +28,9 @@ fn put_limits(out: &mut [u8], at: usize, limits: &[i32]) -> usize
         (cat (λ q. space ∷ signed (get_or limits.now q (pos 0))) (length limits.now)) out.new result }
 {
     let mut to = at;
-    let mut q = 0;
-    while q < limits.len() {
+    for limit in limits {
         let next = put_byte(&mut *out, to, b' ');
-        to = put_signed(&mut *out, next, limits[q]);
-        q += 1;
+        to = put_signed(&mut *out, next, *limit);
     }
     to
 }
@@ -72,10 +70,8 @@ fn put_positions(
         out.new result }
 {
     let mut to = at;
-    let mut i = 0;
-    while i < n {
+    for i in 0..n {
         to = put_position(&mut *out, to, i, order[i], limits, levels);
-        i += 1;
     }
     to
 }
@@ -88,19 +84,19 @@ pub fn plan_text(image: &[u8], policy: u32, out: &mut [u8]) -> usize
     let mut limits = [0i32; 512];
     let mut worst = [0u32; 512];
     let mut bounds = [0i32; 8192];
-    let planned = Planned::from(planner::plan(
+    let planned = planner::plan(
         image,
         policy,
         &mut order,
         &mut limits,
         &mut worst,
         &mut bounds,
-    ));
-    if planned.refusal.number != 0 {
-        return put_fault(out, 0, planned.refusal);
+    );
+    match planned {
+        Ok(counts) => {
+            let at = put_counts(&mut *out, counts);
+            put_positions(out, at, &order, &limits, counts.n, counts.levels)
+        }
+        Err(blame) => put_fault(out, 0, Fault::from(blame)),
     }
-    let n = planned.n;
-    let levels = planned.levels;
-    let at = put_counts(&mut *out, planned);
-    put_positions(out, at, &order, &limits, n, levels)
 }

@@ -1,5 +1,5 @@
 -- The limits before the level are put.
-use Rattle.std.proofs.Common.{ℕ, ◌-◌, ◌≤◌, ◌≡◌, List, ◌∷◌, length, get_or}
+use Rattle.std.proofs.Common.{ℕ, ◌≤◌, ◌≡◌, List, ◌∷◌, length, get_or}
 use Rattle.std.specs.Prelude.{ℤ, pos}
 use Rattle.rules.specs.Words.{cat}
 use Rattle.text.specs.Digits.{space, signed}
@@ -10,8 +10,5 @@ use Rattle.print.proofs.plan.put_limits.Given as goal
 abbrev pub entry : List ℤ → ℕ → List ℕ
 entry limits q = space ∷ signed (get_or limits q (pos 0))
 
-abbrev pub invariant-loop-q : goal.invariant-loop-q
-invariant-loop-q l = (l.q ≤ length l.limits) × (length l.out ≡ length l.initial.out) × Puts l.initial.out l.at (cat (entry l.limits) l.q) l.out l.to
-
-abbrev pub decreases-loop-q : goal.decreases-loop-q
-decreases-loop-q l = length l.limits - l.q
+abbrev pub invariant-loop-limit : goal.invariant-loop-limit
+invariant-loop-limit l = (l.limit-index ≤ length l.limits) × (length l.out ≡ length l.initial.out) × Puts l.initial.out l.at (cat (entry l.limits) l.limit-index) l.out l.to
