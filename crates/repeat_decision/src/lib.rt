@@ -13,7 +13,7 @@ ghost use Rattle.repeat_decision.specs.Decision.{last_start, most_cells, Summari
 use repeat_limits::{Room, has_room, last_reach, room_before, room_nearer, taken};
 use rules::Body;
 
-// What a decision takes: the level, what it leaves to coast, and whether no level fits.
+// What a decision takes: the level, what it leaves to coast, and whether no level fits; level 0 is given then.
 #[derive(Clone, Copy)]
 pub struct Choice {
     pub level: u32,
@@ -47,7 +47,7 @@ fn fitting(body: Body, summaries: &[u32], place: usize, after: u32, t: u64) -> O
 }
 
 // The room at the level above one, if there is such a level. It is worked out for the level given alone: of the levels that do not fit, the averages
-// mostly tell, and the rest of their room is never needed.
+// mostly tell, and the rest of their room is never needed. Where there is none no test reads it, so that a coast carries a room and not an option.
 fn room_above(body: Body, summaries: &[u32], level: usize, after: u32, t: u64) -> Room
     requires { MayRise body summaries.now level after t }
     ensures { suc level < body.levels → result ≡ room_left body.cycle t (later_of body.policy (stretch_at summaries.now (suc level)) after) }

@@ -473,7 +473,8 @@ pub fn limit(body: Body, summaries: &[u32], position: usize, level: usize) -> Re
     Ok(limit_at(body, summaries, position, level))
 }
 
-// The coast bound at an unrolled position, a level and a length, any values; absent where the coast would go past the last position.
+// The coast bound at an unrolled position, a level and a length, any values; absent, as the number that C is handed, where the coast would go past
+// the last position.
 pub fn bound(
     body: Body,
     summaries: &[u32],

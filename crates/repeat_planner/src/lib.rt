@@ -16,7 +16,7 @@ ghost use Rattle.repeat_planner.specs.PlanningBody.{body_rooms, body_planned, Pl
 
 use image_check::{Checked, whole};
 use planner::policy_refusal;
-use rules::{Blame, Body, Fault, Reason};
+use rules::{Blame, Body, Counts, Fault, Reason};
 
 // The answer of planning, laid flat for C: with a refusal all else is 0; without one what the header says, N and the policy.
 #[repr(C)]
@@ -52,8 +52,8 @@ impl From<Result<Body, Blame>> for BodyPlanned {
 // ---- the check of an image as a body
 
 // 19: N is out of its range, or a deadline is neither 0 nor the cycle.
-fn repeats_out(image: &[u8], n: usize, levels: usize, cycle: u32, repeats: u32) -> bool
-    requires { Passed image.now n levels cycle }
+fn repeats_out(image: &[u8], counts: Counts, repeats: u32) -> bool
+    requires { Passed image.now counts.n counts.levels counts.cycle }
     ensures { (result ≡ true) ↔ Repeats (profile image.now) repeats }
 {
     if repeats < 1 {
@@ -62,34 +62,28 @@ fn repeats_out(image: &[u8], n: usize, levels: usize, cycle: u32, repeats: u32) 
     if rules::MOST_REPEATS < repeats {
         return true;
     }
-    repeat_tables::other_deadline(image, levels, n, cycle)
+    repeat_tables::other_deadline(image, counts.levels, counts.n, counts.cycle)
 }
 
 // 9: the level 0 worst times of all repeats are above the cycle.
-fn unfit(image: &[u8], n: usize, levels: usize, cycle: u32, repeats: u32) -> bool
-    requires { HasRecords image.now levels n }
-    ensures { (result ≡ true) ↔ (cycle < repeats * sum n (λ a. (profile image.now).worst a 0)) }
+fn unfit(image: &[u8], counts: Counts, repeats: u32) -> bool
+    requires { HasRecords image.now counts.levels counts.n }
+    ensures { (result ≡ true) ↔ (counts.cycle < repeats * sum counts.n (λ a. (profile image.now).worst a 0)) }
 {
-    let total = repeat_tables::total(image, levels, n);
-    u64::from(cycle) < u64::from(repeats) * u64::from(total)
+    let total = repeat_tables::total(image, counts.levels, counts.n);
+    u64::from(counts.cycle) < u64::from(repeats) * u64::from(total)
 }
 
 // 19, then 9.
-fn repeats_refusal(
-    image: &[u8],
-    n: usize,
-    levels: usize,
-    cycle: u32,
-    repeats: u32,
-) -> Result<(), Reason>
-    requires { Passed image.now n levels cycle }
+fn repeats_refusal(image: &[u8], counts: Counts, repeats: u32) -> Result<(), Reason>
+    requires { Passed image.now counts.n counts.levels counts.cycle }
     ensures { First (refused_repeats when Repeats (profile image.now) repeats
         ∷ refused_unfit when Unfit (unrolled (profile image.now) repeats) ∷ []) (number result) }
 {
-    if repeats_out(image, n, levels, cycle, repeats) {
+    if repeats_out(image, counts, repeats) {
         return Err(Reason::Repeats);
     }
-    if unfit(image, n, levels, cycle, repeats) {
+    if unfit(image, counts, repeats) {
         return Err(Reason::Unfit);
     }
     Ok(())
@@ -100,7 +94,12 @@ fn checked(image: &[u8], repeats: u32) -> Result<Checked, Blame>
     ensures { CheckAnswers (body_checks image.now repeats) image.now result }
 {
     let found = whole::checked_body(image)?;
-    repeats_refusal(image, found.n, found.levels, found.cycle, repeats)?;
+    let counts = Counts {
+        n: found.n,
+        levels: found.levels,
+        cycle: found.cycle,
+    };
+    repeats_refusal(image, counts, repeats)?;
     Ok(found)
 }
 
