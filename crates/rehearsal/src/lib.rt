@@ -6,7 +6,8 @@ ghost use Rattle.std.specs.Prelude.{◌≤◌, length, OnErr, ◌≡◌};
 ghost use Rattle.std.specs.Io.{ReadsAtMost};
 ghost use Rattle.io.specs.Counts.{IsPrefixLen};
 
-use recording::{Counted, Opened, Totals};
+use recording::{Counted, Recording, Totals};
+use rules::Fault;
 use std::io;
 use std::io::{Read, Seek, Write};
 
@@ -39,7 +40,7 @@ fn read_from<S: Read>(recording: &mut Option<S>, out: &mut [u8]) -> io::Result<u
 
 // The next frame of the recording, read into `frame` and run. A file that was cut short meanwhile leaves a frame too short, which is refused.
 fn next_frame<S: Read>(
-    opened: &Opened,
+    opened: &Recording,
     limits: &[i32],
     worst: &[u32],
     bounds: &[i32],
@@ -75,7 +76,7 @@ fn no_totals() -> Totals {
 
 // A line for each frame, then the totals.
 fn rehearse_frames<S: Read, W: Write>(
-    opened: &Opened,
+    opened: &Recording,
     limits: &[i32],
     worst: &[u32],
     bounds: &[i32],
@@ -91,13 +92,11 @@ fn rehearse_frames<S: Read, W: Write>(
     let mut frame = [0u8; 2048];
     let mut totals = no_totals();
     let mut at = 0;
-    let mut left = opened.frames;
-    while 0 < left {
+    for _k in 0..opened.frames {
         let counted = next_frame(opened, limits, worst, bounds, totals, recording, &mut frame)?;
         let start = line_at(&*out, at, to)?;
         at = print_lines::put_line(&mut *out, start, counted.line);
         totals = counted.totals;
-        left -= 1;
     }
     let start = line_at(&*out, at, to)?;
     Ok(print_lines::put_totals(out, start, totals))
@@ -119,7 +118,7 @@ pub fn rehearse<S: Read + Seek, W: Write>(
     let mut limits = [0i32; 512];
     let mut worst = [0u32; 512];
     let mut bounds = [0i32; 8192];
-    let opened = Opened::from(recording::open(
+    let opened = recording::open(
         image,
         policy,
         files::file_length(&mut *recording),
@@ -127,9 +126,9 @@ pub fn rehearse<S: Read + Seek, W: Write>(
         &mut limits,
         &mut worst,
         &mut bounds,
-    ));
-    if opened.refusal.number != 0 {
-        return Ok(print_lines::put_fault(out, 0, opened.refusal));
+    );
+    match opened {
+        Ok(opened) => rehearse_frames(&opened, &limits, &worst, &bounds, recording, out, to),
+        Err(blame) => Ok(print_lines::put_fault(out, 0, Fault::from(blame))),
     }
-    rehearse_frames(&opened, &limits, &worst, &bounds, recording, out, to)
 }

@@ -1,5 +1,6 @@
 -- No frame of an accepted image is longer than the buffer.
 use Rattle.std.proofs.Common.{ℕ, ◌≤◌, ◌≡◌, List, [], ◌∷◌, arith}
+use mathlib.Core.Path.{refl}
 use mathlib.Core.Logic.{⊎_elim}
 use Rattle.rules.specs.Numbers.{refused_trace, refused_room, refused_policy}
 use Rattle.rules.specs.Image.{profile}
@@ -29,4 +30,4 @@ module _ {s : List ℕ} {policy bytes : ℕ} {before after : LentTables} {r : Op
   frame-fits = rw (rw none at opens.a_frame) (omega (arith, (few sound).cells))
 
 pub rehearse_frames-requires : goal.rehearse_frames-requires
-rehearse_frames-requires g c = frame-fits c.open-opened.ensures c.if-opened-ne0.false
+rehearse_frames-requires g c = frame-fits c.in-Ok.ensures refl
