@@ -3,7 +3,6 @@ use Prim.Native.Nat.{ℕ}
 use mathlib.Core.Path.{◌≡◌, refl}
 use mathlib.Core.List.{List, [], ◌∷◌, ◌++◌}
 use mathlib.Core.Logic.{⊎_elim, ◌≢◌}
-use native.Mathlib.Decide.{ℕ_discrete}
 use native.Mathlib.Omega.{arith}
 use borrow.Author.Tests.{ne_eqb}
 use Rattle.std.specs.Prelude.{Ok}
@@ -31,16 +30,6 @@ kept_new k new old h e = rw h e
 -- the actions by number: an order that is there for every n
 pub by_number : (n : ℕ) → Order n
 by_number n = record { at = λ k. k; pos = λ a. a; at_lt = λ k l. l; pos_lt = λ a l. l; pos_at = λ k l. refl; at_pos = λ a l. refl }
-
--- ---- a refusal after another
-
--- the first of two: the second row's stands where the first gives none
-pub first-both : (row rest : List Ground) (k m : ℕ) {r : ℕ} → Numbered row → First row k → First rest m → r ≡ kept k m k → First (row ++ rest) r
-first-both row rest k m numbered p q e = rw e (by (ℕ_discrete k 0))
-  where
-    by : Dec (k ≡ 0) → First (row ++ rest) (kept k m k)
-    by (yes none) = rw none (first-goes_on row rest m numbered (rw none at p) q)
-    by (no some) = rw (ne_eqb k 0 some) (first_stops row rest k p some)
 
 -- ---- what planning judges before the room: the image's, then 20
 

@@ -48,11 +48,6 @@ returns-then-limits-cells c =
       inl (tested_tight _ _ (lent (goal.at.returns-then-limits-cells c).Start) c.args.frame.now c.if-limits-cells.true, refl),
     )
 
-pub all_short-requires : goal.all_short-requires
-all_short-requires c =
-    let T = lent (goal.at.all_short-requires c).Start in
-    room _ _ T c.args.frame.now (tested_roomy _ _ T c.args.frame.now c.if-limits-cells.false)
-
 pub returns-then-all_short : goal.returns-then-all_short
 returns-then-all_short c =
     let T = lent (goal.at.returns-then-all_short c).Start in
