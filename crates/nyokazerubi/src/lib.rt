@@ -54,13 +54,7 @@ pub fn nyokazerubi_read(
         (record { masks = masks.old; deadlines = deadlines.old; averages = averages.old; worst = worst_by_action.old })
         (record { masks = masks.new; deadlines = deadlines.new; averages = averages.new; worst = worst_by_action.new }) result }
 {
-    Unpacked::from(profile::read(
-        image,
-        masks,
-        deadlines,
-        averages,
-        worst_by_action,
-    ))
+    Unpacked::from(profile::read(image, masks, deadlines, averages, worst_by_action))
 }
 
 pub fn nyokazerubi_write(
@@ -122,14 +116,8 @@ pub fn nyokazerubi_plan(
         (record { order = order.old; limits = limits.old; worst = worst_by_position.old; bounds = bounds.old })
         (record { order = order.new; limits = limits.new; worst = worst_by_position.new; bounds = bounds.new }) result }
 {
-    Planned::from(planner::plan(
-        image,
-        policy,
-        order,
-        limits,
-        worst_by_position,
-        bounds,
-    ))
+    let planned = planner::plan(image, policy, order, limits, worst_by_position, bounds);
+    Planned::from(planned)
 }
 
 pub fn nyokazerubi_dry_run(
@@ -172,9 +160,7 @@ pub fn nyokazerubi_dry_frame(
         (record { order = order.old; levels = given.old; decided = marks.old })
         (record { order = order.new; levels = given.new; decided = marks.new }) result }
 {
-    Framed::from(dry_frame::dry_frame(
-        image, policy, durations, order, given, marks,
-    ))
+    Framed::from(dry_frame::dry_frame(image, policy, durations, order, given, marks))
 }
 
 // ---- the refresh
