@@ -56,13 +56,9 @@ fn repeats_out(image: &[u8], counts: Counts, repeats: u32) -> bool
     requires { Passed image.now counts.n counts.levels counts.cycle }
     ensures { (result ≡ true) ↔ Repeats (profile image.now) repeats }
 {
-    if repeats < 1 {
-        return true;
-    }
-    if rules::MOST_REPEATS < repeats {
-        return true;
-    }
-    repeat_tables::other_deadline(image, counts.levels, counts.n, counts.cycle)
+    repeats < 1
+        || rules::MOST_REPEATS < repeats
+        || repeat_tables::other_deadline(image, counts.levels, counts.n, counts.cycle)
 }
 
 // 9: the level 0 worst times of all repeats are above the cycle.
