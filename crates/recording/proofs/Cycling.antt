@@ -1,6 +1,6 @@
 -- A frame's cycle, action by action. Assumes nothing.
 use Prim.Native.Nat.{ℕ, zero, suc, ◌+◌, ◌-◌, ◌*◌, ◌/◌, ◌≤◌, ◌<◌, min}
-use mathlib.Core.Path.{◌≡◌, refl, sym, ap, subst, ◌∙◌}
+use mathlib.Core.Path.{◌≡◌, refl, sym, ap, ◌∙◌}
 use mathlib.Core.List.{List}
 use native.Mathlib.Omega.{arith}
 use lib.ListN.{length}
@@ -59,15 +59,6 @@ module _ {n L : ℕ} {T : LentTables} {frame : List ℕ} {r : Run} {low : ℕ} (
       by : (m : ℕ) → 0 < m → lowest_before (level_at n L T frame) m ≡ lowest_of (level_at n L T frame) (m - 1)
       by zero l = elim l [ ]
       by (suc m) l = let last : suc m - 1 ≡ m = omega arith in sym (ap (lowest_of (level_at n L T frame)) last)
-
-  -- by the counts of its record, and back
-  pub by_record : Cycling r.n r.levels T frame r low
-  by_record =
-      subst (λ (q : ℕ). Cycling r.n q T frame r low) (sym at.levels_are) (subst (λ (m : ℕ). Cycling m L T frame r low) (sym at.n_is) at)
-
-  pub by_counts : {s : Run} {lower : ℕ} → Cycling r.n r.levels T frame s lower → Cycling n L T frame s lower
-  by_counts {s} {lower} on =
-      subst (λ (q : ℕ). Cycling n q T frame s lower) at.levels_are (subst (λ (m : ℕ). Cycling m r.levels T frame s lower) at.n_is on)
 
   pub going : Going T (durations frame) unwritten r unwritten r
   going = going-none at.ready

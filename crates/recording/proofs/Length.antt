@@ -11,7 +11,7 @@ use borrow.Author.Tests.{leb-true, leb-false, eqb-true, eqb-false}
 use lib.Dec.{leb, eqb}
 use Rattle.rules.specs.Numbers.{most_frames}
 use Rattle.rules.specs.Image.{actions, levels, profile}
-use Rattle.rules.specs.Refusals.{Short, CountsOut}
+use Rattle.rules.specs.Refusals.{CountsOut}
 use Rattle.rules.specs.Recording.{frame_bytes}
 use Rattle.image_fields.specs.declared.Header.{Header}
 use Rattle.image_fields.specs.Reading.{HeaderOf}
@@ -24,10 +24,6 @@ few_actions s = omega arith
 few_levels : (s : List ℕ) → levels s < 16
 unfolding levels
 few_levels s = omega arith
-
--- without a header there is nothing to judge by
-pub short-measured : (s : List ℕ) (bytes : ℕ) → Short s → LengthFits s bytes false
-short-measured s bytes h = record { fits = λ e. absurd (false≢true e); fails = λ _. inl h }
 
 module _ {s : List ℕ} {h : Header} (H : HeaderOf s h) where
   -- no product wraps

@@ -40,15 +40,6 @@ refused : {n L : ℕ} {T : LentTables} {frame : List ℕ} {t : Totals} (f : Refu
     → Rehearses n L T frame (totals_of t) (uncounted t f)
 refused f first some = record { number = first; line = kept-old _ _ _ some; totals = kept-old _ _ _ some }
 
-pub totals-refused : {n L : ℕ} {T : LentTables} {frame : List ℕ} {t : Totals} (k : ℕ) → First (own t) k → k ≢ 0
-    → Rehearses n L T frame (totals_of t) (uncounted t (record { number = k }))
-totals-refused {n} {L} {T} {frame} {t} k first some = refused (record { number = k }) (by first) some
-  where
-    by : First (own t) k → First (recorded_call (totals_of t) n L frame (recorded_rooms n L T frame)) k
-    by (inl x) = inl x
-    by (inr (a, inl x)) = inr (a, inl x)
-    by (inr (a, inr x)) = absurd (some x.1)
-
 -- ---- the totals are taken
 
 -- On totals that are taken, with the frame's own refusal.
