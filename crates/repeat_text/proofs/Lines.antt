@@ -1,12 +1,15 @@
 -- The limits of a position that is there are not refused, no line is longer than the longest, and the lines by planning's tables are those of the
 -- unrolled system. Assumes nothing.
 use Prim.Native.Nat.{ℕ, zero, suc, ◌+◌, ◌-◌, ◌*◌, ◌≤◌, ◌<◌}
-use mathlib.Core.Path.{◌≡◌, sym, ap, ◌∙◌}
+use mathlib.Core.Path.{◌≡◌, refl, sym, ap, ◌∙◌}
 use mathlib.Core.List.{List, [], ◌∷◌, ◌++◌}
 use native.Mathlib.Omega.{arith}
 use lib.IntN.{ℤ}
 use lib.ListN.{length, length-append}
 use borrow.Author.Tests.{le-ltb, lt-leb}
+use Rattle.std.specs.Prelude.{Result, Ok, Err, IsOk}
+use Rattle.rules.specs.declared.Reason.{Reason}
+use Rattle.rules.proofs.Reasons.{some_number}
 use Rattle.rules.specs.Words.{cat}
 use Rattle.rules.specs.Image.{Profile}
 use Rattle.rules.specs.Order.{Order, TheOrder}
@@ -20,7 +23,7 @@ use Rattle.print.specs.Plan.{position_line}
 use Rattle.print.proofs.Lines.{position-is}
 use Rattle.print.proofs.Plans.{position_ext}
 use Rattle.repeat_laws.proofs.Lent.{lent_limit, lent-action}
-use Rattle.repeat_limits.specs.Limits.{CountsIn, Stands, LimitAnswers}
+use Rattle.repeat_limits.specs.Limits.{limited, CountsIn, Stands, LimitAnswers}
 use Rattle.repeat_limits.specs.declared.Limited.{Limited}
 use Rattle.repeat_limits.proofs.Refusing.{known-not-out, limit_passed}
 use Rattle.repeat_text.specs.Text.{longest_line, lent_line, lent_lines, unrolled_line}
@@ -44,6 +47,10 @@ at_level h l = record { counts = h.counts; summed = h.summed; present = h.presen
 pub limit-told : {b : Body} {s : List ℕ} {i q : ℕ} {r : Limited} → Stands b s i q → (UnknownPolicy b.policy → ⊥) → LimitAnswers b s i q r
     → r.limit ≡ (lent_plan b (record { order = []; summaries = s; worst = [] })).limit i q
 limit-told h known a = let none = a.number ∙ stands h known in rw none at a.limit_is
+
+pub not_refused : {b : Body} {s : List ℕ} {i q : ℕ} → Stands b s i q → (UnknownPolicy b.policy → ⊥) → (r : Result ℤ Reason) → LimitAnswers b s i q (limited r) → IsOk r
+not_refused h known (Ok z) a = refl
+not_refused h known (Err e) a = absurd (some_number e (a.number ∙ stands h known))
 
 -- the limit at level q after a space
 abbrev pub entry : Body → List ℕ → ℕ → ℕ → List ℕ

@@ -15,9 +15,8 @@ ghost use Rattle.repeat_limits.specs.Limits.{Stands};
 ghost use Rattle.repeat_text.specs.Text.{longest_line, lent_line, Lent, TellsLines, TellsFirst};
 
 use print_lines::{put_fault, put_field, put_four};
-use repeat_limits::Limited;
 use repeat_planner::BodyPlanned;
-use rules::{Body, Fault};
+use rules::Body;
 use std::io;
 use std::io::Write;
 use text::{put_byte, put_number, put_signed_long};
@@ -35,12 +34,10 @@ fn put_limits(out: &mut [u8], at: usize, body: Body, summaries: &[u32], position
         out.new result }
 {
     let mut to = at;
-    let mut q = 0;
-    while q < body.levels as usize {
+    for q in 0..body.levels as usize {
         let next = put_byte(&mut *out, to, b' ');
-        let limited = Limited::from(repeat_limits::limit(body, summaries, position, q));
-        to = put_signed_long(&mut *out, next, limited.limit);
-        q += 1;
+        let limit = repeat_limits::limit(body, summaries, position, q).unwrap();
+        to = put_signed_long(&mut *out, next, limit);
     }
     to
 }
@@ -73,7 +70,7 @@ pub fn put_position(
 }
 
 // Up to which position there are lines, and where in the buffer they end.
-#[derive(Drop)]
+#[derive(Clone, Copy)]
 struct Told {
     next: usize,
     at: usize,
@@ -93,21 +90,19 @@ fn put_lines(
 {
     let last = body.repeats as usize * body.n as usize;
     let mut to = at;
-    let mut next = from;
-    while next < last {
+    for next in from..last {
         if out.len() - to < LONGEST_LINE {
             return Told { next, at: to };
         }
         to = put_position(&mut *out, to, body, order, summaries, next);
-        next += 1;
     }
-    Told { next, at: to }
+    Told { next: last, at: to }
 }
 
 // ---- the text
 
 // What planning answers, and where in the buffer the first line ends.
-#[derive(Drop)]
+#[derive(Clone, Copy)]
 pub struct Begun {
     pub planned: BodyPlanned,
     pub at: usize,
@@ -132,11 +127,7 @@ pub fn begin(
         image, repeats, policy, order, summaries, worst,
     ));
     if planned.refusal.number != 0 {
-        let refusal = Fault {
-            number: planned.refusal.number,
-            action: planned.refusal.action,
-        };
-        let at = put_fault(out, 0, refusal);
+        let at = put_fault(out, 0, planned.refusal);
         return Begun { planned, at };
     }
     let body = planned.body;

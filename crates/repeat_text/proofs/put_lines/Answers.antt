@@ -1,6 +1,6 @@
 -- The lines of the positions before the next one are put, each whole: there was room for the longest. Assumes nothing.
-use Prim.Native.Nat.{◌≤◌}
-use mathlib.Core.Path.{refl}
+use Prim.Native.Nat.{◌≤◌, ◌*◌}
+use mathlib.Core.Path.{◌≡◌, refl}
 use native.Mathlib.Omega.{arith}
 use lib.ListN.{length}
 use Rattle.repeat_text.proofs.Loop.{none_lined, one_more, some_lined, lines-told}
@@ -26,4 +26,6 @@ loop-next-preserved c =
 
 pub returns : goal.returns
 returns c =
-    lines-told (room (goal.at.returns c).Start) c.loop-next.invariant.3 (omega arith) (omega arith)
+    let e : c.loop-next.next ≡ c.args.body.repeats * c.args.body.n = omega arith in
+    let a = c.args in
+    rw e at (lines-told {b = a.body} {order = a.order.now} {summaries = a.summaries.now} {out = a.out.now} {at = a.at} {from = a.from} (room (goal.at.returns c).Start) c.loop-next.invariant.3 (omega arith) (omega arith))
