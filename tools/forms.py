@@ -10,8 +10,9 @@ import sys
 
 
 def sources(top):
-    for folder, _, names in sorted(os.walk(os.path.join(top, 'crates'))):
-        if '/src' in folder[len(top):]:
+    crates = os.path.join(top, 'crates')
+    for crate in sorted(os.listdir(crates)):
+        for folder, _, names in sorted(os.walk(os.path.join(crates, crate, 'src'))):
             for name in sorted(names):
                 if name.endswith('.rt'):
                     yield os.path.join(folder, name)
