@@ -243,7 +243,7 @@ impl Run {
             };
         }
         let position = self.position as usize;
-        let action = order[position] as u32;
+        let action = u32::from(order[position]);
         if self.left == 0 {
             let made = self.decided(limits, bounds);
             let run = made.run;

@@ -13,7 +13,7 @@ pub fn within(table: &[i32], at: usize, t: u32) -> bool
     requires { at < length table.now }
     ensures { result ≡ le_z (pos t) (get_or table.now at (pos 0)) }
 {
-    (t as i64) <= (table[at] as i64)
+    i64::from(t) <= i64::from(table[at])
 }
 
 // The last of the `many` entries from `from` on that t is at most; if there is none, 0. So of a position's limits the greatest level that fits.

@@ -18,7 +18,7 @@ decided-made-requires c = (askable _ _ c.in_default.ensures).is_open
 pub returns-then-self-eq0 : goal.returns-then-self-eq0
 returns-then-self-eq0 c =
     let d = c.decided-made.ensures in
-    ask-decides _ _ c.in_default.ensures _ _ c.if-self-eq0.true d.run d.late
+    rw c.from-action.ensures (ask-decides _ _ c.in_default.ensures _ _ c.if-self-eq0.true d.run d.late)
 
 pub returns : goal.returns
-returns c = ask-coasts _ _ c.in_default.ensures _ c.if-self-eq0.false c.coasted.ensures
+returns c = rw c.from-action.ensures (ask-coasts _ _ c.in_default.ensures _ c.if-self-eq0.false c.coasted.ensures)
