@@ -31,10 +31,6 @@ add-requires c =
     let few : c.loop-r.r ≤ most_records = omega (arith, c.loop-r.invariant.within, c.requires.0) in
     room _ c.loop-r.r _ c.record_at-e.ensures _ few c.loop-r.invariant.tallied
 
-pub loop-r-smaller : goal.loop-r-smaller
-unfolding records
-loop-r-smaller c = omega arith
-
 pub loop-r-preserved : goal.loop-r-preserved
 unfolding records
 loop-r-preserved c = record {

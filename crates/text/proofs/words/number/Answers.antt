@@ -1,15 +1,11 @@
 -- What the digits so far and those that are left say stays the same. Assumes nothing.
 use Prim.Native.Nat.{ℕ, ◌+◌, ◌*◌}
 use mathlib.Core.Path.{◌≡◌, sym, ap, ◌∙◌}
-use mathlib.Core.List.{List}
 use native.Mathlib.Omega.{arith}
 use lib.ListN.{drop}
 use Rattle.text.specs.Words.{digits_say, capped}
 use Rattle.text.proofs.Passed.{digit-here, digits_end, text-end, capped-once}
 use Rattle.text.proofs.words.number.Goals as goal
-
-pub loop-at-init : goal.loop-at-init
-loop-at-init c = (omega arith, ap (λ (s : List ℕ). capped (digits_say 0 s)) (sym c.word-at.ensures.line_value))
 
 pub returns-then-not-is_ascii_digit : goal.returns-then-not-is_ascii_digit
 returns-then-not-is_ascii_digit c =
