@@ -1,23 +1,19 @@
 -- What planning a body answers: refused, and not. Assumes nothing.
-use Prim.Native.Nat.{ℕ, ◌*◌, ◌≤◌, ◌<◌}
+use Prim.Native.Nat.{ℕ, ◌*◌, ◌<◌}
 use mathlib.Core.Path.{◌≡◌, refl}
-use mathlib.Core.Bool.{Bool, true}
 use mathlib.Core.List.{List, [], ◌∷◌, ◌++◌}
 use mathlib.Core.Logic.{inl, inr, ◌≢◌, ◌↔◌}
-use native.Mathlib.Omega.{arith}
 use lib.Dec.{lit<}
-use lib.ListN.{length}
-use Rattle.rules.specs.Numbers.{most_actions, most_repeats, refused_unfit, refused_room, refused_repeats, refused_policy}
+use Rattle.rules.specs.Numbers.{most_actions, refused_unfit, refused_room, refused_repeats, refused_policy}
 use Rattle.std.specs.Prelude.{None, Ok, Err}
-use Rattle.rules.specs.Words.{Some, sum}
-use Rattle.rules.specs.Image.{Profile, profile}
+use Rattle.rules.specs.Words.{sum}
+use Rattle.rules.specs.Image.{profile}
 use Rattle.rules.specs.Order.{Order}
 use Rattle.rules.specs.Refusals.{Ground, ◌when◌, First, Refuses, Count, Range, Table, Looped, Unfit, Length, Tight, UnknownPolicy, loop_checks}
 use Rattle.rules.specs.Reasons.{number_of, fault_of}
 use Rattle.rules.specs.declared.Reason.{Reason}
 use Rattle.rules.specs.declared.Blame.{Blame}
-use Rattle.rules.specs.Repeat.{unrolled, OwnDeadline, Repeats, LentBody, body_checks, body_call}
-use Rattle.rules.proofs.Differences.{not-above}
+use Rattle.rules.specs.Repeat.{unrolled, Repeats, LentBody, body_checks, body_call}
 use Rattle.rules.proofs.Refusals.{Numbered, Blameless, first_stops, first-goes_on, first_parts, first-none, blameless, refuses-stops, refuses-goes_on, loop-numbered}
 use Rattle.rules.proofs.Reasons.{some_number}
 use Rattle.image_fields.specs.Reading.{HasRecords}
@@ -26,7 +22,7 @@ use Rattle.image_check.specs.declared.Checked.{Checked}
 use Rattle.image_check.specs.Checks.{CheckAnswers}
 use Rattle.planner.proofs.Answers.{kept-old, by_number}
 use Rattle.repeat_laws.proofs.Fits.{unfit-exact}
-use Rattle.repeat_tables.specs.Summing.{BodyInput, SomeBodyInput, EntriesFit, BodyFilled}
+use Rattle.repeat_tables.specs.Summing.{BodyInput, SomeBodyInput, BodyFilled}
 use Rattle.repeat_planner.specs.Admitting.{Passed}
 use Rattle.repeat_planner.specs.PlanningBody.{body_rooms, body_planned, PlansBody}
 
@@ -52,16 +48,6 @@ sound s p =
     }
 
 -- ---- 19 and 9, of an image that passes
-
--- 19, where N is in its range
-pub own-repeats : (F : Profile) {N n : ℕ} {b : Bool} → 0 < N → N ≤ most_repeats → n ≡ F.n → (b ≡ true) ↔ Some (OwnDeadline F) n
-    → (b ≡ true) ↔ Repeats F N
-own-repeats F {N} {n} {b} some most e t = ((λ h. inr (rw e at (t.0 h))), back)
-  where
-    back : Repeats F N → b ≡ true
-    back (inl (inl h)) = absurd (omega arith)
-    back (inl (inr h)) = absurd (omega arith)
-    back (inr h) = t.1 (rw e h)
 
 module _ {s : List ℕ} {n L cycle : ℕ} (p : Passed s n L cycle) where
   pub records : HasRecords s L n
@@ -181,22 +167,6 @@ module _ {s : List ℕ} {N policy : ℕ} (lent : LentBody) where
 
     pub some_input : SomeBodyInput s r.n r.levels r.order
     some_input = (a.accepted.order.0, input)
-
-    pub order_room : r.n ≤ length lent.order
-    order_room = omega (arith, a.accepted.n, not-above (λ h. nothing.room (inl h)))
-
-    pub entries_room : EntriesFit (r.n * r.levels) lent
-    entries_room =
-        let found = a.accepted in
-        rw (found.n, found.levels) (record {
-          summaries_room = not-above (λ h. nothing.room (inr (inl h)));
-          worst_room = not-above (λ h. nothing.room (inr (inr (inl h))));
-        })
-
-    pub few : HasRecords s r.levels r.n
-    few =
-        let found = a.accepted in
-        has-records s found.n found.levels nothing.body.not_count nothing.body.not_length
 
     pub all_written : {after : LentBody} → ((o : Order (profile s).n) → BodyInput s r.n r.levels r.order o → BodyFilled s policy lent after o)
         → PlansBody s N policy lent after (body_planned (Ok (record { n = r.n; levels = r.levels; cycle = r.cycle; repeats = N; policy = policy })))
