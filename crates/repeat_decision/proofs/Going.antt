@@ -8,10 +8,10 @@ use native.Mathlib.Nat.{mul-le-mul, mul-le-mul_right, le_refl}
 use native.Mathlib.Decide.{dec_le}
 use native.Mathlib.Omega.{arith}
 use lib.IntN.{pos, ◌-ℤ◌}
-use lib.ListN.{length, get_or}
+use lib.ListN.{get_or}
 use lib.Signed.{le_z}
 use borrow.Author.Tests.{ltb-true, lt-ltb}
-use Rattle.rules.specs.Numbers.{most_repeats, longest_coast, summary_numbers}
+use Rattle.rules.specs.Numbers.{most_repeats, longest_coast}
 use Rattle.rules.specs.Words.{sum, span}
 use Rattle.rules.specs.Run.{left_granted}
 use Rattle.rules.specs.Dry.{cell}
@@ -22,7 +22,7 @@ use Rattle.rules.proofs.Tests.{not-both}
 use Rattle.repeat_laws.specs.Standing.{Standing}
 use Rattle.repeat_laws.proofs.Standing.{stands, place_in, next_place, next-body}
 use Rattle.repeat_laws.proofs.Coasting.{Coasting, coasting_one, coasting_more, stops_rising, stops-falling, stops_ending, granted}
-use Rattle.repeat_limits.specs.Limits.{most_entry, latest, CountsIn, LeavesRoom, later_of, room_left, fits_in}
+use Rattle.repeat_limits.specs.Limits.{most_entry, latest, later_of, room_left, fits_in}
 use Rattle.repeat_limits.proofs.Sizes.{mix_of}
 use Rattle.repeat_limits.proofs.Reading.{limit-read}
 use Rattle.repeat_limits.proofs.Rooms.{later-room, room-is-limit}
@@ -53,15 +53,6 @@ module _ {b : Body} {s : List ℕ} {place after : ℕ} (h : Summarised b s place
     cells = mul-le-mul h.counts.few h.counts.few_levels;
     few = omega (arith, h.fewer, h.counts.few_repeats);
   }
-
--- the first row, where the whole body is summed up
-pub leaves_room : {b : Body} {s : List ℕ} {after q t : ℕ} → CountsIn b → b.n * b.levels * summary_numbers ≤ length s → after < b.repeats
-    → q < b.levels → t ≤ latest → LeavesRoom s q after t
-leaves_room {b} counts summed fewer level early = record {
-  whole = omega (arith, mul-le-mul_right b.levels counts.some_action, summed);
-  few = omega (arith, fewer, counts.few_repeats);
-  early = early;
-}
 
 -- what is read there is the limit of the lent plan
 pub reads-limit : {b : Body} (T : LentBody) {x place after : ℕ} (t q : ℕ) → Standing b x place after

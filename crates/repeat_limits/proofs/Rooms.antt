@@ -29,11 +29,7 @@ kept a b e l h = stored e (difference_within a b signed_above l h)
 pub same-near : {r s : Room} → r ≡ s → Near s → Near r
 same-near e h = rw e h
 
--- where the averages do not count, and where they do
-pub room-none : (c b : ℕ) (l : Later) → l.counts ≡ false
-    → record { mix = pos c -ℤ pos (b + l.lowest); average = pos (c + ample) -ℤ pos b } ≡ room_left c b l
-room-none c b l none = rw none
-
+-- where the averages count
 pub room-some : (c b : ℕ) (l : Later) → l.counts ≡ true
     → record { mix = pos c -ℤ pos (b + l.lowest); average = pos c -ℤ pos (b + l.mix) } ≡ room_left c b l
 room-some c b l some = rw some

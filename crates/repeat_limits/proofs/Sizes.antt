@@ -8,7 +8,7 @@ use native.Mathlib.Nat.{mul-le-mul}
 use native.Mathlib.Omega.{arith}
 use lib.Dec.{eqb}
 use lib.ListN.{get_or}
-use borrow.Author.Tests.{eq-eqb, ne_eqb}
+use borrow.Author.Tests.{ne_eqb}
 use Rattle.rules.specs.Numbers.{most_repeats, policy_2005, summary_numbers}
 use Rattle.rules.specs.Repeat.{Sums, followed, bodies, needed_2005, needed, stretch_at}
 use Rattle.repeat_limits.specs.Limits.{most_entry, greatest_later, Summed, later_2008, later_2005, later_of, mix_before, BodiesAfter, Before}
@@ -51,9 +51,6 @@ pub record Read (l : List ℕ) (q average lowest mix : ℕ) : Type 0 where
 
 -- in 2008 no bodies and some, as numbers
 module _ (policy : ℕ) (mixed : policy ≢ policy_2005) where
-  pub none-later : (y : Sums) (after : ℕ) → after ≡ 0 → record { counts = false; lowest = 0; mix = 0 } ≡ later_of policy y after
-  none-later y after e = rw (ne_eqb policy policy_2005 mixed, e)
-
   some-later : (y : Sums) (after : ℕ) → after ≢ 0
       → record { counts = true; lowest = after * y.lowest; mix = y.mix + (after - 1) * max y.average y.lowest } ≡ later_of policy y after
   some-later y zero some = absurd (some refl)
@@ -64,13 +61,6 @@ module _ (policy : ℕ) (mixed : policy ≢ policy_2005) where
   read-later {l} {q} R after some =
       let first : q * summary_numbers + 0 ≡ q * summary_numbers = omega arith in
       rw (R.average_is, R.lowest_is, R.mix_is, first) (some-later (stretch_at l q) after some)
-
--- in 2005 any number of them
-pub read-apart : (policy : ℕ) (l : List ℕ) (q : ℕ) {average lowest : ℕ} → average ≡ get_or l (q * summary_numbers + 0) 0 → lowest ≡ get_or l (q * summary_numbers + 1) 0
-    → (after : ℕ) → policy ≡ policy_2005 → record { counts = true; lowest = after * lowest; mix = after * average } ≡ later_of policy (stretch_at l q) after
-read-apart policy l q a w after e =
-    let first : q * summary_numbers + 0 ≡ q * summary_numbers = omega arith in
-    rw (eq-eqb policy policy_2005 e, a, w, first)
 
 -- what they add to any stretch before them
 pub joins : (policy : ℕ) (x y : Sums) (after : ℕ) → mix_before x (later_of policy y after) ≡ needed policy x y after
@@ -91,13 +81,3 @@ module _ {policy q after : ℕ} {l : List ℕ} {later : Later} (x : ℕ) where
 
   pub before_there : Summed l x q after → BodiesAfter policy l q after later → Before l x later
   before_there there are = record { own = there.own; few_lowest = are.few_lowest; few_mix = are.few_mix }
-
--- the stretch's own numbers read one at a time, `m` its M and `a` its averages, where these count and where they do not
-pub read-before : (s : List ℕ) (x : ℕ) {a m : ℕ} (l : Later) → m ≡ get_or s (x * summary_numbers + 2) 0 → a ≡ get_or s (x * summary_numbers + 0) 0
-    → l.counts ≡ true → max (m + l.lowest) (a + l.mix) ≡ mix_before (stretch_at s x) l
-read-before s x l mix average counts =
-    let first : x * summary_numbers + 0 ≡ x * summary_numbers = omega arith in
-    rw (mix, average, first, counts)
-
-pub before-alone : (l : Later) (x : Sums) → l.counts ≡ false → mix_before x l ≡ x.mix
-before-alone l x e = rw e

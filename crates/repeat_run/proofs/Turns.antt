@@ -59,7 +59,3 @@ pub left_ended : (self run cut : BodyRun) (w t : ℕ) (over : Bool) → over ≡
     → steps_of cut ≡ cut_short (steps_of run) → steps_of (cond over cut run) ≡ ended w t (steps_of self)
 left_ended self run cut w t true e p q = q ∙ ap cut_short p ∙ ends-over w t (steps_of self) (sym e)
 left_ended self run cut w t false e p q = p ∙ ends-within w t (steps_of self) (sym e)
-
-pub left_body : (b : Body) (run cut : BodyRun) (over : Bool) → run.body ≡ b → cut.body ≡ b → (cond over cut run).body ≡ b
-left_body b run cut true p q = q
-left_body b run cut false p q = p
