@@ -6,6 +6,7 @@ ghost use Rattle.std.specs.Prelude.{◌<◌, ◌≡◌};
 ghost use Rattle.image_write.specs.Writing.{Writes, written};
 ghost use Rattle.encoder.specs.Times.{times, column, encoder_tables};
 
+use profile::Tables;
 use rules::Blame;
 
 const ACTIONS: usize = 9;
@@ -81,7 +82,11 @@ pub fn write_image(image: &mut [u8]) -> Result<usize, Blame>
     let times = times();
     let averages = column(times, AVERAGE);
     let worst = column(times, WORST);
-    profile::write(
-        ACTIONS, LEVELS, CYCLE, &masks, &deadlines, &averages, &worst, image,
-    )
+    let tables = Tables {
+        masks: &masks,
+        deadlines: &deadlines,
+        averages: &averages,
+        worst: &worst,
+    };
+    profile::write(ACTIONS, LEVELS, CYCLE, tables, image)
 }

@@ -2,6 +2,11 @@
 use Rattle.std.specs.Prelude.{ℕ, ◌*◌, ◌≤◌, length}
 use Rattle.rules.specs.Numbers.{most_actions, most_levels}
 use Rattle.rules.specs.Image.{Profile, ProfileTables, of_tables}
+use Rattle.image_pack.specs.declared.Tables.{Tables}
+
+-- What lent tables hold.
+abbrev pub tables_of : Tables → ProfileTables
+tables_of t = record { masks = t.masks.now; deadlines = t.deadlines.now; averages = t.averages.now; worst = t.worst.now }
 
 -- Tables with what n actions at L levels need.
 pub record Roomy (n L : ℕ) (T : ProfileTables) : Type 0 where

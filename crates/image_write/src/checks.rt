@@ -4,27 +4,22 @@ ghost use Rattle.std.specs.Prelude.{◌≡◌, true, ◌↔◌, ℕ, ◌+◌, �
 ghost use Rattle.rules.specs.Numbers.{most_actions, most_levels};
 ghost use Rattle.rules.specs.Image.{time_at, of_tables};
 ghost use Rattle.rules.specs.Refusals.{Lowest, LongTime, WriteFault, RowBreaks, Tight};
-ghost use Rattle.image_pack.specs.Packing.{Roomy};
+ghost use Rattle.image_pack.specs.Packing.{tables_of, Roomy};
 ghost use Rattle.image_write.specs.Writing.{table_rooms};
 
 use image_fields::scan;
+use image_pack::Tables;
 
 // Refusal 17, of the tables: whether one is shorter than n actions at so many levels need.
-pub fn tight(
-    n: usize,
-    levels: usize,
-    masks: &[u64],
-    deadlines: &[u32],
-    averages: &[u32],
-    worst: &[u32],
-) -> bool
+pub fn tight(n: usize, levels: usize, tables: Tables<'_>) -> bool
     requires { (n ≤ most_actions) × (levels ≤ most_levels) }
-    ensures { (result ≡ true)
-        ↔ Tight (table_rooms n levels
-        (record { masks = masks.now; deadlines = deadlines.now; averages = averages.now; worst = worst.now })) }
+    ensures { (result ≡ true) ↔ Tight (table_rooms n levels (tables_of tables.entry)) }
 {
     let entries = n * levels;
-    masks.len() < n || deadlines.len() < n || averages.len() < entries || worst.len() < entries
+    tables.masks.len() < n
+        || tables.deadlines.len() < n
+        || tables.averages.len() < entries
+        || tables.worst.len() < entries
 }
 
 // Whether a time of action a is above the longest. Where its times are in order (7 is not given for it), the longest is the worst one at the
@@ -51,23 +46,16 @@ pub fn range(
     n: usize,
     levels: usize,
     cycle: u32,
-    masks: &[u64],
-    deadlines: &[u32],
-    averages: &[u32],
-    worst: &[u32],
+    tables: Tables<'_>,
     ordered: bool,
 ) -> Option<usize>
-    requires roomy { Roomy n levels (record { masks = masks.now; deadlines = deadlines.now; averages = averages.now; worst = worst.now })
-        × (1 ≤ levels) }
-    requires unbroken { ordered ≡ true → (a : ℕ) → a < n → RowBreaks levels (time_at levels averages.now a) (time_at levels worst.now a) → ⊥ }
-    ensures { Lowest
-        (WriteFault (of_tables n levels cycle
-        (record { masks = masks.now; deadlines = deadlines.now; averages = averages.now; worst = worst.now })))
-        n result }
+    requires roomy { Roomy n levels (tables_of tables) × (1 ≤ levels) }
+    requires unbroken { ordered ≡ true → (a : ℕ) → a < n → RowBreaks levels (time_at levels tables.averages.now a) (time_at levels tables.worst.now a) → ⊥ }
+    ensures { Lowest (WriteFault (of_tables n levels cycle (tables_of tables.entry))) n result }
 {
     for a in 0..n {
-        if scan::out_of_range(masks[a], deadlines[a], cycle, n)
-            || long_time(averages, worst, levels, a, ordered)
+        if scan::out_of_range(tables.masks[a], tables.deadlines[a], cycle, n)
+            || long_time(tables.averages, tables.worst, levels, a, ordered)
         {
             return Some(a);
         }

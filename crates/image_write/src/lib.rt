@@ -4,8 +4,10 @@
 ghost use Rattle.std.specs.Prelude.{◌≡◌};
 ghost use Rattle.rules.specs.Reasons.{fault};
 ghost use Rattle.rules.specs.Refusals.{Refuses};
+ghost use Rattle.image_pack.specs.Packing.{tables_of};
 ghost use Rattle.image_write.specs.Writing.{writing, Writes, written};
 
+use image_pack::Tables;
 use rules::{Blame, Fault, Reason};
 
 pub mod checks;
@@ -40,37 +42,36 @@ pub fn refusal(
     n: usize,
     levels: usize,
     cycle: u32,
-    masks: &[u64],
-    deadlines: &[u32],
-    averages: &[u32],
-    worst: &[u32],
+    tables: Tables<'_>,
     room: usize,
 ) -> Result<(), Blame>
-    ensures { Refuses
-        (writing n levels cycle
-        (record { masks = masks.now; deadlines = deadlines.now; averages = averages.now; worst = worst.now })
-        room) (fault result) }
+    ensures { Refuses (writing n levels cycle (tables_of tables.entry) room) (fault result) }
 {
     if image_fields::scan::count_out(n, levels, cycle) {
         return Err(Blame::from(Reason::Count));
     }
-    if checks::tight(n, levels, masks, deadlines, averages, worst)
-        || room < image_pack::image_bytes(n, levels)
-    {
+    if checks::tight(n, levels, tables) || room < image_pack::image_bytes(n, levels) {
         return Err(Blame::from(Reason::Room));
     }
     // The lowest action at fault for 7 and for 6. 6 is given before 7 and looked for after it: where no row breaks the rule of 7, one test a row
     // tells whether a time is too long.
-    let fallen = checks::table(n, levels, averages, worst);
+    let fallen = checks::table(n, levels, tables.averages, tables.worst);
     let ordered = fallen.is_none();
-    let out = checks::range(n, levels, cycle, masks, deadlines, averages, worst, ordered);
+    let out = checks::range(n, levels, cycle, tables, ordered);
     if let Some(a) = out {
         return Err(Blame::on(Reason::Range, a));
     }
     if let Some(a) = fallen {
         return Err(Blame::on(Reason::Table, a));
     }
-    let judged = order::judge(masks, deadlines, cycle, worst, levels, n)?;
+    let judged = order::judge(
+        tables.masks,
+        tables.deadlines,
+        cycle,
+        tables.worst,
+        levels,
+        n,
+    )?;
     if judged.unfit {
         return Err(Blame::from(Reason::Unfit));
     }
@@ -83,18 +84,13 @@ pub fn write(
     n: usize,
     levels: usize,
     cycle: u32,
-    masks: &[u64],
-    deadlines: &[u32],
-    averages: &[u32],
-    worst: &[u32],
+    tables: Tables<'_>,
     image: &mut [u8],
 ) -> Result<usize, Blame>
-    ensures { Writes n levels cycle
-        (record { masks = masks.now; deadlines = deadlines.now; averages = averages.now; worst = worst.now })
-        image.old image.new (written result).refusal (written result).bytes }
+    ensures { Writes n levels cycle (tables_of tables.entry) image.old image.new (written result).refusal (written result).bytes }
 {
     let room = image.len();
-    refusal(n, levels, cycle, masks, deadlines, averages, worst, room)?;
-    image_pack::put_image(image, n, levels, cycle, masks, deadlines, averages, worst);
+    refusal(n, levels, cycle, tables, room)?;
+    image_pack::put_image(image, n, levels, cycle, tables);
     Ok(image_pack::image_bytes(n, levels))
 }

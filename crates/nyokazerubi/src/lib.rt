@@ -16,7 +16,7 @@ ghost use Rattle.nyokazerubi.specs.Flat.{boundary};
 use dry_frame::Framed;
 use image_write::Written;
 use planner::Planned;
-use profile::{Place, Unpacked};
+use profile::{Place, Tables, Unpacked};
 use refresh::Refreshed;
 use rules::Fault;
 use run::dry::Dried;
@@ -71,16 +71,13 @@ pub fn nyokazerubi_write(
         (record { masks = masks.now; deadlines = deadlines.now; averages = averages.now; worst = worst_by_action.now })
         image.old image.new result.refusal result.bytes }
 {
-    Written::from(profile::write(
-        n,
-        levels,
-        cycle,
+    let tables = Tables {
         masks,
         deadlines,
         averages,
-        worst_by_action,
-        image,
-    ))
+        worst: worst_by_action,
+    };
+    Written::from(profile::write(n, levels, cycle, tables, image))
 }
 
 pub fn nyokazerubi_write_encoder(image: &mut [u8]) -> Written

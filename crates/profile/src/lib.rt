@@ -4,10 +4,12 @@
 ghost use Rattle.std.specs.Prelude.{◌≡◌};
 ghost use Rattle.rules.specs.Reasons.{fault};
 ghost use Rattle.rules.specs.Refusals.{Refuses, image_checks, lookup_call};
+ghost use Rattle.image_pack.specs.Packing.{tables_of};
 ghost use Rattle.image_write.specs.Writing.{Writes, written};
 ghost use Rattle.profile.specs.Calls.{ReadsImage, unpacked, Places, placed, LooksUp};
 
 use image_check::{Checked, whole};
+pub use image_pack::Tables;
 use rules::{Blame, Counts, Fault, Reason};
 
 // The answer of reading, as C takes it: the refusal, and without one the counts and the cycle of the profile, else 0.
@@ -101,7 +103,13 @@ pub fn read(
         cycle,
         ..
     } = whole::checked(image)?;
-    if image_write::checks::tight(n, levels, masks, deadlines, averages, worst) {
+    let tables = Tables {
+        masks,
+        deadlines,
+        averages,
+        worst,
+    };
+    if image_write::checks::tight(n, levels, tables) {
         return Err(Blame::from(Reason::Room));
     }
     image_read::unpack(image, n, levels, masks, deadlines, averages, worst);
@@ -150,15 +158,10 @@ pub fn write(
     n: usize,
     levels: usize,
     cycle: u32,
-    masks: &[u64],
-    deadlines: &[u32],
-    averages: &[u32],
-    worst: &[u32],
+    tables: Tables<'_>,
     image: &mut [u8],
 ) -> Result<usize, Blame>
-    ensures { Writes n levels cycle
-        (record { masks = masks.now; deadlines = deadlines.now; averages = averages.now; worst = worst.now })
-        image.old image.new (written result).refusal (written result).bytes }
+    ensures { Writes n levels cycle (tables_of tables.entry) image.old image.new (written result).refusal (written result).bytes }
 {
-    image_write::write(n, levels, cycle, masks, deadlines, averages, worst, image)
+    image_write::write(n, levels, cycle, tables, image)
 }

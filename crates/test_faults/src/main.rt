@@ -10,6 +10,7 @@ ghost use Rattle.io.specs.Counts.{IsPrefixLen};
 
 use check::same;
 use image_write::Written;
+use profile::Tables;
 use std::io;
 use std::rt::Files;
 use test_kit::{read_case, sum_up, tell};
@@ -167,14 +168,17 @@ fn written(text: &[u8], image: &mut [u8]) -> Written {
     let b = count_of(text, 2);
     let c = count_of(text, 3);
     let d = count_of(text, 4);
+    let tables = Tables {
+        masks: &masks[..a],
+        deadlines: &deadlines[..b],
+        averages: &averages[..c],
+        worst: &worst[..d],
+    };
     profile::write(
         test_kit::count(first[0]),
         test_kit::count(first[1]),
         first[2],
-        &masks[..a],
-        &deadlines[..b],
-        &averages[..c],
-        &worst[..d],
+        tables,
         &mut image[..room],
     )
 }

@@ -2,6 +2,7 @@
 // A case is told again with what came of it.
 #![tactic(auto)]
 
+use profile::Tables;
 use std::io;
 use test_kit::{count, part, say, say_fault};
 
@@ -112,9 +113,13 @@ fn say_back<R: Print>(
     worst: &[u32; 6],
 ) -> io::Result<()> {
     let mut image = [0u8; 78];
-    let written = profile::write(
-        n, levels, cycle, masks, deadlines, averages, worst, &mut image,
-    );
+    let tables = Tables {
+        masks,
+        deadlines,
+        averages,
+        worst,
+    };
+    let written = profile::write(n, levels, cycle, tables, &mut image);
     say_fault(rt, b", back ", written.refusal)?;
     let same = check::same(&image, &test_kit::samples::three());
     test_kit::say_whether(rt, same, b", the same", b", another")
@@ -127,14 +132,17 @@ fn tell_write<R: Print>(rt: &R, row: [u32; 24]) -> io::Result<()> {
     let mut image = [0xa5u8; 25];
     let room = part(row[7], 25);
     let masks = [row[3] as u64];
+    let tables = Tables {
+        masks: &masks,
+        deadlines: &[row[4]],
+        averages: &[row[5]],
+        worst: &[row[6]],
+    };
     let written = profile::write(
         count(row[0]),
         count(row[1]),
         row[2],
-        &masks,
-        &[row[4]],
-        &[row[5]],
-        &[row[6]],
+        tables,
         &mut image[0..room],
     );
     say_fault(rt, b": ", written.refusal)?;

@@ -4,6 +4,7 @@
 
 ghost use Rattle.std.specs.Prelude.{◌≡◌, length};
 
+use profile::Tables;
 use refresh::Refreshed;
 use std::io;
 use test_kit::part;
@@ -129,15 +130,12 @@ fn with_averages(image: &[u8], averages: &[u32; 6]) -> [u8; 78] {
     let mut worst = [0u32; 6];
     let read = profile::read(image, &mut masks, &mut deadlines, &mut own, &mut worst);
     let mut out = [0u8; 78];
-    profile::write(
-        read.n,
-        read.levels,
-        read.cycle,
-        &masks,
-        &deadlines,
+    let tables = Tables {
+        masks: &masks,
+        deadlines: &deadlines,
         averages,
-        &worst,
-        &mut out,
-    );
+        worst: &worst,
+    };
+    profile::write(read.n, read.levels, read.cycle, tables, &mut out);
     out
 }

@@ -1,7 +1,7 @@
 -- Assumes nothing.
 use native.Mathlib.Omega.{arith}
 use Rattle.rules.specs.Image.{ProfileTables, of_tables, level_image}
-use Rattle.image_pack.specs.Packing.{of_records}
+use Rattle.image_pack.specs.Packing.{tables_of, of_records}
 use Rattle.image_pack.proofs.Sizes.{record_end}
 use Rattle.image_pack.proofs.Images.{record_written}
 use Rattle.image_pack.proofs.put_record.Goals as goal
@@ -25,6 +25,6 @@ pub returns : goal.returns
 unfolding of_tables level_image
 returns c =
     let x = c.args in
-    let T : ProfileTables = record { masks = x.masks.now; deadlines = x.deadlines.now; averages = x.averages.now; worst = x.worst.now } in
+    let T : ProfileTables = tables_of x.tables in
     record_written (of_records x.levels T) _ x.a _
     c.record_at-at.ensures c.requires.levels_in_bounds.0 c.put_be.auto.out c.put_be.ensures (rw c.from-deadline.ensures at c.put_be-2.ensures) c.put_levels.ensures

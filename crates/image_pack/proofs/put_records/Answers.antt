@@ -6,7 +6,7 @@ use borrow.Author.Rules.{rules}
 use Rattle.rules.specs.Image.{Profile, ProfileTables, of_tables, record_bytes, record_at, record_image}
 use Rattle.fields.proofs.Cats.{cat-none, cat-more}
 use Rattle.image_laws.proofs.Sizes.{length_record}
-use Rattle.image_pack.specs.Packing.{of_records}
+use Rattle.image_pack.specs.Packing.{tables_of, of_records}
 use Rattle.image_pack.proofs.Sizes.{roomy_first, image-first, record_end}
 use Rattle.image_pack.proofs.put_records.Goals as goal
 
@@ -25,7 +25,7 @@ unfolding of_tables record_at
 loop-a-preserved c =
     let x = c.args in
     let a = c.loop-a.a in
-    let T : ProfileTables = record { masks = x.masks.now; deadlines = x.deadlines.now; averages = x.averages.now; worst = x.worst.now } in
+    let T : ProfileTables = tables_of x.tables in
     let F : Profile = of_records x.levels T in (
       search rules,
       cat-more (record_image F) (record_bytes x.levels) (length_record F) _ _ _ a

@@ -17,7 +17,7 @@ use Rattle.rules.proofs.Faults.{Faultless}
 use Rattle.rules.proofs.Refusals.{refuses_when, refuses_on, refuses_blamed}
 use Rattle.order.specs.Judged.{order_checks}
 use Rattle.image_fields.proofs.Faults.{denied}
-use Rattle.image_pack.specs.Packing.{Roomy}
+use Rattle.image_pack.specs.Packing.{tables_of, Roomy}
 use Rattle.image_write.specs.Writing.{table_rooms, write_rooms, writing}
 use Rattle.image_write.proofs.Answers.{tight_and}
 use Rattle.image_write.proofs.Accepting.{counted, roomy}
@@ -70,7 +70,7 @@ module _ (n L cycle : ℕ) (T : ProfileTables) (room : ℕ) where
 
 -- ---- the tables of a call
 
-passed : (c : Else-room-image_bytes) → let x = c.args in Passed x.n x.levels x.cycle (record { masks = x.masks.now; deadlines = x.deadlines.now; averages = x.averages.now; worst = x.worst.now }) x.room
+passed : (c : Else-room-image_bytes) → let x = c.args in Passed x.n x.levels x.cycle (tables_of x.tables) x.room
 passed c = record {
   counts = denied c.count_out.ensures c.if-count_out.false;
   tables = denied c.tight.ensures c.if-tight.false;
@@ -87,24 +87,24 @@ none_left (Some a) e h = absurd (not-both refl (e ∙ ap not h))
 
 in_range : (c : In_default)
     → let x = c.args in
-    Faultless (WriteFault (of_tables x.n x.levels x.cycle (record { masks = x.masks.now; deadlines = x.deadlines.now; averages = x.averages.now; worst = x.worst.now }))) x.n
+    Faultless (WriteFault (of_tables x.n x.levels x.cycle (tables_of x.tables))) x.n
 in_range c = none_found _ _ c.in_default.is c.range-out.ensures
 
 in_table : (c : In_default-fallen)
     → let x = c.args in
-    Faultless (TableFault (of_tables x.n x.levels x.cycle (record { masks = x.masks.now; deadlines = x.deadlines.now; averages = x.averages.now; worst = x.worst.now }))) x.n
+    Faultless (TableFault (of_tables x.n x.levels x.cycle (tables_of x.tables))) x.n
 unfolding of_tables
 in_table c = none_found _ _ c.in_default-fallen.is c.table-fallen.ensures
 
 -- past them all it is for the order to say
 from-order : (c : In_default-fallen) (f : Fault)
     → let x = c.args in
-    Refuses (order_checks (of_tables x.n x.levels x.cycle (record { masks = x.masks.now; deadlines = x.deadlines.now; averages = x.averages.now; worst = x.worst.now }))) f
-    → Refuses (writing x.n x.levels x.cycle (record { masks = x.masks.now; deadlines = x.deadlines.now; averages = x.averages.now; worst = x.worst.now }) x.room) f
+    Refuses (order_checks (of_tables x.n x.levels x.cycle (tables_of x.tables))) f
+    → Refuses (writing x.n x.levels x.cycle (tables_of x.tables) x.room) f
 unfolding of_tables
 from-order c f q =
     let x = c.args in
-    rest x.n x.levels x.cycle (record { masks = x.masks.now; deadlines = x.deadlines.now; averages = x.averages.now; worst = x.worst.now }) x.room (passed (goal.at.In_default-fallen c).Else-room-image_bytes) f
+    rest x.n x.levels x.cycle (tables_of x.tables) x.room (passed (goal.at.In_default-fallen c).Else-room-image_bytes) f
     (refuses_on (λ w. in_range (goal.at.In_default-fallen c).In_default w.0 w.1 w.2) (refuses_on (λ w. in_table c w.0 w.1 w.2) q))
 
 pub returns-then-count_out : goal.returns-then-count_out
@@ -114,13 +114,13 @@ returns-then-count_out c = rw c.from.ensures (refuses_when refused_count (c.coun
 pub returns-then-tight : goal.returns-then-tight
 returns-then-tight c =
     let x = c.args in
-    let short : Tight (table_rooms x.n x.levels (record { masks = x.masks.now; deadlines = x.deadlines.now; averages = x.averages.now; worst = x.worst.now })) ⊎ (x.room < image_bytes x.n x.levels) =
+    let short : Tight (table_rooms x.n x.levels (tables_of x.tables)) ⊎ (x.room < image_bytes x.n x.levels) =
     elim c.then-tight.branch [
       | then-tight-via-then-tight w ↦ inl (c.tight.ensures.0 w.if-tight.true)
       | then-tight-via-else-tight+then-room-image_bytes w ↦ inr (omega (arith, w.image_bytes.ensures, w.if-room-image_bytes.true))
     ] in
     rw c.from-then-tight.ensures
-    (refused-17 x.n x.levels x.cycle (record { masks = x.masks.now; deadlines = x.deadlines.now; averages = x.averages.now; worst = x.worst.now }) x.room (denied c.count_out.ensures c.if-count_out.false) ((tight-says x.n x.levels x.cycle (record { masks = x.masks.now; deadlines = x.deadlines.now; averages = x.averages.now; worst = x.worst.now }) x.room).0 short))
+    (refused-17 x.n x.levels x.cycle (tables_of x.tables) x.room (denied c.count_out.ensures c.if-count_out.false) ((tight-says x.n x.levels x.cycle (tables_of x.tables) x.room).0 short))
 
 pub range-out-requires-clause-unbroken : goal.range-out-requires-clause-unbroken
 range-out-requires-clause-unbroken c = λ e. none_found _ _ (none_left _ c.is_none-ordered.ensures e) c.table-fallen.ensures
@@ -131,7 +131,7 @@ returns-in-Some c =
     let x = c.args in
     let p = passed (goal.at.returns-in-Some c).Else-room-image_bytes in
     rw c.on.ensures
-    (rest x.n x.levels x.cycle (record { masks = x.masks.now; deadlines = x.deadlines.now; averages = x.averages.now; worst = x.worst.now }) x.room p _ (refuses_blamed refused_range c.in-Some.ensures.0 (few _ _ _ _ _ p) c.in-Some.ensures.1))
+    (rest x.n x.levels x.cycle (tables_of x.tables) x.room p _ (refuses_blamed refused_range c.in-Some.ensures.0 (few _ _ _ _ _ p) c.in-Some.ensures.1))
 
 pub returns-in-Some-fallen : goal.returns-in-Some-fallen
 unfolding of_tables
@@ -140,7 +140,7 @@ returns-in-Some-fallen c =
     let p = passed (goal.at.returns-in-Some-fallen c).Else-room-image_bytes in
     let low = rw c.in-Some-fallen.is at c.table-fallen.ensures in
     rw c.on-in-Some-fallen.ensures
-    (rest x.n x.levels x.cycle (record { masks = x.masks.now; deadlines = x.deadlines.now; averages = x.averages.now; worst = x.worst.now }) x.room p _ (refuses_on (λ w. in_range (goal.at.returns-in-Some-fallen c).In_default w.0 w.1 w.2) (refuses_blamed refused_table low.0 (few _ _ _ _ _ p) low.1)))
+    (rest x.n x.levels x.cycle (tables_of x.tables) x.room p _ (refuses_on (λ w. in_range (goal.at.returns-in-Some-fallen c).In_default w.0 w.1 w.2) (refuses_blamed refused_table low.0 (few _ _ _ _ _ p) low.1)))
 
 pub judge-requires : goal.judge-requires
 judge-requires c =
@@ -153,17 +153,17 @@ pub returns-in_err-judged : goal.returns-in_err-judged
 returns-in_err-judged c =
     let x = c.args in
     let p = err_from_is_err_and c.from_residual.result c.from_residual.ensures.1 in
-    let verdict = judged x.n x.levels x.cycle (record { masks = x.masks.now; deadlines = x.deadlines.now; averages = x.averages.now; worst = x.worst.now }) c.in_err-judged.ensures.verdict in
+    let verdict = judged x.n x.levels x.cycle (tables_of x.tables) c.in_err-judged.ensures.verdict in
     rw (p.1, p.2) (from-order (goal.at.returns-in_err-judged c).In_default-fallen _ verdict.given)
 
 pub returns-then-judged : goal.returns-then-judged
 returns-then-judged c =
     let x = c.args in
-    let verdict = judged x.n x.levels x.cycle (record { masks = x.masks.now; deadlines = x.deadlines.now; averages = x.averages.now; worst = x.worst.now }) (rw (c.in_ok-judged.was, c.if-judged.true) at c.judge.ensures.verdict) in
+    let verdict = judged x.n x.levels x.cycle (tables_of x.tables) (rw (c.in_ok-judged.was, c.if-judged.true) at c.judge.ensures.verdict) in
     rw c.from-then-judged.ensures (from-order (goal.at.returns-then-judged c).In_default-fallen _ verdict.given)
 
 pub returns : goal.returns
 returns c =
     let x = c.args in
-    let verdict = judged x.n x.levels x.cycle (record { masks = x.masks.now; deadlines = x.deadlines.now; averages = x.averages.now; worst = x.worst.now }) (rw (c.in_ok-judged.was, c.if-judged.false) at c.judge.ensures.verdict) in
+    let verdict = judged x.n x.levels x.cycle (tables_of x.tables) (rw (c.in_ok-judged.was, c.if-judged.false) at c.judge.ensures.verdict) in
     from-order (goal.at.returns c).In_default-fallen _ verdict.given

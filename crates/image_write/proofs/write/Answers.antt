@@ -1,6 +1,7 @@
 -- Assumes nothing.
 use lib.ListN.{length}
 use Rattle.std.proofs.lemmas.Result.{err_from_is_err_and}
+use Rattle.image_pack.specs.Packing.{tables_of}
 use Rattle.image_write.proofs.Accepting.{Packable, packable}
 use Rattle.image_write.proofs.Settled.{refused-writes}
 use Rattle.image_write.proofs.write.Goals as goal
@@ -9,7 +10,7 @@ use Rattle.image_write.proofs.write.Goals.{In_ok-refusal}
 -- nothing is refused
 ready : (c : In_ok-refusal)
     → let x = c.args in
-    Packable x.n x.levels x.cycle (record { masks = x.masks.now; deadlines = x.deadlines.now; averages = x.averages.now; worst = x.worst.now }) (length x.image.now)
+    Packable x.n x.levels x.cycle (tables_of x.tables) (length x.image.now)
 ready c = packable _ _ _ _ _ c.in_ok-refusal.ensures.number
 
 pub returns-in_err-refusal : goal.returns-in_err-refusal
