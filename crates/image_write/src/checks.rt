@@ -23,7 +23,7 @@ pub fn tight(n: usize, levels: usize, tables: Tables<'_>) -> bool
 }
 
 // Whether a time of action a is above the longest. Where its times are in order (7 is not given for it), the longest is the worst one at the
-// top level.
+// top level. It takes the two tables that it reads: their names in the clauses are shorter so.
 fn long_time(averages: &[u32], worst: &[u32], levels: usize, a: usize, ordered: bool) -> bool
     requires levels_in_bounds { (a * levels + levels ≤ length averages.now) × (a * levels + levels ≤ length worst.now) }
     requires le_levels { (1 ≤ levels) × (ordered ≡ true → RowBreaks levels (time_at levels averages.now a) (time_at levels worst.now a) → ⊥) }
@@ -63,7 +63,7 @@ pub fn range(
     None
 }
 
-// Refusal 7: an average above its worst time, a time that falls with the level.
+// Refusal 7: an average above its worst time, a time that falls with the level. The two tables come by themselves, as with `long_time`.
 pub fn table(n: usize, levels: usize, averages: &[u32], worst: &[u32]) -> Option<usize>
     requires { (n * levels ≤ length averages.now) × (n * levels ≤ length worst.now) }
     ensures { Lowest
