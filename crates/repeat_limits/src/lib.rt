@@ -54,7 +54,7 @@ fn number_at(summaries: &[u32], x: usize, k: usize) -> u64
     ensures is { result ≡ get_or summaries.now (x * summary_numbers + k) 0 }
     ensures small { result ≤ most_entry }
 {
-    summaries[x * rules::SUMMARY_NUMBERS + k] as u64
+    u64::from(summaries[x * rules::SUMMARY_NUMBERS + k])
 }
 
 // The whole bodies after one at a level, summed up: W and M of them all, in 2005 their averages for M; and whether the averages of the rest before them
@@ -115,7 +115,7 @@ fn mix_from(policy: u32, summaries: &[u32], x: usize, q: usize, after: u32) -> u
     ensures mixed { result ≡ needed policy (stretch_at summaries.now x) (stretch_at summaries.now q) after }
     ensures small { result ≤ greatest_mix }
 {
-    let later = bodies_after(policy, summaries, q, after as u64);
+    let later = bodies_after(policy, summaries, q, u64::from(after));
     mix_before(summaries, x, later)
 }
 
@@ -248,7 +248,7 @@ fn bodies_still(policy: u32, summaries: &[u32], q: usize, spot: Spot, before: La
     ensures { BodiesAfter policy summaries.now q spot.after result }
 {
     if spot.place == 0 {
-        return bodies_after(policy, summaries, q, spot.after as u64);
+        return bodies_after(policy, summaries, q, u64::from(spot.after));
     }
     before
 }
@@ -293,7 +293,7 @@ fn spent_before(summaries: &[u32], x: usize, y: usize, q: usize, passed: u32) ->
         - (stretch_at summaries.now y).worst }
     ensures small { result ≤ longest_coast * most_entry }
 {
-    let all = number_at(summaries, x, 3) + passed as u64 * number_at(summaries, q, 3);
+    let all = number_at(summaries, x, 3) + u64::from(passed) * number_at(summaries, q, 3);
     let rest = number_at(summaries, y, 3);
     if all < rest { 0 } else { all - rest }
 }
@@ -460,7 +460,7 @@ fn limit_at(body: Body, summaries: &[u32], position: usize, level: usize) -> i64
     let spot = spot_of(body, position);
     let x = spot.place * body.levels as usize + level;
     less(
-        body.cycle as u64,
+        u64::from(body.cycle),
         mix_from(body.policy, summaries, x, level, spot.after),
     )
 }
@@ -494,5 +494,5 @@ pub fn bound(
     let most = least_reach(
         body, summaries, worst, spot.place, spot.after, level, length,
     );
-    Ok(less(body.cycle as u64, most))
+    Ok(less(u64::from(body.cycle), most))
 }

@@ -70,7 +70,7 @@ returns c =
     let r = c.least_reach-most in
     let a = c.args in
     let h = bounded e in
-    rw (kept a.body.cycle r.result c.less.ensures (omega arith) (omega (arith, r.ensures.small)))
+    rw (kept a.body.cycle r.result (rw c.from.ensures at c.less.ensures) (omega arith) (omega (arith, r.ensures.small)))
     (bound_answered a.body (lent e) a.position a.level a.length _ h.stands.level h.some (clear e)
     (r.ensures.is a.position c.spot_of-spot.ensures
     ∙ present-is a.body (lent e) a.position a.level a.length c.if-body-position.false))

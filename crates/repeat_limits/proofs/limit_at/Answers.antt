@@ -13,6 +13,6 @@ returns-clause-is c =
     let a = c.args in
     let m = c.mix_from in
     let small : m.result < signed_above = omega (arith, m.ensures.small) in
-    rw (kept a.body.cycle m.result c.less.ensures (omega arith) small)
+    rw (kept a.body.cycle m.result (rw c.from.ensures at c.less.ensures) (omega arith) small)
     (ap (λ (x : ℕ). pos a.body.cycle -ℤ pos x) m.ensures.mixed
     ∙ sym (limit-read (alone a.summaries.now) a.level c.spot_of-spot.ensures))
