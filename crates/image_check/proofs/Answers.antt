@@ -9,7 +9,7 @@ use Rattle.rules.specs.Numbers.{most_actions, refused_unfit}
 use Rattle.rules.specs.Image.{profile}
 use Rattle.rules.specs.Reasons.{fault, fault_of}
 use Rattle.rules.specs.Refusals.{Ground, ◌when◌, First, Refuses, Unfit, loop_checks, image_checks}
-use Rattle.rules.specs.declared.Blame.{Blame}
+use Rattle.rules.specs.declared.blame.Blame.{Blame}
 use Rattle.rules.proofs.Reasons.{some_number}
 use Rattle.rules.proofs.Refusals.{Numbered, refuses-stops, refuses-goes_on, refuses_when, loop-numbered}
 use Rattle.image_fields.specs.Reading.{HasRecords}

@@ -4,7 +4,7 @@ use Rattle.rules.specs.Numbers.{refused_version, refused_count, refused_length, 
 use Rattle.rules.specs.Image.{header_spare, profile}
 use Rattle.rules.specs.Order.{Order, TheOrder}
 use Rattle.rules.specs.Reasons.{fault}
-use Rattle.rules.specs.declared.Blame.{Blame}
+use Rattle.rules.specs.declared.blame.Blame.{Blame}
 use Rattle.rules.specs.Refusals.{Ground, ◌when◌, ◌blames◌below◌, ◌or_when◌, Refuses, Count, SpareFault, RangeFault, TableFault, LoopFault, Unfit, Version, Length, image_checks}
 use Rattle.order.specs.Arranged.{Lists, ZeroFrom}
 use Rattle.image_check.specs.declared.Checked.{Checked}

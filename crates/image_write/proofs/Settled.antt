@@ -9,7 +9,7 @@ use lib.ListN.{length}
 use Rattle.rules.specs.Image.{ProfileTables}
 use Rattle.rules.specs.Reasons.{number_of, fault_of}
 use Rattle.rules.specs.Refusals.{Refuses}
-use Rattle.rules.specs.declared.Blame.{Blame}
+use Rattle.rules.specs.declared.blame.Blame.{Blame}
 use Rattle.rules.specs.declared.Fault.{Fault}
 use Rattle.rules.proofs.Reasons.{some_number}
 use Rattle.rules.proofs.Refusals.{refuses-one}

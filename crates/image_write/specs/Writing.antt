@@ -4,7 +4,7 @@ use Rattle.rules.specs.Numbers.{most_actions}
 use Rattle.rules.specs.Image.{ProfileTables, image_bytes, of_tables, image}
 use Rattle.rules.specs.Reasons.{fault_of}
 use Rattle.rules.specs.Refusals.{Ground, Refuses, kept, write_call}
-use Rattle.rules.specs.declared.Blame.{Blame}
+use Rattle.rules.specs.declared.blame.Blame.{Blame}
 use Rattle.rules.specs.declared.Fault.{Fault}
 use Rattle.fields.specs.Fields.{splice}
 use Rattle.image_write.specs.declared.Written.{Written}

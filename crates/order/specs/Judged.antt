@@ -5,7 +5,7 @@ use Rattle.rules.specs.Image.{Profile}
 use Rattle.rules.specs.Order.{Order, TheOrder, Fit}
 use Rattle.rules.specs.Refusals.{Ground, ◌when◌, ◌blames◌below◌, Refuses, LoopFault, Looped, Unfit}
 use Rattle.rules.specs.Reasons.{fault_of}
-use Rattle.rules.specs.declared.Blame.{Blame}
+use Rattle.rules.specs.declared.blame.Blame.{Blame}
 use Rattle.rules.specs.declared.Fault.{Fault}
 use Rattle.sets.specs.Sets.{Below}
 use Rattle.order_urgency.specs.Spread.{OneDeadline}

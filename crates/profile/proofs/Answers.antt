@@ -16,7 +16,7 @@ use Rattle.rules.proofs.Differences.{not-above}
 use Rattle.rules.proofs.Refusals.{image-numbered, first-goes_on, first_parts, handed_on, refuses_when, refuses-stops, refuses-goes_on}
 use Rattle.fields.specs.Fields.{splice}
 use Rattle.rules.specs.Reasons.{number_of, fault_of}
-use Rattle.rules.specs.declared.Blame.{Blame}
+use Rattle.rules.specs.declared.blame.Blame.{Blame}
 use Rattle.rules.specs.declared.Counts.{Counts}
 use Rattle.rules.specs.declared.Fault.{Fault}
 use Rattle.rules.proofs.Reasons.{some_number}

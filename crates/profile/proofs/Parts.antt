@@ -12,7 +12,7 @@ use Rattle.rules.specs.Image.{be, levels, record_bytes, record_at, mask_of, dead
 use Rattle.std.specs.Prelude.{Err}
 use mathlib.Core.Bool.{false}
 use Rattle.rules.specs.Reasons.{number_of, fault_of}
-use Rattle.rules.specs.declared.Blame.{Blame}
+use Rattle.rules.specs.declared.blame.Blame.{Blame}
 use Rattle.rules.specs.Refusals.{First, Refuses, kept, lookup_call}
 use Rattle.rules.proofs.Reasons.{some_number}
 use Rattle.rules.proofs.Refusals.{Sound, accepted-sound}

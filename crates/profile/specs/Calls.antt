@@ -6,7 +6,7 @@ use Rattle.rules.specs.Words.{tab, rows}
 use Rattle.rules.specs.Image.{ProfileTables, profile, record_at, record_bytes}
 use Rattle.rules.specs.Refusals.{First, Refuses, kept, image_call, lookup_call}
 use Rattle.rules.specs.Reasons.{fault_of}
-use Rattle.rules.specs.declared.Blame.{Blame}
+use Rattle.rules.specs.declared.blame.Blame.{Blame}
 use Rattle.rules.specs.declared.Counts.{Counts}
 use Rattle.fields.specs.Fields.{splice, part}
 use Rattle.image_write.specs.Writing.{table_rooms}

@@ -6,7 +6,7 @@ use Rattle.rules.specs.Order.{Order, TheOrder}
 use Rattle.rules.specs.Limits.{Tables, limit_by, LentTables, planner_tables}
 use Rattle.rules.specs.Reasons.{number_of, fault_of}
 use Rattle.rules.specs.declared.Reason.{Reason}
-use Rattle.rules.specs.declared.Blame.{Blame}
+use Rattle.rules.specs.declared.blame.Blame.{Blame}
 use Rattle.rules.specs.Refusals.{First, AtFault, kept, Short, CountsOut}
 use Rattle.rules.specs.Dry.{cell}
 use Rattle.rules.specs.Demand.{Policy, clock, Kept}

@@ -5,7 +5,7 @@ use Rattle.rules.specs.Words.{cat}
 use Rattle.rules.specs.Image.{Profile, levels, record_at, worst_of, profile, record_image}
 use Rattle.rules.specs.Refusals.{Ground, ◌when◌, First, Refuses, kept, Tight}
 use Rattle.rules.specs.Reasons.{fault}
-use Rattle.rules.specs.declared.Blame.{Blame}
+use Rattle.rules.specs.declared.blame.Blame.{Blame}
 use Rattle.rules.specs.declared.Fault.{Fault}
 use Rattle.rules.specs.Refresh.{refreshed, new_image, Trace, refresh_call}
 use Rattle.fields.specs.Fields.{splice}

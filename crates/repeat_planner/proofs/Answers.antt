@@ -12,7 +12,7 @@ use Rattle.rules.specs.Order.{Order}
 use Rattle.rules.specs.Refusals.{Ground, ◌when◌, First, Refuses, Count, Range, Table, Looped, Unfit, Length, Tight, UnknownPolicy, loop_checks}
 use Rattle.rules.specs.Reasons.{number_of, fault_of}
 use Rattle.rules.specs.declared.Reason.{Reason}
-use Rattle.rules.specs.declared.Blame.{Blame}
+use Rattle.rules.specs.declared.blame.Blame.{Blame}
 use Rattle.rules.specs.Repeat.{unrolled, Repeats, LentBody, body_checks, body_call}
 use Rattle.rules.proofs.Refusals.{Numbered, Blameless, first_stops, first-goes_on, first_parts, first-none, blameless, refuses-stops, refuses-goes_on, loop-numbered}
 use Rattle.rules.proofs.Reasons.{some_number}

@@ -4,7 +4,7 @@ use Rattle.rules.specs.Numbers.{most_actions, summary_numbers}
 use Rattle.rules.specs.Image.{profile}
 use Rattle.rules.specs.Order.{Order, TheOrder}
 use Rattle.rules.specs.Reasons.{fault_of}
-use Rattle.rules.specs.declared.Blame.{Blame}
+use Rattle.rules.specs.declared.blame.Blame.{Blame}
 use Rattle.rules.specs.declared.Body.{Body}
 use Rattle.rules.specs.Refusals.{First, AtFault, kept}
 use Rattle.rules.specs.Repeat.{LentBody, body_tables, body_of, no_body, body_call}

@@ -3,7 +3,7 @@ use Rattle.std.specs.Prelude.{ℕ, Option, Some, None, Result, Ok, Err}
 use Rattle.rules.specs.Numbers.{most_actions, refused_short, refused_version, refused_count, refused_length, refused_spare, refused_range, refused_table, refused_loop, refused_unfit, refused_finished, refused_turn, refused_back, refused_clock, refused_trace, refused_name, refused_duration, refused_room, refused_reading, refused_repeats, refused_policy}
 use Rattle.rules.specs.declared.Reason.{Reason}
 use Rattle.rules.specs.declared.Reason.TheVariants.{Short, Version, Count, Length, Spare, Range, Table, Loop, Unfit, Finished, Turn, Back, Clock, Trace, Name, Duration, Room, Reading, Repeats, Policy}
-use Rattle.rules.specs.declared.Blame.{Blame}
+use Rattle.rules.specs.declared.blame.Blame.{Blame}
 use Rattle.rules.specs.declared.Fault.{Fault}
 
 abbrev pub number_of : Reason → ℕ
@@ -28,12 +28,12 @@ number_of Reading = refused_reading
 number_of Repeats = refused_repeats
 number_of Policy = refused_policy
 
-abbrev pub action_of : Option ℕ → ℕ
-action_of None = most_actions
-action_of (Some a) = a
+abbrev pub blamed_action : Option ℕ → ℕ
+blamed_action None = most_actions
+blamed_action (Some a) = a
 
 abbrev pub fault_of : Blame → Fault
-fault_of b = record { number = number_of b.reason; action = action_of b.action }
+fault_of b = record { number = number_of b.reason; action = blamed_action b.action }
 
 -- of a call that may be refused
 abbrev pub number : {A : Type 0} → Result A Reason → ℕ

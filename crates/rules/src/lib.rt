@@ -2,8 +2,11 @@
 // themselves are mathematics: see specs/ for the definitions and proofs/ for their laws.
 #![tactic(auto)]
 
-ghost use Rattle.std.specs.Prelude.{◌≡◌, ◌<◌, ℕ, None, Some};
-ghost use Rattle.rules.specs.Numbers.{most_actions};
+pub mod blame;
+
+pub use blame::Blame;
+
+ghost use Rattle.std.specs.Prelude.{◌≡◌};
 ghost use Rattle.rules.specs.Reasons.{number_of, fault_of, number, fault};
 
 // ---- ranges
@@ -129,37 +132,6 @@ pub enum Reason {
     Reading = 18,
     Repeats = 19,
     Policy = 20,
-}
-
-// The reason why an image, or what is written, is refused, with the lowest action at fault for it where there is one.
-#[derive(Clone, Copy, PartialEq, Eq)]
-pub struct Blame {
-    pub reason: Reason,
-    pub action: Option<u32>,
-}
-
-impl From<Reason> for Blame {
-    ghost from_gives = { λ reason blame. blame ≡ record { reason = reason; action = None } };
-
-    fn from(reason: Reason) -> Self {
-        Blame {
-            reason,
-            action: None,
-        }
-    }
-}
-
-impl Blame {
-    // With an action at fault.
-    pub fn on(reason: Reason, action: usize) -> Self
-        requires { action < most_actions }
-        ensures { result ≡ record { reason = reason; action = Some action } }
-    {
-        Blame {
-            reason,
-            action: Some(action as u32),
-        }
-    }
 }
 
 // What a call answers to C of a refusal: its number, 0 for none.

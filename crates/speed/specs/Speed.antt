@@ -6,7 +6,7 @@ use Rattle.rules.specs.Order.{Order, TheOrder}
 use Rattle.rules.specs.Limits.{Tables, tables, mixed}
 use Rattle.rules.specs.Refusals.{Ground, ◌when◌, First, Refuses}
 use Rattle.rules.specs.Reasons.{fault_of}
-use Rattle.rules.specs.declared.Blame.{Blame}
+use Rattle.rules.specs.declared.blame.Blame.{Blame}
 use Rattle.rules.specs.declared.Fault.{Fault}
 use Rattle.rules.specs.Speed.{room, reading, speed_call}
 use Rattle.speed_stretch.specs.declared.Reading.{Reading}

@@ -31,7 +31,7 @@ returns-in_err-counts c =
 pub returns-then-order-n : goal.returns-then-order-n
 returns-then-order-n c =
     let planned = planning (goal.at.returns-then-order-n c).After-plan c.in_ok-counts.ensures in
-    rw c.from.ensures (order-refused planned _ _ refl c.if-order-n.true)
+    rw (c.from.ensures.0, c.from.ensures.1) (order-refused planned _ _ refl c.if-order-n.true)
 
 pub returns-in_err-dry : goal.returns-in_err-dry
 returns-in_err-dry c =

@@ -109,7 +109,7 @@ from-order c f q =
 
 pub returns-then-count_out : goal.returns-then-count_out
 unfolding of_tables
-returns-then-count_out c = rw c.from.ensures (refuses_when refused_count (c.count_out.ensures.0 c.if-count_out.true))
+returns-then-count_out c = rw (c.from.ensures.0, c.from.ensures.1) (refuses_when refused_count (c.count_out.ensures.0 c.if-count_out.true))
 
 pub returns-then-tight : goal.returns-then-tight
 returns-then-tight c =
@@ -119,7 +119,7 @@ returns-then-tight c =
       | then-tight-via-then-tight w ↦ inl (c.tight.ensures.0 w.if-tight.true)
       | then-tight-via-else-tight+then-room-image_bytes w ↦ inr (omega (arith, w.image_bytes.ensures, w.if-room-image_bytes.true))
     ] in
-    rw c.from-then-tight.ensures
+    rw (c.from-then-tight.ensures.0, c.from-then-tight.ensures.1)
     (refused-17 x.n x.levels x.cycle (tables_of x.tables) x.room (denied c.count_out.ensures c.if-count_out.false) ((tight-says x.n x.levels x.cycle (tables_of x.tables) x.room).0 short))
 
 pub range-out-requires-clause-unbroken : goal.range-out-requires-clause-unbroken
@@ -130,7 +130,7 @@ unfolding of_tables
 returns-in-Some c =
     let x = c.args in
     let p = passed (goal.at.returns-in-Some c).Else-room-image_bytes in
-    rw c.on.ensures
+    rw (c.on.ensures.0, c.on.ensures.1)
     (rest x.n x.levels x.cycle (tables_of x.tables) x.room p _ (refuses_blamed refused_range c.in-Some.ensures.0 (few _ _ _ _ _ p) c.in-Some.ensures.1))
 
 pub returns-in-Some-fallen : goal.returns-in-Some-fallen
@@ -139,7 +139,7 @@ returns-in-Some-fallen c =
     let x = c.args in
     let p = passed (goal.at.returns-in-Some-fallen c).Else-room-image_bytes in
     let low = rw c.in-Some-fallen.is at c.table-fallen.ensures in
-    rw c.on-in-Some-fallen.ensures
+    rw (c.on-in-Some-fallen.ensures.0, c.on-in-Some-fallen.ensures.1)
     (rest x.n x.levels x.cycle (tables_of x.tables) x.room p _ (refuses_on (λ w. in_range (goal.at.returns-in-Some-fallen c).In_default w.0 w.1 w.2) (refuses_blamed refused_table low.0 (few _ _ _ _ _ p) low.1)))
 
 pub judge-requires : goal.judge-requires
@@ -160,7 +160,7 @@ pub returns-then-judged : goal.returns-then-judged
 returns-then-judged c =
     let x = c.args in
     let verdict = judged x.n x.levels x.cycle (tables_of x.tables) (rw (c.in_ok-judged.was, c.if-judged.true) at c.judge.ensures.verdict) in
-    rw c.from-then-judged.ensures (from-order (goal.at.returns-then-judged c).In_default-fallen _ verdict.given)
+    rw (c.from-then-judged.ensures.0, c.from-then-judged.ensures.1) (from-order (goal.at.returns-then-judged c).In_default-fallen _ verdict.given)
 
 pub returns : goal.returns
 returns c =

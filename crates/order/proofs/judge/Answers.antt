@@ -11,7 +11,7 @@ pub returns-in_default-clause-verdict : goal.returns-in_default-clause-verdict
 returns-in_default-clause-verdict c =
     let s = c.args in
     let known = ordered-timed s.n s.cycle s.masks.now s.deadlines.now s.worst.now s.stride (c.in_default.ensures) in
-    rw c.on.ensures (verdict_loop known refl c.requires.0.few (rw c.unwrap-a.ensures at c.first_looped.ensures).0)
+    rw (c.on.ensures.0, c.on.ensures.1) (verdict_loop known refl c.requires.0.few (rw c.unwrap-a.ensures at c.first_looped.ensures).0)
 
 pub returns-clause-verdict : goal.returns-clause-verdict
 returns-clause-verdict c =

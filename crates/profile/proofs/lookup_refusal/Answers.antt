@@ -24,7 +24,7 @@ returns-in_err-checked c =
 pub returns-then-checked-action : goal.returns-then-checked-action
 returns-then-checked-action c =
     let judged = c.in_ok-checked.ensures in
-    rw c.from.ensures
+    rw (c.from.ensures.0, c.from.ensures.1)
     (own-refusal c.args.image.now refused_name (Absent c.args.image.now c.args.action) judged.given.number
     (omega (arith, c.if-checked-action.true, judged.accepted.n)))
 

@@ -6,7 +6,7 @@ use Rattle.rules.specs.Numbers.{refused_room}
 use Rattle.rules.specs.Image.{ProfileTables, profile}
 use Rattle.rules.specs.Refusals.{Tight}
 use Rattle.rules.specs.Reasons.{fault_of}
-use Rattle.rules.specs.declared.Blame.{Blame}
+use Rattle.rules.specs.declared.blame.Blame.{Blame}
 use Rattle.rules.proofs.Reasons.{some_number}
 use Rattle.image_check.proofs.Answers.{accepted-records}
 use Rattle.image_fields.proofs.Faults.{denied}
@@ -33,7 +33,7 @@ returns-then-tight c =
     let T : ProfileTables = record { masks = x.masks.now; deadlines = x.deadlines.now; averages = x.averages.now; worst = x.worst.now } in
     let judged = c.in_ok-n.ensures in
     let short = (found-rooms T judged.accepted).0 (c.tight.ensures.0 c.if-tight.true) in
-    refused-reads c.from.result (rw c.from.ensures (own-refusal x.image.now refused_room (Room x.image.now T) judged.given.number short))
+    refused-reads c.from.result (rw (c.from.ensures.0, c.from.ensures.1) (own-refusal x.image.now refused_room (Room x.image.now T) judged.given.number short))
 
 pub unpack-requires-clause-has_records : goal.unpack-requires-clause-has_records
 unpack-requires-clause-has_records c = accepted-records _ c.in_ok-n.ensures

@@ -34,7 +34,7 @@ pub returns-in-Err-policy_refusal : goal.returns-in-Err-policy_refusal
 returns-in-Err-policy_refusal c =
     let unknown = c.in-Err-policy_refusal in
     let policy = c.args.policy in
-    rw c.from.ensures
+    rw (c.from.ensures.0, c.from.ensures.1)
     (after c.args.image.now policy _ c.in_default.ensures.number
     (first_stops (known policy) trace _ unknown.ensures (some_number unknown.reason)))
 

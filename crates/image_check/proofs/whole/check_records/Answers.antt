@@ -23,7 +23,7 @@ unfolding profile
 returns-in-Some c =
     let pre = c.requires in
     let low = range-says pre.opened.header pre.column.0 pre.column.1 c.in-Some.ensures.0 in
-    rw c.on.ensures (then (goal.at.returns-in-Some c).After-range_fault _ (refuses_blamed refused_range low (few (goal.at.returns-in-Some c).After-range_fault) (omega (arith, pre.opened.header.n, c.in-Some.ensures.1))))
+    rw (c.on.ensures.0, c.on.ensures.1) (then (goal.at.returns-in-Some c).After-range_fault _ (refuses_blamed refused_range low (few (goal.at.returns-in-Some c).After-range_fault) (omega (arith, pre.opened.header.n, c.in-Some.ensures.1))))
 
 pub returns-in-Some-table_fault : goal.returns-in-Some-table_fault
 unfolding profile
@@ -32,7 +32,7 @@ returns-in-Some-table_fault c =
     let none = range-says pre.opened.header pre.column.0 pre.column.1 c.in_default.ensures in
     let low = table-says pre.opened.header c.in-Some-table_fault.ensures.0 in
     let here = refuses_blamed refused_table low (few (goal.at.returns-in-Some-table_fault c).After-range_fault) (omega (arith, pre.opened.header.n, c.in-Some-table_fault.ensures.1)) in
-    rw c.on-in-Some-table_fault.ensures (then (goal.at.returns-in-Some-table_fault c).After-range_fault _ (refuses_unblamed refused_range none (omega (arith, pre.opened.header.n)) here))
+    rw (c.on-in-Some-table_fault.ensures.0, c.on-in-Some-table_fault.ensures.1) (then (goal.at.returns-in-Some-table_fault c).After-range_fault _ (refuses_unblamed refused_range none (omega (arith, pre.opened.header.n)) here))
 
 pub returns : goal.returns
 unfolding profile

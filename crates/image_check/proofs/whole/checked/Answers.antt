@@ -10,7 +10,7 @@ returns-in_err-found c =
     handed_up (Judged s) c.from_residual.result c.from_residual.ensures.1 (λ b e. rw (← e) at given)
 
 pub returns-then-found : goal.returns-then-found
-returns-then-found c = record { given = rw c.from.ensures (unfit_judged c.args.image.now _ c.in_ok-found.ensures c.if-found.true); accepted = tt }
+returns-then-found c = record { given = rw (c.from.ensures.0, c.from.ensures.1) (unfit_judged c.args.image.now _ c.in_ok-found.ensures c.if-found.true); accepted = tt }
 
 pub returns : goal.returns
 returns c = fit_judged c.args.image.now _ c.in_ok-found.ensures c.if-found.false

@@ -20,7 +20,7 @@ returns-in_err-check_head c =
     let s = c.args.image.now in
     let head = blameless (head_checks s) _ ((λ a z. z), ((λ a z. z), ((λ a z. z), tt))) c.in_err-check_head.ensures in
     let given = refuses_on (not_short (goal.at.returns-in_err-check_head c).Else-image-lt-HEADER_BYTES) (refuses-stops (head_checks s) (rest_checks s) _ head (some_number _)) in
-    handed_up (BodyAnswers (loop_checks s) s) c.from_residual.result c.from_residual.ensures.1 (λ b e. refused_body b (rw e given))
+    handed_up (BodyAnswers (loop_checks s) s) c.from_residual.result c.from_residual.ensures.1 (λ b e. refused_body b (rw (e.0, e.1) given))
 
 pub checked_records-requires : goal.checked_records-requires
 checked_records-requires c = opened c.header-head.ensures c.in_ok-check_head.ensures
