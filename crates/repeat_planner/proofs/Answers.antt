@@ -11,7 +11,6 @@ use Rattle.rules.specs.Image.{profile}
 use Rattle.rules.specs.Order.{Order}
 use Rattle.rules.specs.Refusals.{Ground, ◌when◌, First, Refuses, Count, Range, Table, Looped, Unfit, Length, Tight, UnknownPolicy, loop_checks}
 use Rattle.rules.specs.Reasons.{number_of, fault_of}
-use Rattle.rules.specs.declared.Reason.{Reason}
 use Rattle.rules.specs.declared.blame.Blame.{Blame}
 use Rattle.rules.specs.Repeat.{unrolled, Repeats, LentBody, body_checks, body_call}
 use Rattle.rules.proofs.Refusals.{Numbered, Blameless, first_stops, first-goes_on, first_parts, first-none, blameless, refuses-stops, refuses-goes_on, loop-numbered}
@@ -95,8 +94,8 @@ module _ {row : List Ground} {s : List ℕ} (rest : List Ground) (no_blame : Bla
     given_on : (k : ℕ) → First rest k → Refuses (row ++ rest) (record { number = k; action = most_actions })
     given_on k p = refuses-goes_on row rest _ m a.given.number (blameless rest k no_blame p)
 
-    pub refused_on : (reason : Reason) → First rest (number_of reason) → CheckAnswers (row ++ rest) s (Err (record { reason = reason; action = None }))
-    refused_on reason p = record { given = given_on (number_of reason) p; accepted = tt }
+    pub refused_on : (b : Blame) → b.action ≡ None → First rest (number_of b.reason) → CheckAnswers (row ++ rest) s (Err b)
+    refused_on b none p = record { given = rw none (given_on (number_of b.reason) p); accepted = tt }
 
     pub passed_on : First rest 0 → CheckAnswers (row ++ rest) s (Ok r)
     passed_on p = record { given = given_on 0 p; accepted = a.accepted }

@@ -38,7 +38,7 @@ returns-in_err-dry c =
     let made = c.from_residual-in_err-dry in
     let p = err_from_is_err_and made.result made.ensures.1 in
     let planned = planning (goal.at.returns-in_err-dry c).After-plan c.in_ok-counts.ensures in
-    rw (p.1, p.2) (dry-refused planned _ _ _ refl c.if-order-n.false c.in_err-dry.ensures (some_number c.in_err-dry.field-0.0) refl)
+    rw (p.1, p.2.0, p.2.1) (dry-refused planned _ _ _ refl c.if-order-n.false c.in_err-dry.ensures (some_number c.in_err-dry.field-0.0) refl)
 
 pub returns : goal.returns
 returns c =

@@ -13,13 +13,13 @@ pub returns-in_err-policy_refusal : goal.returns-in_err-policy_refusal
 returns-in_err-policy_refusal c =
     let made = c.from_residual-in_err-policy_refusal in
     let p = err_from_is_err_and made.result made.ensures.1 in
-    rw (p.1, p.2) (policy-refused _ c.in_ok-checked.ensures _ c.in_err-policy_refusal.ensures (some_number c.in_err-policy_refusal.field-0.0))
+    rw (p.1, p.2.0, p.2.1) (policy-refused _ c.in_ok-checked.ensures _ c.in_err-policy_refusal.ensures (some_number c.in_err-policy_refusal.field-0.0))
 
 pub returns-in_err-tight : goal.returns-in_err-tight
 returns-in_err-tight c =
     let made = c.from_residual-in_err-tight in
     let p = err_from_is_err_and made.result made.ensures.1 in
-    rw (p.1, p.2)
+    rw (p.1, p.2.0, p.2.1)
     (tight-refused _ c.in_ok-checked.ensures c.in_ok-policy_refusal.ensures _ c.in_err-tight.ensures (some_number c.in_err-tight.field-0.0))
 
 pub fill-requires-clause-some_plan_input : goal.fill-requires-clause-some_plan_input

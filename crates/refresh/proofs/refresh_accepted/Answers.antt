@@ -37,7 +37,7 @@ returns-in_err-own_refusal c =
     let reason = c.in_err-own_refusal.field-0.0 in
     let some = ne_eqb (number_of reason) 0 (some_number reason) in
     let p = err_from_is_err_and c.from_residual.result c.from_residual.ensures.1 in
-    rw (p.1, p.2)
+    rw (p.1, p.2.0, p.2.1)
     record {
       given = after-image x.image.now x.trace.now x.out.now _ c.requires.0 (own _ _ _ c.requires.1 c.requires.2 c.take_ceilings.ensures c.in_err-own_refusal.ensures);
       written = rw some;

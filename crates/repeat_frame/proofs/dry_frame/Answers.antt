@@ -38,7 +38,7 @@ returns-in_err-own_refusal c =
     let at = (goal.at.returns-in_err-own_refusal c).After-plan in
     let made = c.from_residual-in_err-own_refusal in
     let p = err_from_is_err_and made.result made.ensures.1 in
-    rw (p.1, p.2)
+    rw (p.1, p.2.0, p.2.1)
     (own-refused (planning at c.in_ok-body.ensures) _ (lists at) refl c.in_err-own_refusal.ensures (some_number c.in_err-own_refusal.field-0.0) refl)
 
 pub walk-last-requires : goal.walk-last-requires

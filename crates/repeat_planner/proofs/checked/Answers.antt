@@ -16,9 +16,9 @@ pub returns-in_err-repeats_refusal : goal.returns-in_err-repeats_refusal
 returns-in_err-repeats_refusal c =
     let made = c.from_residual-in_err-repeats_refusal in
     let p = err_from_is_err_and made.result made.ensures.1 in
-    rw (p.1, p.2)
+    rw p.1
     (refused_on _ ((λ a z. z), ((λ a z. z), tt)) (loop-numbered c.args.image.now) c.in_ok-found.ensures.answers
-    c.in_err-repeats_refusal.field-0.0 c.in_err-repeats_refusal.ensures)
+    p.0 p.2.1 (rw p.2.0 c.in_err-repeats_refusal.ensures))
 
 pub returns : goal.returns
 returns c =

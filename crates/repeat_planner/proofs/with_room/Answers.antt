@@ -17,9 +17,9 @@ returns-in_err-policy_refusal c =
     let made = c.from_residual-in_err-policy_refusal in
     let p = err_from_is_err_and made.result made.ensures.1 in
     let reason = c.in_err-policy_refusal.field-0.0 in
-    rw (p.1, p.2)
+    rw p.1
     (refused_on _ ((λ a z. z), ((λ a z. z), tt)) (body-numbered a.image.now a.repeats) c.in_ok-found.ensures
-    reason (policy-said c.in_ok-found.ensures a.policy lent _ c.in_err-policy_refusal.ensures (some_number reason)))
+    p.0 p.2.1 (rw p.2.0 (policy-said c.in_ok-found.ensures a.policy lent _ c.in_err-policy_refusal.ensures (some_number reason))))
 
 pub returns-in_err-tight : goal.returns-in_err-tight
 returns-in_err-tight c =
@@ -27,9 +27,9 @@ returns-in_err-tight c =
     let lent : LentBody = record { order = a.order.now; summaries = a.summaries.now; worst = a.worst.now } in
     let made = c.from_residual-in_err-tight in
     let p = err_from_is_err_and made.result made.ensures.1 in
-    rw (p.1, p.2)
+    rw p.1
     (refused_on _ ((λ a z. z), ((λ a z. z), tt)) (body-numbered a.image.now a.repeats) c.in_ok-found.ensures
-    c.in_err-tight.field-0.0 (room-said c.in_ok-found.ensures a.policy lent _ c.in_ok-policy_refusal.ensures c.in_err-tight.ensures))
+    p.0 p.2.1 (rw p.2.0 (room-said c.in_ok-found.ensures a.policy lent _ c.in_ok-policy_refusal.ensures c.in_err-tight.ensures)))
 
 pub returns : goal.returns
 returns c =
