@@ -1,52 +1,34 @@
 // What a program's arguments say of the policy: its year, 2008 where they say none.
 #![tactic(auto)]
 
-ghost use Rattle.std.specs.Prelude.{◌≡◌, length};
-ghost use Rattle.io.specs.Counts.{IsPrefixLen};
-ghost use Rattle.arguments.specs.Year.{year_of, understood};
+ghost use Rattle.std.specs.Prelude.{◌≡◌, ◌≤◌, length};
+ghost use Rattle.arguments.specs.Year.{said_year};
 
 use std::env::{Env, FillError};
 use std::io;
 
-// The policy by its year, known or not; and whether the arguments are a year and no more.
-#[derive(Drop)]
-pub struct Chosen {
-    pub understood: bool,
-    pub policy: u32,
-}
-
 // The year of a program that was started with `count` arguments, its own name among them, where argument `at` is `word`. Any number is a policy to ask
-// for, so that one that is unknown is refused at its place among the refusals; a word that is no number, and an argument after the year, are not
-// understood.
-pub fn said(count: usize, at: usize, word: &[u8]) -> Chosen
-    ensures policy_value { result.policy ≡ year_of count at word.now }
-    ensures understood_value { result.understood ≡ understood count at word.now }
+// for, so that one that is unknown is refused at its place among the refusals. A word that is no number, and an argument after the year, are not
+// understood: what they say of it then is the error.
+pub fn said(count: usize, at: usize, word: &[u8]) -> Result<u32, u32>
+    ensures { result ≡ said_year count at word.now }
 {
     if count <= at {
-        return Chosen {
-            understood: true,
-            policy: rules::POLICY_2008,
-        };
+        return Ok(rules::POLICY_2008);
     }
     let policy = text::words::whole_number(word);
     if at + 1 < count {
-        return Chosen {
-            understood: false,
-            policy: policy,
-        };
+        return Err(policy);
     }
-    Chosen {
-        understood: text::words::is_number(word),
-        policy: policy,
+    if text::words::is_number(word) {
+        Ok(policy)
+    } else {
+        Err(policy)
     }
 }
 
-// 131,072 zeros: an argument has fewer bytes on Linux for x86-64, where the programs run. The `ensures` gives the length, so that no caller counts it.
-fn word_buffer() -> [u8; 131072]
-    ensures { 131072 ≡ length result }
-{
-    [0; 131072]
-}
+// An argument has fewer bytes on Linux for x86-64, where the programs run.
+const WORD: usize = 131_072;
 
 // How many arguments the program was started with, its own name among them.
 fn count<E: Env>(rt: &E) -> usize {
@@ -58,21 +40,18 @@ fn count<E: Env>(rt: &E) -> usize {
     usize::MAX
 }
 
-// The bytes of the program's argument `at` at the start of `out`, and how many there are: none where it is missing or longer than `out`.
-pub fn word<E: Env>(rt: &E, at: usize, out: &mut [u8]) -> usize
-    ensures { IsPrefixLen result out.new }
+// The bytes of the program's argument `at`, put into `out`: none where it is missing or longer than `out`.
+pub fn word<'a, E: Env>(rt: &E, at: usize, out: &'a mut [u8]) -> &'a [u8]
+    ensures { length result.now ≤ length out.old }
 {
-    match rt.arg(at, &mut *out) {
-        Ok(n) => n,
-        Err(_) => 0,
-    }
+    let n = rt.arg(at, &mut *out).unwrap_or(0);
+    &out[..n]
 }
 
-// The year of this program, which its argument `at` says and none follows.
-pub fn year<E: Env>(rt: &E, at: usize) -> Chosen {
-    let mut bytes = word_buffer();
-    let k = word(rt, at, &mut bytes);
-    said(count(rt), at, &bytes[..k])
+// The year of this program, which its argument `at` says and none follows; an error where they are not understood.
+pub fn year<E: Env>(rt: &E, at: usize) -> Result<u32, u32> {
+    let mut bytes = [0u8; WORD];
+    said(count(rt), at, word(rt, at, &mut bytes))
 }
 
 // How the program is called, told on standard error where its arguments are not understood.

@@ -6,15 +6,14 @@ use files::read_file;
 use std::io;
 
 fn main(rt: HostRuntime) -> io::Result<()> {
-    let chosen = arguments::year(&rt, 1);
-    if !chosen.understood {
+    let Ok(policy) = arguments::year(&rt, 1) else {
         return arguments::usage(&rt.stderr(), b"usage: dry_run [YEAR]\n");
-    }
-    let mut image = files::buffer();
-    let n = read_file(&rt, b"profile", &mut image)?;
-    let mut durations = files::buffer();
-    let m = read_file(&rt, b"durations", &mut durations)?;
-    let mut out = files::large_buffer();
-    let k = print::dry_text(&image[..n], chosen.policy, &durations[..m], &mut out);
+    };
+    let mut buffer = [0u8; files::BUFFER];
+    let image = read_file(&rt, b"profile", &mut buffer)?;
+    let mut bytes = [0u8; files::BUFFER];
+    let durations = read_file(&rt, b"durations", &mut bytes)?;
+    let mut out = [0u8; files::LARGE_BUFFER];
+    let k = print::dry_text(image, policy, durations, &mut out);
     rt.write_all(&out[..k])
 }

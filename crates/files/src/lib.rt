@@ -1,7 +1,7 @@
 // Bytes from a reader or a file, put into a buffer, and how long a file is.
 #![tactic(auto)]
 
-ghost use Rattle.std.specs.Prelude.{◌≡◌, ◌<◌, ◌-◌, ◌^◌, ◌⊎◌, None, IfSome, IfOk, OnErr, length, take, IsUtf8};
+ghost use Rattle.std.specs.Prelude.{◌≡◌, ◌≤◌, ◌<◌, None, Some, IfSome, IfOk, OnErr, length, take, IsUtf8};
 ghost use Rattle.std.specs.Io.{ReadsAtMost};
 ghost use Rattle.std.specs.Io.KnownBytes.{Consumes, IsAtEnd};
 
@@ -35,67 +35,36 @@ pub fn open<R: Files>(rt: &R, name: &[u8]) -> Option<R::File>
     fs::open(rt, path).ok()
 }
 
-// How much of the file there is at the start of `out`; an absent file is empty. Where reading fails, `out` has any bytes at its length.
-pub fn read_file<R: Files>(rt: &R, name: &[u8], out: &mut [u8]) -> io::Result<usize>
-    ensures in_bounds { ReadsAtMost result out.new }
-    ensures err { OnErr result (length out.new ≡ length out.old) }
+// What there is of the file, as much as `out` has room for; an absent file is empty. Where reading fails, `out` has any bytes.
+pub fn read_file<'a, R: Files>(rt: &R, name: &[u8], out: &'a mut [u8]) -> io::Result<&'a [u8]>
+    ensures { IfOk result (λ text. length text.now ≤ length out.old) }
 {
-    match open(rt, name) {
-        Some(mut file) => read_full(&mut file, out),
-        None => Ok(0),
-    }
-}
-
-// More bytes than any file has.
-const UNTOLD: usize = 18_446_744_073_709_551_615;
-
-// The length that a move to a file's end tells.
-fn told(end: io::Result<u64>) -> usize
-    ensures ok { IfOk end (λ n. result ≡ n) }
-    ensures err { OnErr end (result ≡ 2 ^ 64 - 1) }
-{
-    match end {
-        Ok(n) => n as usize,
-        Err(_) => UNTOLD,
-    }
+    let n = match open(rt, name) {
+        Some(mut file) => read_full(&mut file, &mut *out)?,
+        None => 0,
+    };
+    Ok(&out[..n])
 }
 
 // How many bytes there are to be read of a file, from its start on: the position goes to the end and back. An absent file is empty. A pipe cannot
-// tell, and neither can a file that does not go back: then the answer is a length that no recording has, so that what is judged by its length is
-// refused before any of it is read, and not taken for empty.
-pub fn file_length<S: Seek>(file: &mut Option<S>) -> usize
-    ensures absent { file.old ≡ None → result ≡ 0 }
-    ensures known { IfSome file.old (λ s. IfSome (S.stream_position s) (λ _. IfSome (S.stream_bytes s) (λ xs. (result ≡ length xs) ⊎ (result ≡ 2 ^ 64 - 1)))) }
+// tell, and neither can a file that does not go back: then there is none, so that what it has is not taken for empty.
+pub fn file_length<S: Seek>(file: &mut Option<S>) -> Option<usize>
+    ensures absent { file.old ≡ None → result ≡ Some 0 }
+    ensures known { IfSome file.old (λ s. IfSome (S.stream_position s) (λ _. IfSome (S.stream_bytes s) (λ xs. IfSome result (λ n. n ≡ length xs)))) }
 {
-    match file {
-        None => 0,
-        Some(file) => {
-            let end = told(file.seek(SeekFrom::End(0)));
-            if file.rewind().is_err() {
-                return UNTOLD;
-            }
-            end
-        }
-    }
+    let Some(file) = file else {
+        return Some(0);
+    };
+    let end = file.seek(SeekFrom::End(0)).ok()?;
+    file.rewind().ok()?;
+    Some(end as usize)
 }
 
-// 4,096 zeros: an image has at most 3,846 bytes. The `ensures` gives the length, so that no caller counts it.
-pub fn buffer() -> [u8; 4096]
-    ensures { 4096 ≡ length result }
-{
-    [0; 4096]
-}
+// ---- how long the buffers of the programs are
 
-// 65,536 zeros: room for what the programs print of an image.
-pub fn large_buffer() -> [u8; 65536]
-    ensures { 65536 ≡ length result }
-{
-    [0; 65536]
-}
-
-// 400,000 zeros: room for a trace of one record too many, which has 327,680 bytes. The `ensures` gives the length, so that no caller counts it.
-pub fn long_buffer() -> [u8; 400000]
-    ensures { 400000 ≡ length result }
-{
-    [0; 400000]
-}
+// An image has at most 3,846 bytes.
+pub const BUFFER: usize = 4_096;
+// What the programs print of an image.
+pub const LARGE_BUFFER: usize = 65_536;
+// A trace of one record too many has 327,680 bytes.
+pub const LONG_BUFFER: usize = 400_000;

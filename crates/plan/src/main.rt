@@ -5,13 +5,12 @@
 use std::io;
 
 fn main(rt: HostRuntime) -> io::Result<()> {
-    let chosen = arguments::year(&rt, 1);
-    if !chosen.understood {
+    let Ok(policy) = arguments::year(&rt, 1) else {
         return arguments::usage(&rt.stderr(), b"usage: plan [YEAR]\n");
-    }
-    let mut image = files::buffer();
+    };
+    let mut image = [0u8; files::BUFFER];
     let n = files::read_full(&mut rt.stdin(), &mut image)?;
-    let mut out = files::large_buffer();
-    let k = print::plan_text(&image[..n], chosen.policy, &mut out);
+    let mut out = [0u8; files::LARGE_BUFFER];
+    let k = print::plan_text(&image[..n], policy, &mut out);
     rt.write_all(&out[..k])
 }

@@ -102,8 +102,9 @@ fn rehearse_frames<S: Read, W: Write>(
     Ok(print_lines::put_totals(out, start, totals))
 }
 
-// The text of a recording, none being an absent file, against an image by a policy. What does not fit into `out` is written to `to`; the answer is
-// how much of `out` is still to be written.
+// The text of a recording, none being an absent file, against an image by a policy. One whose length cannot be told is taken for a length that no
+// recording has, so that it is refused before any of it is read. What does not fit into `out` is written to `to`; the answer is how much of `out` is
+// still to be written.
 pub fn rehearse<S: Read + Seek, W: Write>(
     image: &[u8],
     policy: u32,
@@ -121,7 +122,7 @@ pub fn rehearse<S: Read + Seek, W: Write>(
     let opened = recording::open(
         image,
         policy,
-        files::file_length(&mut *recording),
+        files::file_length(&mut *recording).unwrap_or(usize::MAX),
         &mut order,
         &mut limits,
         &mut worst,

@@ -6,20 +6,13 @@ use files::read_file;
 use std::io;
 
 fn main(rt: HostRuntime) -> io::Result<()> {
-    let chosen = arguments::year(&rt, 1);
-    if !chosen.understood {
+    let Ok(policy) = arguments::year(&rt, 1) else {
         return arguments::usage(&rt.stderr(), b"usage: rehearse [YEAR]\n");
-    }
-    let mut image = files::buffer();
-    let n = read_file(&rt, b"profile", &mut image)?;
+    };
+    let mut buffer = [0u8; files::BUFFER];
+    let image = read_file(&rt, b"profile", &mut buffer)?;
     let mut recording = files::open(&rt, b"recording");
-    let mut out = files::buffer();
-    let k = rehearsal::rehearse(
-        &image[..n],
-        chosen.policy,
-        &mut recording,
-        &mut out,
-        &mut rt.stdout(),
-    )?;
+    let mut out = [0u8; files::BUFFER];
+    let k = rehearsal::rehearse(image, policy, &mut recording, &mut out, &mut rt.stdout())?;
     rt.write_all(&out[..k])
 }

@@ -6,22 +6,14 @@
 use std::io;
 
 fn main(rt: HostRuntime) -> io::Result<()> {
-    let chosen = arguments::year(&rt, 2);
-    if !chosen.understood {
+    let Ok(policy) = arguments::year(&rt, 2) else {
         return arguments::usage(&rt.stderr(), b"usage: repeat_plan N [YEAR]\n");
-    }
+    };
     let mut word = [0u8; 64];
-    let k = arguments::word(&rt, 1, &mut word);
-    let repeats = text::words::whole_number(&word[..k]);
-    let mut image = files::buffer();
+    let repeats = text::words::whole_number(arguments::word(&rt, 1, &mut word));
+    let mut image = [0u8; files::BUFFER];
     let n = files::read_full(&mut rt.stdin(), &mut image)?;
-    let mut out = files::large_buffer();
-    let end = repeat_text::plan_text(
-        &image[..n],
-        repeats,
-        chosen.policy,
-        &mut out,
-        &mut rt.stdout(),
-    )?;
+    let mut out = [0u8; files::LARGE_BUFFER];
+    let end = repeat_text::plan_text(&image[..n], repeats, policy, &mut out, &mut rt.stdout())?;
     rt.write_all(&out[..end])
 }
