@@ -11,7 +11,7 @@ use run::{Answer, Run};
 // The answer of asking, laid flat, since an enum does not cross to C: the refusal, and without one the action, its level, whether decided,
 // and late. With a refusal these are 0 or no.
 #[repr(C)]
-#[derive(Clone, Copy)]
+#[derive(Clone, Copy, PartialEq, Eq)]
 pub struct Given {
     pub refusal: Refusal,
     pub action: u32,

@@ -1,10 +1,11 @@
 // The same of a body repeated: Three, in a cycle of 40, which two repeats fit. A case is a line of bodies.txt: `start`, n, how often, and the year, 2008 where there is none; `ask`, and
 // how much of the order is lent; `report`, the clock, and how much of the worst times is lent.
-use crate::{end_line, part, say, say_given, through};
+use crate::{end_line, say, say_given, through};
 use nyokazerubi::runs::Given;
 use repeat_run::BodyRun;
 use rules::Body;
 use std::io;
+use test_kit::part;
 use text::words;
 
 pub fn tell_all<R: Print>(rt: &R, text: &[u8]) -> io::Result<()> {
@@ -31,11 +32,8 @@ fn tell_each<R: Print>(
     worst: [u32; 6],
 ) -> io::Result<()> {
     let mut run = BodyRun::start(of_three(0, 0, rules::POLICY_2008)).run;
-    let mut at = 0;
-    while at < text.len() {
-        let end = words::find(text, at, b'\n');
-        run = tell(rt, run, &text[at..end], order, summaries, worst)?;
-        at = end + 1;
+    for line in text.split(|b| *b == b'\n') {
+        run = tell(rt, run, line, order, summaries, worst)?;
     }
     Ok(())
 }
@@ -58,20 +56,20 @@ fn tell<R: Print>(
     summaries: &[u32],
     worst: [u32; 6],
 ) -> io::Result<BodyRun> {
-    if line.len() == 0 {
+    if line.is_empty() {
         return Ok(run);
     }
     let a = words::number(line, 1);
     let b = words::number(line, 2);
     rt.write_all(line)?;
     rt.write_all(b":")?;
-    match line[0] {
-        b's' => start(
+    match line {
+        [b's', ..] => start(
             rt,
             run,
             of_three(a, b, test_kit::year(words::number(line, 3))),
         ),
-        b'a' => ask(rt, run, a, order, summaries, &worst),
+        [b'a', ..] => ask(rt, run, a, order, summaries, &worst),
         _ => report(rt, run, a, b, worst),
     }
 }
@@ -83,12 +81,7 @@ fn start<R: Print>(rt: &R, run: BodyRun, body: Body) -> io::Result<BodyRun> {
     let lent = through::body_started(run, &numbers);
     let value = BodyRun::start(body);
     say(rt, lent.refusal.number)?;
-    tell_record(
-        rt,
-        lent.refusal.number == value.refusal.number,
-        lent.run,
-        value.run,
-    )?;
+    tell_record(rt, lent.refusal == value.refusal, lent.run, value.run)?;
     Ok(lent.run)
 }
 
@@ -100,9 +93,9 @@ fn ask<R: Print>(
     summaries: &[u32],
     worst: &[u32],
 ) -> io::Result<BodyRun> {
-    let k = part(much, 3);
-    let lent = through::body_asked(run, &order[0..k], summaries, worst);
-    let value = run.ask(&order[0..k], summaries, worst);
+    let order = &order[..part(much, 3)];
+    let lent = through::body_asked(run, order, summaries, worst);
+    let value = run.ask(order, summaries, worst);
     let answer = value.answer;
     let alike = say_given(rt, lent.given, Given::from(answer))?;
     tell_record(rt, alike, lent.run, value.run)?;
@@ -116,16 +109,11 @@ fn report<R: Print>(
     much: u32,
     worst: [u32; 6],
 ) -> io::Result<BodyRun> {
-    let k = part(much, 6);
-    let lent = through::body_reported(run, clock, &worst[0..k]);
-    let value = run.report(clock, &worst[0..k]);
+    let worst = &worst[..part(much, 6)];
+    let lent = through::body_reported(run, clock, worst);
+    let value = run.report(clock, worst);
     say(rt, lent.refusal.number)?;
-    tell_record(
-        rt,
-        lent.refusal.number == value.refusal.number,
-        lent.run,
-        value.run,
-    )?;
+    tell_record(rt, lent.refusal == value.refusal, lent.run, value.run)?;
     Ok(lent.run)
 }
 
@@ -134,27 +122,10 @@ fn report<R: Print>(
 fn tell_record<R: Print>(rt: &R, alike: bool, lent: BodyRun, value: BodyRun) -> io::Result<()> {
     end_line(
         rt,
-        alike & same(lent, value),
+        alike && lent == value,
         lent.position,
         lent.clock,
         lent.running,
         lent.decisions,
     )
-}
-
-fn same(a: BodyRun, b: BodyRun) -> bool {
-    let p = a.body;
-    let q = b.body;
-    (p.n == q.n)
-        & (p.levels == q.levels)
-        & (p.cycle == q.cycle)
-        & (p.repeats == q.repeats)
-        & (a.clock == b.clock)
-        & (a.position == b.position)
-        & (a.level == b.level)
-        & (a.left == b.left)
-        & (a.decisions == b.decisions)
-        & (a.running == b.running)
-        & (a.overrun == b.overrun)
-        & (a.late == b.late)
 }

@@ -4,12 +4,11 @@
 // two differ it says so instead.
 #![tactic(auto)]
 
-ghost use Rattle.std.specs.Prelude.{◌≤◌};
-
 use nyokazerubi::runs;
 use nyokazerubi::runs::Given;
 use run::Run;
 use std::io;
+use test_kit::{part, say_number};
 use text::words;
 
 mod bodies;
@@ -29,11 +28,11 @@ fn main(rt: HostRuntime) -> io::Result<()> {
         &mut worst,
         &mut bounds,
     );
-    let mut text = files::large_buffer();
-    let n = files::read_file(&rt, b"cases.txt", &mut text)?;
-    tell_each(&rt, &text[..n], order, &limits, worst, &bounds)?;
-    let m = files::read_file(&rt, b"bodies.txt", &mut text)?;
-    bodies::tell_all(&rt, &text[..m])
+    let mut buffer = [0u8; files::LARGE_BUFFER];
+    let cases = files::read_file(&rt, b"cases.txt", &mut buffer)?;
+    tell_each(&rt, cases, order, &limits, worst, &bounds)?;
+    let cases = files::read_file(&rt, b"bodies.txt", &mut buffer)?;
+    bodies::tell_all(&rt, cases)
 }
 
 fn tell_each<R: Print>(
@@ -45,11 +44,8 @@ fn tell_each<R: Print>(
     bounds: &[i32],
 ) -> io::Result<()> {
     let mut run = Run::start(0, 0).run;
-    let mut at = 0;
-    while at < text.len() {
-        let end = words::find(text, at, b'\n');
-        run = tell(rt, run, &text[at..end], order, limits, worst, bounds)?;
-        at = end + 1;
+    for line in text.split(|b| *b == b'\n') {
+        run = tell(rt, run, line, order, limits, worst, bounds)?;
     }
     Ok(())
 }
@@ -64,25 +60,18 @@ fn tell<R: Print>(
     worst: [u32; 6],
     bounds: &[i32],
 ) -> io::Result<Run> {
-    if line.len() == 0 {
+    if line.is_empty() {
         return Ok(run);
     }
     let a = words::number(line, 1);
     let b = words::number(line, 2);
     rt.write_all(line)?;
     rt.write_all(b":")?;
-    match line[0] {
-        b's' => start(rt, run, a as usize, b as usize),
-        b'a' => ask(rt, run, a, order, limits, bounds),
+    match line {
+        [b's', ..] => start(rt, run, a as usize, b as usize),
+        [b'a', ..] => ask(rt, run, a, order, limits, bounds),
         _ => report(rt, run, a, b, worst),
     }
-}
-
-// As much of a table as a case says.
-fn part(n: u32, most: usize) -> usize
-    ensures { result ≤ most }
-{
-    if n as usize <= most { n as usize } else { most }
 }
 
 // ---- each call over the lent record and by value
@@ -91,12 +80,7 @@ fn start<R: Print>(rt: &R, run: Run, n: usize, levels: usize) -> io::Result<Run>
     let lent = through::started(run, n, levels);
     let value = Run::start(n, levels);
     say(rt, lent.refusal.number)?;
-    tell_record(
-        rt,
-        lent.refusal.number == value.refusal.number,
-        lent.run,
-        value.run,
-    )?;
+    tell_record(rt, lent.refusal == value.refusal, lent.run, value.run)?;
     Ok(lent.run)
 }
 
@@ -108,33 +92,27 @@ fn ask<R: Print>(
     limits: &[i32],
     bounds: &[i32],
 ) -> io::Result<Run> {
-    let k = part(much, 3);
-    let lent = through::asked(run, &order[0..k], limits, bounds);
-    let value = runs::ask_flat(run, &order[0..k], limits, bounds);
+    let order = &order[..part(much, 3)];
+    let lent = through::asked(run, order, limits, bounds);
+    let value = runs::ask_flat(run, order, limits, bounds);
     let alike = say_given(rt, lent.given, value.given)?;
     tell_record(rt, alike, lent.run, value.run)?;
     Ok(lent.run)
 }
 
 fn report<R: Print>(rt: &R, run: Run, clock: u32, much: u32, worst: [u32; 6]) -> io::Result<Run> {
-    let k = part(much, 6);
-    let lent = through::reported(run, clock, &worst[0..k]);
-    let value = run.report(clock, &worst[0..k]);
+    let worst = &worst[..part(much, 6)];
+    let lent = through::reported(run, clock, worst);
+    let value = run.report(clock, worst);
     say(rt, lent.refusal.number)?;
-    tell_record(
-        rt,
-        lent.refusal.number == value.refusal.number,
-        lent.run,
-        value.run,
-    )?;
+    tell_record(rt, lent.refusal == value.refusal, lent.run, value.run)?;
     Ok(lent.run)
 }
 
 // ---- what is printed
 
 fn say<R: Print>(rt: &R, x: u32) -> io::Result<()> {
-    rt.write_all(b" ")?;
-    print!(rt; "{x}")
+    say_number(rt, b" ", x)
 }
 
 // What was given over the lent record; whether it is what was given by value.
@@ -142,15 +120,9 @@ fn say_given<R: Print>(rt: &R, a: Given, b: Given) -> io::Result<bool> {
     say(rt, a.refusal.number)?;
     say(rt, a.action)?;
     say(rt, a.level)?;
-    say(rt, a.decided as u32)?;
-    say(rt, a.late as u32)?;
-    Ok(
-        (a.refusal.number == b.refusal.number)
-            & (a.action == b.action)
-            & (a.level == b.level)
-            & (a.decided == b.decided)
-            & (a.late == b.late),
-    )
+    say(rt, u32::from(a.decided))?;
+    say(rt, u32::from(a.late))?;
+    Ok(a == b)
 }
 
 // The end of a line: where the lent record stands, if the two answers and the two records are the same.
@@ -163,39 +135,20 @@ fn end_line<R: Print>(
     decisions: u32,
 ) -> io::Result<()> {
     if alike {
-        rt.write_all(b" |")?;
-        say(rt, position)?;
-        rt.write_all(b" ")?;
-        print!(rt; "{clock}")?;
-        say(rt, running as u32)?;
-        say(rt, decisions)?;
-        rt.write_all(b"\n")?;
+        let mark = u32::from(running);
+        print!(rt; " | {position} {clock} {mark} {decisions}\n")
     } else {
-        rt.write_all(b" differs\n")?;
+        rt.write_all(b" differs\n")
     }
-    Ok(())
 }
 
 fn tell_record<R: Print>(rt: &R, alike: bool, lent: Run, value: Run) -> io::Result<()> {
     end_line(
         rt,
-        alike & same(lent, value),
+        alike && lent == value,
         lent.position,
-        lent.clock as u64,
+        u64::from(lent.clock),
         lent.running,
         lent.decisions,
     )
-}
-
-fn same(a: Run, b: Run) -> bool {
-    (a.n == b.n)
-        & (a.levels == b.levels)
-        & (a.position == b.position)
-        & (a.clock == b.clock)
-        & (a.level == b.level)
-        & (a.left == b.left)
-        & (a.decisions == b.decisions)
-        & (a.running == b.running)
-        & (a.overrun == b.overrun)
-        & (a.late == b.late)
 }
