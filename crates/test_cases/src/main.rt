@@ -4,11 +4,9 @@
 // Last, what the programs print where a file is not there: it is empty, so an image is refused as short and durations are too few.
 #![tactic(auto)]
 
-ghost use Rattle.std.specs.Io.{ReadsAtMost};
-
 use std::io;
 use std::rt::Files;
-use test_kit::{read_case, sum_up, tell};
+use test_kit::{Tally, read_case, says};
 
 const CASES: usize = 418;
 
@@ -16,66 +14,61 @@ const CASES: usize = 418;
 const ABSENT: usize = 999;
 
 // What the plan program prints for a case's profile.
-fn plan<R: Files>(rt: &R, case: usize, out: &mut [u8]) -> io::Result<usize>
-    ensures { ReadsAtMost result out.new }
-{
-    let mut image = files::buffer();
-    let n = read_case(rt, case, b".profile", &mut image)?;
-    Ok(print::plan_text(&image[..n], rules::POLICY_2008, out))
+fn plan<'a, R: Files>(rt: &R, case: usize, out: &'a mut [u8]) -> io::Result<&'a [u8]> {
+    let mut buffer = [0u8; files::BUFFER];
+    let image = read_case(rt, case, b".profile", &mut buffer)?;
+    let k = print::plan_text(image, rules::POLICY_2008, &mut *out);
+    Ok(&out[..k])
 }
 
 // What the dry-run program prints for the profile of one case and the durations of another.
-fn dry_run<R: Files>(rt: &R, profile: usize, durations: usize, out: &mut [u8]) -> io::Result<usize>
-    ensures { ReadsAtMost result out.new }
-{
-    let mut image = files::buffer();
-    let n = read_case(rt, profile, b".profile", &mut image)?;
-    let mut bytes = files::buffer();
-    let m = read_case(rt, durations, b".durations", &mut bytes)?;
-    Ok(print::dry_text(&image[..n], rules::POLICY_2008, &bytes[..m], out))
+fn dry_run<'a, R: Files>(
+    rt: &R,
+    profile: usize,
+    durations: usize,
+    out: &'a mut [u8],
+) -> io::Result<&'a [u8]> {
+    let mut buffer = [0u8; files::BUFFER];
+    let image = read_case(rt, profile, b".profile", &mut buffer)?;
+    let mut bytes = [0u8; files::BUFFER];
+    let durations = read_case(rt, durations, b".durations", &mut bytes)?;
+    let k = print::dry_text(image, rules::POLICY_2008, durations, &mut *out);
+    Ok(&out[..k])
 }
 
 // Whether the plan of a case is what its file says.
 fn plan_agrees<R: Files>(rt: &R, case: usize) -> io::Result<bool> {
-    let mut out = files::large_buffer();
-    let k = plan(rt, case, &mut out)?;
-    let mut want = files::large_buffer();
-    let wanted = read_case(rt, case, b".plan", &mut want)?;
-    Ok(check::same(&out[..k], &want[..wanted]))
+    let mut out = [0u8; files::LARGE_BUFFER];
+    says(rt, case, b".plan", plan(rt, case, &mut out)?)
 }
 
 // Whether the dry run of a case is what its file says.
 fn dry_run_agrees<R: Files>(rt: &R, case: usize) -> io::Result<bool> {
-    let mut out = files::large_buffer();
-    let k = dry_run(rt, case, case, &mut out)?;
-    let mut want = files::large_buffer();
-    let wanted = read_case(rt, case, b".dry", &mut want)?;
-    Ok(check::same(&out[..k], &want[..wanted]))
+    let mut out = [0u8; files::LARGE_BUFFER];
+    says(rt, case, b".dry", dry_run(rt, case, case, &mut out)?)
 }
 
 fn say_absent<R: Files + Print>(rt: &R) -> io::Result<()> {
-    let mut out = files::large_buffer();
+    let mut out = [0u8; files::LARGE_BUFFER];
     let planned = plan(rt, ABSENT, &mut out)?;
     rt.write_all(b"plan with no profile: ")?;
-    rt.write_all(&out[..planned])?;
+    rt.write_all(planned)?;
     let refused = dry_run(rt, ABSENT, 0, &mut out)?;
     rt.write_all(b"dry run with no profile: ")?;
-    rt.write_all(&out[..refused])?;
+    rt.write_all(refused)?;
     let few = dry_run(rt, 0, ABSENT, &mut out)?;
     rt.write_all(b"dry run with no durations: ")?;
-    rt.write_all(&out[..few])
+    rt.write_all(few)
 }
 
 fn main(rt: HostRuntime) -> io::Result<()> {
-    let mut planned: u64 = 0;
-    let mut dried: u64 = 0;
-    let mut case = 0;
-    while case < CASES {
-        planned += tell(&rt, plan_agrees(&rt, case)?, b"plan", case)?;
-        dried += tell(&rt, dry_run_agrees(&rt, case)?, b"dry run", case)?;
-        case += 1;
+    let mut plans = Tally::new();
+    let mut dry_runs = Tally::new();
+    for case in 0..CASES {
+        plans.tell(&rt, plan_agrees(&rt, case)?, b"plan", case)?;
+        dry_runs.tell(&rt, dry_run_agrees(&rt, case)?, b"dry run", case)?;
     }
-    sum_up(&rt, planned, CASES, b" plans")?;
-    sum_up(&rt, dried, CASES, b" dry runs")?;
+    plans.sum_up(&rt, b" plans")?;
+    dry_runs.sum_up(&rt, b" dry runs")?;
     say_absent(&rt)
 }

@@ -10,10 +10,10 @@ use test_kit::{count, part, say_number};
 // What begins with none of these letters is a heading.
 pub fn tell<R: Files + Print>(rt: &R, line: &[u8]) -> io::Result<()> {
     rt.write_all(line)?;
-    match test_kit::first(line) {
-        b't' => tell_planned(rt, line)?,
-        b'o' => tell_others(rt, line)?,
-        b'd' => tell_dry(rt, test_kit::numbers(line))?,
+    match line {
+        [b't', ..] => tell_planned(rt, line)?,
+        [b'o', ..] => tell_others(rt, line)?,
+        [b'd', ..] => tell_dry(rt, test_kit::numbers(line))?,
         _ => {}
     }
     rt.write_all(b"\n")
@@ -24,9 +24,9 @@ pub fn tell<R: Files + Print>(rt: &R, line: &[u8]) -> io::Result<()> {
 // The file of an image, n and levels, and durations by position.
 fn tell_planned<R: Files + Print>(rt: &R, line: &[u8]) -> io::Result<()> {
     let name = text::words::find(line, 0, b' ');
-    let mut image = files::buffer();
-    let bytes = files::read_file(rt, &line[0..name], &mut image)?;
-    plan_and_tell(rt, &image[..bytes], test_kit::numbers(line))
+    let mut buffer = [0u8; files::BUFFER];
+    let image = files::read_file(rt, &line[..name], &mut buffer)?;
+    plan_and_tell(rt, image, test_kit::numbers(line))
 }
 
 fn plan_and_tell<R: Print>(rt: &R, image: &[u8], row: [u32; 24]) -> io::Result<()> {
@@ -50,8 +50,7 @@ fn tell_others<R: Print>(rt: &R, line: &[u8]) -> io::Result<()> {
     let row = test_kit::numbers(line);
     let limits = limits_of(line);
     let mut bounds = [signed(line, 2); 160];
-    let at = part(row[2], 159);
-    bounds[at] = signed(line, 4);
+    bounds[part(row[2], 159)] = signed(line, 4);
     let order = [4u8, 3, 2, 1, 0];
     let worst = [1u32; 10];
     tell_cycle(rt, 5, row[0], &order, &limits, &worst, &bounds, [1; 24])
@@ -90,25 +89,21 @@ fn tell_cycle<R: Print>(
 // what it is.
 fn tell_dry<R: Print>(rt: &R, row: [u32; 24]) -> io::Result<()> {
     let durations = ones_but(row[8], row[9]);
-    let d = part(row[5], 7);
     rt.write_all(b":")?;
-    tell_dry_with(rt, row, &durations[0..d])
+    tell_dry_with(rt, row, &durations[..part(row[5], 7)])
 }
 
 fn tell_dry_with<R: Print>(rt: &R, row: [u32; 24], durations: &[u32]) -> io::Result<()> {
     let limits = [100i32; 7];
     let worst = [1u32; 7];
     let bounds = [100i32; 97];
-    let a = part(row[2], 7);
-    let b = part(row[3], 7);
-    let c = part(row[4], 97);
     dried(
         rt,
         count(row[0]),
         count(row[1]),
-        &limits[0..a],
-        &worst[0..b],
-        &bounds[0..c],
+        &limits[..part(row[2], 7)],
+        &worst[..part(row[3], 7)],
+        &bounds[..part(row[4], 97)],
         durations,
         row[6],
         row[7],
@@ -121,24 +116,15 @@ fn tell_dry_with<R: Print>(rt: &R, row: [u32; 24], durations: &[u32]) -> io::Res
 // The word of a case as a limit or a bound. Below 0 there is only -1.
 fn signed(line: &[u8], k: usize) -> i32 {
     let at = text::words::word(line, k);
-    if at < line.len() {
-        if line[at] == b'-' {
-            return -1;
-        }
+    if line[at..].starts_with(b"-") {
+        return -1;
     }
-    let n = text::words::number(line, k);
-    if n < 1000 { n as i32 } else { 1000 }
+    text::words::number(line, k).min(1000) as i32
 }
 
 // The limits that stand at the end of a case, from its word 5 on.
 fn limits_of(line: &[u8]) -> [i32; 10] {
-    let mut limits = [0i32; 10];
-    let mut k = 0;
-    while k < 10 {
-        limits[k] = signed(line, k + 5);
-        k += 1;
-    }
-    limits
+    std::array::from_fn(|k| signed(line, k + 5))
 }
 
 fn ones_but(at: u32, duration: u32) -> [u32; 7] {
@@ -149,21 +135,15 @@ fn ones_but(at: u32, duration: u32) -> [u32; 7] {
 
 // The duration of a position: a case has them after two other numbers.
 fn duration(row: [u32; 24], position: usize) -> u32 {
-    if position < 22 { row[position + 2] } else { 0 }
+    row[2..].get(position).copied().unwrap_or(0)
 }
 
 // The durations of a row, each as often as there are levels.
 fn spread(row: [u32; 24], levels: usize) -> [u32; 64] {
-    let mut table = [0u32; 64];
     if levels == 0 {
-        return table;
+        return [0; 64];
     }
-    let mut k = 0;
-    while k < 64 {
-        table[k] = duration(row, k / levels);
-        k += 1;
-    }
-    table
+    std::array::from_fn(|k| duration(row, k / levels))
 }
 
 // ---- asked and reported
@@ -179,8 +159,7 @@ fn cycle<R: Print>(
     row: [u32; 24],
 ) -> io::Result<()> {
     let mut run = Run::start(n as usize, levels as usize).run;
-    let mut k = 0;
-    while k < n {
+    for k in 0..n {
         run = step(
             rt,
             run,
@@ -190,7 +169,6 @@ fn cycle<R: Print>(
             bounds,
             duration(row, k as usize),
         )?;
-        k += 1;
     }
     say_end(rt, run.decisions, run.clock, run.overrun, run.late)
 }
@@ -269,7 +247,7 @@ fn say_end<R: Print>(
     test_kit::say(
         rt,
         b", decisions _, end _, overrun _, late _",
-        &[decisions, end, overrun as u32, late as u32],
+        &[decisions, end, u32::from(overrun), u32::from(late)],
     )
 }
 
@@ -290,8 +268,6 @@ fn dried<R: Print>(
 ) -> io::Result<()> {
     let mut given = [9u8; 24];
     let mut marks = [9u8; 24];
-    let e = part(level_room, 24);
-    let f = part(mark_room, 24);
     let answer = run::dry::Dried::from(run::dry::dry_run(
         n,
         levels,
@@ -299,8 +275,8 @@ fn dried<R: Print>(
         worst,
         bounds,
         durations,
-        &mut given[0..e],
-        &mut marks[0..f],
+        &mut given[..part(level_room, 24)],
+        &mut marks[..part(mark_room, 24)],
     ));
     say_number(rt, b" refusal ", answer.refusal.number)?;
     say_bytes(rt, b", levels", given, shown)?;
@@ -315,12 +291,9 @@ fn dried<R: Print>(
 }
 
 fn say_bytes<R: Print>(rt: &R, words: &[u8], row: [u8; 24], shown: u32) -> io::Result<()> {
-    let end = part(shown, 24);
     rt.write_all(words)?;
-    let mut k = 0;
-    while k < end {
-        say_number(rt, b" ", u32::from(row[k]))?;
-        k += 1;
+    for b in &row[..part(shown, 24)] {
+        say_number(rt, b" ", *b)?;
     }
     Ok(())
 }

@@ -6,40 +6,27 @@ use std::io;
 use std::rt::Files;
 
 fn main(rt: HostRuntime) -> io::Result<()> {
-    tell_file(&rt, b"profile.txt")?;
-    tell_file(&rt, b"run.txt")?;
-    tell_file(&rt, b"cycle.txt")?;
-    tell_file(&rt, b"frames.txt")?;
-    tell_file(&rt, b"bodies.txt")?;
-    tell_file(&rt, b"speed.txt")?;
-    tell_file(&rt, b"averages.txt")
+    tell_file(&rt, b"profile.txt", |line| test_profile::tell(&rt, line))?;
+    tell_file(&rt, b"run.txt", |line| test_run::tell(&rt, line))?;
+    tell_file(&rt, b"cycle.txt", |line| test_cycle::tell(&rt, line))?;
+    tell_file(&rt, b"frames.txt", |line| test_recording::tell(&rt, line))?;
+    tell_file(&rt, b"bodies.txt", |line| test_repeat::tell(&rt, line))?;
+    tell_file(&rt, b"speed.txt", |line| test_speed::tell(&rt, line))?;
+    tell_file(&rt, b"averages.txt", |line| test_refresh::tell(&rt, line))
 }
 
-fn tell_file<R: Files + Print>(rt: &R, name: &[u8]) -> io::Result<()> {
-    let mut text = files::large_buffer();
-    let n = files::read_file(rt, name, &mut text)?;
-    tell_each(rt, &text[..n], test_kit::first(name))
-}
-
-fn tell_each<R: Files + Print>(rt: &R, text: &[u8], file: u8) -> io::Result<()> {
-    let mut at = 0;
-    while at < text.len() {
-        let end = text::words::find(text, at, b'\n');
-        tell(rt, &text[at..end], file)?;
-        at = end + 1;
-    }
-    Ok(())
-}
-
-fn tell<R: Files + Print>(rt: &R, line: &[u8], file: u8) -> io::Result<()> {
-    match file {
-        b'p' => test_profile::tell(rt, line)?,
-        b'r' => test_run::tell(rt, line)?,
-        b'c' => test_cycle::tell(rt, line)?,
-        b'f' => test_recording::tell(rt, line)?,
-        b'b' => test_repeat::tell(rt, line)?,
-        b's' => test_speed::tell(rt, line)?,
-        _ => test_refresh::tell(rt, line)?,
+// Each line of a file, told without its newline.
+fn tell_file<R: Files, F: FnMut(&[u8]) -> io::Result<()>>(
+    rt: &R,
+    name: &[u8],
+    mut tell: F,
+) -> io::Result<()>
+    requires { F.IsAlwaysCallable tell }
+{
+    let mut buffer = [0u8; files::LARGE_BUFFER];
+    let text = files::read_file(rt, name, &mut buffer)?;
+    for line in text.split_inclusive(|b| *b == b'\n') {
+        tell(line.strip_suffix(b"\n").unwrap_or(line))?;
     }
     Ok(())
 }

@@ -3,64 +3,56 @@
 // Last, the durations of some cases as recordings of one frame: what the rehearse program prints with the year of the case.
 #![tactic(auto)]
 
-use check::same;
 use std::io;
 use std::rt::Files;
-use test_kit::{read_case, sum_up, tell};
+use test_kit::{Tally, read_case, says};
 
 const CASES: usize = 37;
 
 fn policy<R: Files>(rt: &R, case: usize) -> io::Result<u32> {
     let mut word = [0u8; 16];
-    let n = read_case(rt, case, b".policy", &mut word)?;
-    Ok(text::words::number(&word[..n], 0))
+    let year = read_case(rt, case, b".policy", &mut word)?;
+    Ok(text::words::number(year, 0))
 }
 
 fn plan_agrees<R: Files>(rt: &R, case: usize) -> io::Result<bool> {
-    let mut image = files::buffer();
-    let n = read_case(rt, case, b".profile", &mut image)?;
-    let mut out = files::large_buffer();
-    let k = print::plan_text(&image[..n], policy(rt, case)?, &mut out);
-    let mut want = files::large_buffer();
-    let wanted = read_case(rt, case, b".plan", &mut want)?;
-    Ok(same(&out[..k], &want[..wanted]))
+    let mut buffer = [0u8; files::BUFFER];
+    let image = read_case(rt, case, b".profile", &mut buffer)?;
+    let mut out = [0u8; files::LARGE_BUFFER];
+    let k = print::plan_text(image, policy(rt, case)?, &mut out);
+    says(rt, case, b".plan", &out[..k])
 }
 
 fn dry_run_agrees<R: Files>(rt: &R, case: usize) -> io::Result<bool> {
-    let mut image = files::buffer();
-    let n = read_case(rt, case, b".profile", &mut image)?;
-    let mut bytes = files::buffer();
-    let m = read_case(rt, case, b".durations", &mut bytes)?;
-    let mut out = files::large_buffer();
-    let k = print::dry_text(&image[..n], policy(rt, case)?, &bytes[..m], &mut out);
-    let mut want = files::large_buffer();
-    let wanted = read_case(rt, case, b".dry", &mut want)?;
-    Ok(same(&out[..k], &want[..wanted]))
+    let mut buffer = [0u8; files::BUFFER];
+    let image = read_case(rt, case, b".profile", &mut buffer)?;
+    let mut bytes = [0u8; files::BUFFER];
+    let durations = read_case(rt, case, b".durations", &mut bytes)?;
+    let mut out = [0u8; files::LARGE_BUFFER];
+    let k = print::dry_text(image, policy(rt, case)?, durations, &mut out);
+    says(rt, case, b".dry", &out[..k])
 }
 
 fn tell_cases<R: Files + Print>(rt: &R) -> io::Result<()> {
-    let mut planned: u64 = 0;
-    let mut dried: u64 = 0;
-    let mut case = 0;
-    while case < CASES {
-        planned += tell(rt, plan_agrees(rt, case)?, b"plan", case)?;
-        dried += tell(rt, dry_run_agrees(rt, case)?, b"dry run", case)?;
-        case += 1;
+    let mut plans = Tally::new();
+    let mut dry_runs = Tally::new();
+    for case in 0..CASES {
+        plans.tell(rt, plan_agrees(rt, case)?, b"plan", case)?;
+        dry_runs.tell(rt, dry_run_agrees(rt, case)?, b"dry run", case)?;
     }
-    sum_up(rt, planned, CASES, b" plans")?;
-    sum_up(rt, dried, CASES, b" dry runs")
+    plans.sum_up(rt, b" plans")?;
+    dry_runs.sum_up(rt, b" dry runs")
 }
 
 // The frame and the totals, or the refusal, after what the case shows.
 fn rehearse<R: Files + Print>(rt: &R, case: usize, what: &[u8]) -> io::Result<()> {
-    let mut image = files::buffer();
-    let n = read_case(rt, case, b".profile", &mut image)?;
+    let mut buffer = [0u8; files::BUFFER];
+    let image = read_case(rt, case, b".profile", &mut buffer)?;
     let mut name = [0u8; 32];
-    let end = test_kit::case_name(case, b".durations", &mut name);
-    let mut recording = files::open(rt, &name[..end]);
-    let mut out = files::buffer();
+    let mut recording = files::open(rt, test_kit::case_name(case, b".durations", &mut name));
+    let mut out = [0u8; files::BUFFER];
     let k = rehearsal::rehearse(
-        &image[..n],
+        image,
         policy(rt, case)?,
         &mut recording,
         &mut out,

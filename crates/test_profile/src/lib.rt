@@ -3,18 +3,19 @@
 #![tactic(auto)]
 
 use profile::Tables;
+use rules::Counts;
 use std::io;
-use test_kit::{count, part, say, say_fault};
+use test_kit::{UNTOUCHED, count, part, say, say_number, say_refusal, say_tail};
 
 // A case begins with the letter of its call; what begins with none is a heading.
 pub fn tell<R: Print>(rt: &R, line: &[u8]) -> io::Result<()> {
     let row = test_kit::numbers(line);
     rt.write_all(line)?;
-    match test_kit::first(line) {
-        b'c' => tell_check(rt, row)?,
-        b'l' => tell_lookup(rt, row)?,
-        b'r' => tell_read(rt, row)?,
-        b'w' => tell_write(rt, row)?,
+    match line {
+        [b'c', ..] => tell_check(rt, row)?,
+        [b'l', ..] => tell_lookup(rt, row)?,
+        [b'r', ..] => tell_read(rt, row)?,
+        [b'w', ..] => tell_write(rt, row)?,
         _ => {}
     }
     rt.write_all(b"\n")
@@ -25,16 +26,14 @@ pub fn tell<R: Print>(rt: &R, line: &[u8]) -> io::Result<()> {
 // How much of it there is, and a byte that is changed.
 fn tell_check<R: Print>(rt: &R, row: [u32; 24]) -> io::Result<()> {
     let image = one_but(row[1], row[2]);
-    let bytes = part(row[0], 24);
-    say_fault(rt, b": ", profile::check(&image[0..bytes]))
+    let checked = profile::check(&image[..part(row[0], 24)]);
+    say_refusal(rt, b": ", &checked)
 }
 
 fn one_but(at: u32, byte: u32) -> [u8; 24] {
     let mut image = test_kit::samples::one();
-    if at < 24 {
-        if byte < 256 {
-            image[at as usize] = byte as u8;
-        }
+    if at < 24 && byte < 256 {
+        image[at as usize] = byte as u8;
     }
     image
 }
@@ -43,8 +42,8 @@ fn one_but(at: u32, byte: u32) -> [u8; 24] {
 fn tell_lookup<R: Print>(rt: &R, row: [u32; 24]) -> io::Result<()> {
     let image = test_kit::samples::one();
     let action = count(row[0]);
-    say_fault(rt, b": ", profile::lookup_refusal(&image, action))?;
-    test_kit::say_count(rt, b", bytes ", profile::lookup(&image, action).len())
+    say_refusal(rt, b": ", &profile::lookup_refusal(&image, action))?;
+    say_number(rt, b", bytes ", profile::lookup(&image, action).len())
 }
 
 // ---- Three
@@ -55,31 +54,32 @@ fn tell_read<R: Print>(rt: &R, row: [u32; 24]) -> io::Result<()> {
     let mut deadlines = [9u32; 3];
     let mut averages = [9u32; 6];
     let mut worst = [9u32; 6];
-    let a = part(row[0], 3);
-    let b = part(row[1], 3);
-    let c = part(row[2], 6);
-    let d = part(row[3], 6);
     let image = test_kit::samples::three();
     let read = profile::read(
         &image,
-        &mut masks[0..a],
-        &mut deadlines[0..b],
-        &mut averages[0..c],
-        &mut worst[0..d],
+        &mut masks[..part(row[0], 3)],
+        &mut deadlines[..part(row[1], 3)],
+        &mut averages[..part(row[2], 6)],
+        &mut worst[..part(row[3], 6)],
     );
-    say_fault(rt, b": ", read.refusal)?;
+    say_refusal(rt, b": ", &read)?;
     say_tables(rt, masks, deadlines, averages, worst)?;
     say_back(
         rt,
-        read.n,
-        read.levels,
-        read.cycle,
+        read.unwrap_or(NOTHING),
         &masks,
         &deadlines,
         &averages,
         &worst,
     )
 }
+
+// What is written back where nothing was read.
+const NOTHING: Counts = Counts {
+    n: 0,
+    levels: 0,
+    cycle: 0,
+};
 
 fn say_tables<R: Print>(
     rt: &R,
@@ -96,17 +96,16 @@ fn say_tables<R: Print>(
 
 fn say_masks<R: Print>(rt: &R, masks: [u64; 3]) -> io::Result<()> {
     rt.write_all(b", masks ")?;
-    print!(rt; "{:x}", masks[0])?;
-    print!(rt; "{:x}", masks[1])?;
-    print!(rt; "{:x}", masks[2])
+    for mask in masks {
+        print!(rt; "{mask:x}")?;
+    }
+    Ok(())
 }
 
 // What comes of writing it back.
 fn say_back<R: Print>(
     rt: &R,
-    n: usize,
-    levels: usize,
-    cycle: u32,
+    counts: Counts,
     masks: &[u64; 3],
     deadlines: &[u32; 3],
     averages: &[u32; 6],
@@ -119,9 +118,9 @@ fn say_back<R: Print>(
         averages,
         worst,
     };
-    let written = profile::write(n, levels, cycle, tables, &mut image);
-    say_fault(rt, b", back ", written.refusal)?;
-    let same = check::same(&image, &test_kit::samples::three());
+    let written = profile::write(counts.n, counts.levels, counts.cycle, tables, &mut image);
+    say_refusal(rt, b", back ", &written)?;
+    let same = image == test_kit::samples::three();
     test_kit::say_whether(rt, same, b", the same", b", another")
 }
 
@@ -129,11 +128,9 @@ fn say_back<R: Print>(
 
 // n, levels, cycle, mask, deadline, average, worst and the room in a slice of 25 bytes. A refusal leaves all of it untouched, and a writing its tail.
 fn tell_write<R: Print>(rt: &R, row: [u32; 24]) -> io::Result<()> {
-    let mut image = [0xa5u8; 25];
-    let room = part(row[7], 25);
-    let masks = [row[3] as u64];
+    let mut image = [UNTOUCHED; 25];
     let tables = Tables {
-        masks: &masks,
+        masks: &[u64::from(row[3])],
         deadlines: &[row[4]],
         averages: &[row[5]],
         worst: &[row[6]],
@@ -143,30 +140,16 @@ fn tell_write<R: Print>(rt: &R, row: [u32; 24]) -> io::Result<()> {
         count(row[1]),
         row[2],
         tables,
-        &mut image[0..room],
+        &mut image[..part(row[7], 25)],
     );
-    say_fault(rt, b": ", written.refusal)?;
-    say_written(rt, image, written.bytes)
+    say_refusal(rt, b": ", &written)?;
+    say_written(rt, image, written.unwrap_or(0))
 }
 
 fn say_written<R: Print>(rt: &R, image: [u8; 25], bytes: usize) -> io::Result<()> {
-    test_kit::say_count(rt, b", bytes ", bytes)?;
+    say_number(rt, b", bytes ", bytes)?;
     if bytes <= 25 {
-        say_tail(rt, &image[bytes..25])?;
-    }
-    Ok(())
-}
-
-fn say_tail<R: Print>(rt: &R, tail: &[u8]) -> io::Result<()> {
-    let blank = [0xa5u8; 25];
-    let n = tail.len();
-    if n <= 25 {
-        test_kit::say_whether(
-            rt,
-            check::same(tail, &blank[0..n]),
-            b", tail kept",
-            b", tail CHANGED",
-        )?;
+        say_tail(rt, &image[bytes..])?;
     }
     Ok(())
 }

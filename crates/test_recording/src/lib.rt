@@ -4,18 +4,19 @@
 
 ghost use Rattle.std.specs.Prelude.{◌<◌, ◌≡◌, length};
 
-use recording::{Counted, Opened, Totals};
+use recording::{Counted, Recording, Totals};
+use rules::Blame;
 use std::io;
 use std::rt::Files;
-use test_kit::{count, part, say, say_count, say_fault, say_number};
+use test_kit::{count, part, say, say_number, say_refusal};
 
 // A recording to be opened begins with the name of its profile, a frame with `frame` or the file of an image; what begins with # is a heading.
 pub fn tell<R: Files + Print>(rt: &R, line: &[u8]) -> io::Result<()> {
     rt.write_all(line)?;
-    match test_kit::first(line) {
-        b'#' => {}
-        b'f' => tell_frame(rt, test_kit::numbers(line))?,
-        b't' => tell_twice(rt, line)?,
+    match line {
+        [b'#', ..] => {}
+        [b'f', ..] => tell_frame(rt, test_kit::numbers(line))?,
+        [b't', ..] => tell_twice(rt, line)?,
         _ => tell_open(rt, line)?,
     }
     rt.write_all(b"\n")
@@ -25,9 +26,9 @@ pub fn tell<R: Files + Print>(rt: &R, line: &[u8]) -> io::Result<()> {
 
 // A profile, the bytes of the recording, how much there is of order, limits, worst times and bounds, and the year.
 fn tell_open<R: Print>(rt: &R, line: &[u8]) -> io::Result<()> {
-    let mut image = [0u8; 78];
-    let n = test_kit::sample(line, &mut image);
-    open(rt, &image[..n], test_kit::numbers(line))
+    let mut buffer = [0u8; 78];
+    let image = test_kit::sample(line, &mut buffer);
+    open(rt, image, test_kit::numbers(line))
 }
 
 fn open<R: Print>(rt: &R, image: &[u8], row: [u32; 24]) -> io::Result<()> {
@@ -35,38 +36,43 @@ fn open<R: Print>(rt: &R, image: &[u8], row: [u32; 24]) -> io::Result<()> {
     let mut limits = [9i32; 6];
     let mut worst = [9u32; 6];
     let mut bounds = [9i32; 96];
-    let a = part(row[1], 3);
-    let b = part(row[2], 6);
-    let c = part(row[3], 6);
-    let d = part(row[4], 96);
-    let opened = Opened::from(recording::open(
+    let opened = recording::open(
         image,
         test_kit::year(row[5]),
         count(row[0]),
-        &mut order[0..a],
-        &mut limits[0..b],
-        &mut worst[0..c],
-        &mut bounds[0..d],
-    ));
+        &mut order[..part(row[1], 3)],
+        &mut limits[..part(row[2], 6)],
+        &mut worst[..part(row[3], 6)],
+        &mut bounds[..part(row[4], 96)],
+    );
     say_opened(rt, opened)?;
     say(
         rt,
         b", untouched _ _ _ _",
         &[
-            (order[0] == 9) as u32,
-            (limits[0] == 9) as u32,
-            (worst[0] == 9) as u32,
-            (bounds[0] == 9) as u32,
+            u32::from(order[0] == 9),
+            u32::from(limits[0] == 9),
+            u32::from(worst[0] == 9),
+            u32::from(bounds[0] == 9),
         ],
     )
 }
 
-fn say_opened<R: Print>(rt: &R, opened: Opened) -> io::Result<()> {
-    say_fault(rt, b": refusal ", opened.refusal)?;
-    say_count(rt, b", n ", opened.n)?;
-    say_count(rt, b", levels ", opened.levels)?;
-    say_count(rt, b", a frame of ", opened.frame_bytes)?;
-    say_count(rt, b", frames ", opened.frames)
+// What is said of a recording that is refused.
+const NOTHING: Recording = Recording {
+    n: 0,
+    levels: 0,
+    frame_bytes: 0,
+    frames: 0,
+};
+
+fn say_opened<R: Print>(rt: &R, opened: Result<Recording, Blame>) -> io::Result<()> {
+    say_refusal(rt, b": refusal ", &opened)?;
+    let recording = opened.unwrap_or(NOTHING);
+    say_number(rt, b", n ", recording.n)?;
+    say_number(rt, b", levels ", recording.levels)?;
+    say_number(rt, b", a frame of ", recording.frame_bytes)?;
+    say_number(rt, b", frames ", recording.frames)
 }
 
 // ---- frames
@@ -92,10 +98,14 @@ fn tell_frame<R: Print>(rt: &R, row: [u32; 24]) -> io::Result<()> {
         &mut worst,
         &mut bounds,
     );
-    let a = part(row[6], 6);
-    let b = part(row[7], 6);
-    let c = part(row[8], 96);
-    rehearse(rt, totals, &limits[0..a], &worst[0..b], &bounds[0..c], row)
+    rehearse(
+        rt,
+        totals,
+        &limits[..part(row[6], 6)],
+        &worst[..part(row[7], 6)],
+        &bounds[..part(row[8], 96)],
+        row,
+    )
 }
 
 fn rehearse<R: Print>(
@@ -107,7 +117,6 @@ fn rehearse<R: Print>(
     row: [u32; 24],
 ) -> io::Result<()> {
     let frame = frame_of(row, 10, 1);
-    let bytes = part(row[9], 256);
     let outcome = recording::rehearse(
         totals,
         count(row[4]),
@@ -115,7 +124,7 @@ fn rehearse<R: Print>(
         limits,
         worst,
         bounds,
-        &frame[0..bytes],
+        &frame[..part(row[9], 256)],
     );
     say_counted(rt, Counted::of(totals, outcome))
 }
@@ -131,8 +140,8 @@ fn say_counted<R: Print>(rt: &R, counted: Counted) -> io::Result<()> {
             line.decisions,
             line.lowest,
             line.end,
-            line.overrun as u32,
-            line.late as u32,
+            u32::from(line.overrun),
+            u32::from(line.late),
         ],
     )?;
     say(
@@ -150,9 +159,9 @@ fn say_counted<R: Print>(rt: &R, counted: Counted) -> io::Result<()> {
 // The file of an image, and durations by position, the same at each level: that frame twice, one after the other.
 fn tell_twice<R: Files + Print>(rt: &R, line: &[u8]) -> io::Result<()> {
     let name = text::words::find(line, 0, b' ');
-    let mut image = files::buffer();
-    let bytes = files::read_file(rt, &line[0..name], &mut image)?;
-    open_and_tell(rt, &image[..bytes], test_kit::numbers(line))
+    let mut buffer = [0u8; files::BUFFER];
+    let image = files::read_file(rt, &line[..name], &mut buffer)?;
+    open_and_tell(rt, image, test_kit::numbers(line))
 }
 
 // An empty recording opens the image as well as any.
@@ -161,7 +170,7 @@ fn open_and_tell<R: Print>(rt: &R, image: &[u8], row: [u32; 24]) -> io::Result<(
     let mut limits = [0i32; 512];
     let mut worst = [0u32; 512];
     let mut bounds = [0i32; 8192];
-    let opened = Opened::from(recording::open(
+    let opened = recording::open(
         image,
         rules::POLICY_2008,
         0,
@@ -169,22 +178,22 @@ fn open_and_tell<R: Print>(rt: &R, image: &[u8], row: [u32; 24]) -> io::Result<(
         &mut limits,
         &mut worst,
         &mut bounds,
-    ));
-    let frame = frame_of(row, 0, opened.levels);
-    let none = Totals {
+    );
+    let Recording { n, levels, .. } = opened.unwrap_or(NOTHING);
+    let frame = frame_of(row, 0, levels);
+    let mut totals = Totals {
         frames: 0,
         decisions: 0,
         overruns: 0,
         lates: 0,
     };
-    let n = opened.n;
-    let levels = opened.levels;
-    let first = recording::rehearse(none, n, levels, &limits, &worst, &bounds, &frame);
-    let once = Counted::of(none, first);
-    let totals = once.totals;
-    say_counted(rt, once)?;
-    let second = recording::rehearse(totals, n, levels, &limits, &worst, &bounds, &frame);
-    say_counted(rt, Counted::of(totals, second))
+    for _ in 0..2 {
+        let outcome = recording::rehearse(totals, n, levels, &limits, &worst, &bounds, &frame);
+        let counted = Counted::of(totals, outcome);
+        totals = counted.totals;
+        say_counted(rt, counted)?;
+    }
+    Ok(())
 }
 
 // A frame of 64 durations: those of a row from one of its numbers on, each as often as there are levels.
@@ -203,20 +212,14 @@ fn fill(frame: &mut [u8], row: [u32; 24], from: usize, levels: usize)
     if levels == 0 {
         return;
     }
-    let mut k = 0;
-    while k < frame.len() / rules::DURATION_BYTES {
+    for k in 0..frame.len() / rules::DURATION_BYTES {
         let at = k * rules::DURATION_BYTES;
         fields::put_be(frame, at, u64::from(duration(row, from, k / levels)), 4);
-        k += 1;
     }
 }
 
 fn duration(row: [u32; 24], from: usize, position: usize) -> u32
     requires { from < 24 }
 {
-    if position < 24 - from {
-        row[from + position]
-    } else {
-        0
-    }
+    row[from..].get(position).copied().unwrap_or(0)
 }

@@ -3,11 +3,9 @@
 // has no frames.
 #![tactic(auto)]
 
-ghost use Rattle.std.specs.Io.{ReadsAtMost};
-
 use std::io;
 use std::rt::Files;
-use test_kit::{read_case, sum_up, tell};
+use test_kit::{Tally, case_name, read_case, says};
 
 const CASES: usize = 27;
 
@@ -16,54 +14,47 @@ const ABSENT: usize = 999;
 
 // What the rehearse program prints for the profile of one case and the recording of another. Every text fits into a large buffer: what did not
 // would stand on standard output.
-fn rehearse<R: Files + Print>(
+fn rehearse<'a, R: Files + Print>(
     rt: &R,
     profile: usize,
     recording: usize,
-    out: &mut [u8],
-) -> io::Result<usize>
-    ensures { ReadsAtMost result out.new }
-{
-    let mut image = files::buffer();
-    let n = read_case(rt, profile, b".profile", &mut image)?;
+    out: &'a mut [u8],
+) -> io::Result<&'a [u8]> {
+    let mut buffer = [0u8; files::BUFFER];
+    let image = read_case(rt, profile, b".profile", &mut buffer)?;
     let mut name = [0u8; 32];
-    let end = test_kit::case_name(recording, b".recording", &mut name);
-    let mut recording = files::open(rt, &name[..end]);
-    rehearsal::rehearse(
-        &image[..n],
+    let mut recording = files::open(rt, case_name(recording, b".recording", &mut name));
+    let k = rehearsal::rehearse(
+        image,
         rules::POLICY_2008,
         &mut recording,
-        out,
+        &mut *out,
         &mut io::writer(rt),
-    )
+    )?;
+    Ok(&out[..k])
 }
 
 // Whether the text of a case is what its file says.
 fn agrees<R: Files + Print>(rt: &R, case: usize) -> io::Result<bool> {
-    let mut out = files::large_buffer();
-    let k = rehearse(rt, case, case, &mut out)?;
-    let mut want = files::large_buffer();
-    let wanted = read_case(rt, case, b".rehearse", &mut want)?;
-    Ok(check::same(&out[..k], &want[..wanted]))
+    let mut out = [0u8; files::LARGE_BUFFER];
+    says(rt, case, b".rehearse", rehearse(rt, case, case, &mut out)?)
 }
 
 fn say_absent<R: Files + Print>(rt: &R) -> io::Result<()> {
-    let mut out = files::large_buffer();
+    let mut out = [0u8; files::LARGE_BUFFER];
     let refused = rehearse(rt, ABSENT, 0, &mut out)?;
     rt.write_all(b"no profile: ")?;
-    rt.write_all(&out[..refused])?;
+    rt.write_all(refused)?;
     let none = rehearse(rt, 0, ABSENT, &mut out)?;
     rt.write_all(b"no recording: ")?;
-    rt.write_all(&out[..none])
+    rt.write_all(none)
 }
 
 fn main(rt: HostRuntime) -> io::Result<()> {
-    let mut agreed: u64 = 0;
-    let mut case = 0;
-    while case < CASES {
-        agreed += tell(&rt, agrees(&rt, case)?, b"recording", case)?;
-        case += 1;
+    let mut recordings = Tally::new();
+    for case in 0..CASES {
+        recordings.tell(&rt, agrees(&rt, case)?, b"recording", case)?;
     }
-    sum_up(&rt, agreed, CASES, b" recordings")?;
+    recordings.sum_up(&rt, b" recordings")?;
     say_absent(&rt)
 }

@@ -2,16 +2,13 @@
 // images. A case is told again with what came of it.
 #![tactic(auto)]
 
-ghost use Rattle.std.specs.Prelude.{◌≡◌, length};
-
 use profile::Tables;
-use refresh::Refreshed;
 use std::io;
-use test_kit::part;
+use test_kit::{UNTOUCHED, part, say_number, say_refusal, say_tail, say_whether};
 
 pub fn tell<R: Print>(rt: &R, line: &[u8]) -> io::Result<()> {
     rt.write_all(line)?;
-    if test_kit::first(line) != b'#' {
+    if !line.starts_with(b"#") {
         tell_refresh(rt, line)?;
     }
     rt.write_all(b"\n")
@@ -19,22 +16,26 @@ pub fn tell<R: Print>(rt: &R, line: &[u8]) -> io::Result<()> {
 
 // A profile, the bytes of room, the bytes of the trace, and its records, which are said again and again to its end.
 fn tell_refresh<R: Print>(rt: &R, line: &[u8]) -> io::Result<()> {
-    let mut image = [0u8; 78];
-    let n = test_kit::sample(line, &mut image);
+    let mut buffer = [0u8; 78];
+    let image = test_kit::sample(line, &mut buffer);
     let row = test_kit::numbers(line);
     let trace = trace_of(row);
-    let bytes = part(row[1], 400_000);
-    refreshed(rt, &image[..n], &trace[0..bytes], row[0])
+    refreshed(
+        rt,
+        image,
+        &trace[..part(row[1], files::LONG_BUFFER)],
+        row[0],
+    )
 }
 
 // ---- the trace
 
 // A record is four numbers, the first of them 1 if it is open; its 40 bits are open 1, action 6, level 3, duration 30.
 fn bits(open: u32, action: u32, level: u32, duration: u32) -> u64 {
-    let o = (open % 2) as u64;
-    let a = (action % 64) as u64;
-    let l = (level % 8) as u64;
-    let d = (duration % 1_073_741_824) as u64;
+    let o = u64::from(open % 2);
+    let a = u64::from(action % 64);
+    let l = u64::from(level % 8);
+    let d = u64::from(duration % 1_073_741_824);
     ((o * 64 + a) * 8 + l) * 1_073_741_824 + d
 }
 
@@ -44,19 +45,15 @@ fn record(row: [u32; 24], r: usize) -> u64 {
     bits(row[at], row[at + 1], row[at + 2], row[at + 3])
 }
 
-fn trace_of(row: [u32; 24]) -> [u8; 400000]
-    ensures { 400000 ≡ length result }
-{
-    let mut trace = files::long_buffer();
+fn trace_of(row: [u32; 24]) -> [u8; files::LONG_BUFFER] {
+    let mut trace = [0u8; files::LONG_BUFFER];
     fill(&mut trace, row);
     trace
 }
 
 fn fill(trace: &mut [u8], row: [u32; 24]) {
-    let mut r = 0;
-    while r < trace.len() / 5 {
+    for r in 0..trace.len() / 5 {
         fields::put_be(trace, r * 5, record(row, r), 5);
-        r += 1;
     }
 }
 
@@ -64,35 +61,20 @@ fn fill(trace: &mut [u8], row: [u32; 24]) {
 
 // A slice of 80 bytes, of which some are lent.
 fn refreshed<R: Print>(rt: &R, image: &[u8], trace: &[u8], room: u32) -> io::Result<()> {
-    let mut out = [0xa5u8; 80];
-    let lent = part(room, 80);
-    let answer = Refreshed::from(refresh::refresh(image, trace, &mut out[0..lent]));
-    test_kit::say_fault(rt, b": refusal ", answer.refusal)?;
-    say_written(rt, image, out, answer.bytes)
-}
-
-fn say_written<R: Print>(rt: &R, image: &[u8], out: [u8; 80], bytes: usize) -> io::Result<()> {
-    test_kit::say_count(rt, b", bytes ", bytes)?;
-    if bytes <= 80 {
-        if 0 < bytes {
-            say_averages(rt, image, &out[0..bytes])?;
-        }
-        say_tail(rt, &out[bytes..80])?;
-    }
-    Ok(())
+    let mut out = [UNTOUCHED; 80];
+    let answer = refresh::refresh(image, trace, &mut out[..part(room, 80)]);
+    say_refusal(rt, b": refusal ", &answer)?;
+    say_written(rt, image, out, answer.unwrap_or(0))
 }
 
 // Behind the new image, and all over with a refusal, the slice is as it was handed over.
-fn say_tail<R: Print>(rt: &R, tail: &[u8]) -> io::Result<()> {
-    let blank = [0xa5u8; 80];
-    let n = tail.len();
-    if n <= 80 {
-        test_kit::say_whether(
-            rt,
-            check::same(tail, &blank[0..n]),
-            b", tail kept",
-            b", tail CHANGED",
-        )?;
+fn say_written<R: Print>(rt: &R, image: &[u8], out: [u8; 80], bytes: usize) -> io::Result<()> {
+    say_number(rt, b", bytes ", bytes)?;
+    if bytes <= 80 {
+        if 0 < bytes {
+            say_averages(rt, image, &out[..bytes])?;
+        }
+        say_tail(rt, &out[bytes..])?;
     }
     Ok(())
 }
@@ -101,16 +83,12 @@ fn say_tail<R: Print>(rt: &R, tail: &[u8]) -> io::Result<()> {
 fn say_averages<R: Print>(rt: &R, image: &[u8], new: &[u8]) -> io::Result<()> {
     test_kit::say(rt, b", averages _ _, _ _, _ _", &averages_of(new))?;
     let back = with_averages(new, &averages_of(image));
-    let n = image.len();
-    if n <= 78 {
-        test_kit::say_whether(
-            rt,
-            check::same(image, &back[0..n]),
-            b", rest kept",
-            b", rest CHANGED",
-        )?;
-    }
-    Ok(())
+    say_whether(
+        rt,
+        back.starts_with(image),
+        b", rest kept",
+        b", rest CHANGED",
+    )
 }
 
 // Up to six, 0 for those that it has not.
@@ -119,7 +97,7 @@ fn averages_of(image: &[u8]) -> [u32; 6] {
     let mut deadlines = [0u32; 3];
     let mut averages = [0u32; 6];
     let mut worst = [0u32; 6];
-    profile::read(image, &mut masks, &mut deadlines, &mut averages, &mut worst);
+    let _ = profile::read(image, &mut masks, &mut deadlines, &mut averages, &mut worst);
     averages
 }
 
@@ -130,12 +108,14 @@ fn with_averages(image: &[u8], averages: &[u32; 6]) -> [u8; 78] {
     let mut worst = [0u32; 6];
     let read = profile::read(image, &mut masks, &mut deadlines, &mut own, &mut worst);
     let mut out = [0u8; 78];
-    let tables = Tables {
-        masks: &masks,
-        deadlines: &deadlines,
-        averages,
-        worst: &worst,
-    };
-    profile::write(read.n, read.levels, read.cycle, tables, &mut out);
+    if let Ok(counts) = read {
+        let tables = Tables {
+            masks: &masks,
+            deadlines: &deadlines,
+            averages,
+            worst: &worst,
+        };
+        let _ = profile::write(counts.n, counts.levels, counts.cycle, tables, &mut out);
+    }
     out
 }

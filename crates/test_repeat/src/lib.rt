@@ -2,20 +2,18 @@
 // case is told again with what came of it.
 #![tactic(auto)]
 
-use repeat_limits::Limited;
-use repeat_planner::BodyPlanned;
-use rules::Body;
+use rules::{Blame, Body, Reason};
 use std::io;
-use test_kit::{count, part, say, say_fault, say_number};
+use test_kit::{count, part, say, say_refusal};
 
 // What begins with `limit` or `bound` asks for one; any other case begins with the name of its profile, and is planned.
 pub fn tell<R: Print>(rt: &R, line: &[u8]) -> io::Result<()> {
     rt.write_all(line)?;
-    match test_kit::first(line) {
-        b'#' => {}
-        b'l' => tell_limit(rt, test_kit::numbers(line))?,
-        b'b' => tell_bound(rt, test_kit::numbers(line))?,
-        b'D' => tell_due(rt, test_kit::numbers(line))?,
+    match line {
+        [b'#', ..] => {}
+        [b'l', ..] => tell_limit(rt, test_kit::numbers(line))?,
+        [b'b', ..] => tell_bound(rt, test_kit::numbers(line))?,
+        [b'D', ..] => tell_due(rt, test_kit::numbers(line))?,
         _ => tell_plan(rt, line)?,
     }
     rt.write_all(b"\n")
@@ -25,10 +23,10 @@ pub fn tell<R: Print>(rt: &R, line: &[u8]) -> io::Result<()> {
 
 // A profile, N, how much there is of order, summaries and worst times, and the year.
 fn tell_plan<R: Print>(rt: &R, line: &[u8]) -> io::Result<()> {
-    let mut image = [0u8; 78];
-    let n = test_kit::sample(line, &mut image);
+    let mut buffer = [0u8; 78];
+    let image = test_kit::sample(line, &mut buffer);
     let row = test_kit::numbers(line);
-    plan(rt, &image[..n], row, test_kit::year(row[4]))
+    plan(rt, image, row, test_kit::year(row[4]))
 }
 
 // Due: Three, but action 1 has a deadline of its own. It is the last number of the case, up to 63.
@@ -43,23 +41,16 @@ fn plan<R: Print>(rt: &R, image: &[u8], row: [u32; 24], policy: u32) -> io::Resu
     let mut order = [9u8; 4];
     let mut summaries = [9u32; 25];
     let mut worst = [9u32; 7];
-    let a = part(row[1], 4);
-    let b = part(row[2], 25);
-    let c = part(row[3], 7);
-    let planned = BodyPlanned::from(repeat_planner::plan(
+    let planned = repeat_planner::plan(
         image,
         row[0],
         policy,
-        &mut order[0..a],
-        &mut summaries[0..b],
-        &mut worst[0..c],
-    ));
+        &mut order[..part(row[1], 4)],
+        &mut summaries[..part(row[2], 25)],
+        &mut worst[..part(row[3], 7)],
+    );
     say_planned(rt, planned)?;
     say_tables(rt, &order, &summaries, &worst)
-}
-
-fn wide(b: u8) -> u32 {
-    b as u32
 }
 
 fn say_tables<R: Print>(
@@ -68,16 +59,7 @@ fn say_tables<R: Print>(
     summaries: &[u32; 25],
     worst: &[u32; 7],
 ) -> io::Result<()> {
-    say(
-        rt,
-        b", order _ _ _ _",
-        &[
-            wide(order[0]),
-            wide(order[1]),
-            wide(order[2]),
-            wide(order[3]),
-        ],
-    )?;
+    say(rt, b", order _ _ _ _", &order.map(|b| u32::from(b)))?;
     say(
         rt,
         b", summaries _ _ _ _ _ _ _ _ _ _ _ _ _ _ _ _ _ _ _ _ _ _ _ _ _",
@@ -86,15 +68,24 @@ fn say_tables<R: Print>(
     say(rt, b", worst _ _ _ _ _ _ _", worst)
 }
 
-fn say_planned<R: Print>(rt: &R, planned: BodyPlanned) -> io::Result<()> {
-    let body = planned.body;
-    say_fault(rt, b": refusal ", planned.refusal)?;
+// With a refusal all of the body is said as 0.
+fn say_planned<R: Print>(rt: &R, planned: Result<Body, Blame>) -> io::Result<()> {
+    say_refusal(rt, b": refusal ", &planned)?;
+    let body = planned.unwrap_or(NO_BODY);
     say(
         rt,
         b", n _, levels _, cycle _, repeats _, policy _",
         &[body.n, body.levels, body.cycle, body.repeats, body.policy],
     )
 }
+
+const NO_BODY: Body = Body {
+    n: 0,
+    levels: 0,
+    cycle: 0,
+    repeats: 0,
+    policy: 0,
+};
 
 // ---- limits and coast bounds
 
@@ -121,15 +112,14 @@ fn tell_limit<R: Print>(rt: &R, row: [u32; 24]) -> io::Result<()> {
     let mut worst = [0u32; 6];
     let policy = test_kit::year(row[7]);
     plan_three(policy, &mut summaries, &mut worst);
-    let a = part(row[4], 24);
     say_limited(
         rt,
-        Limited::from(repeat_limits::limit(
+        repeat_limits::limit(
             body_of(row, policy),
-            &summaries[0..a],
+            &summaries[..part(row[4], 24)],
             count(row[5]),
             count(row[6]),
-        )),
+        ),
     )
 }
 
@@ -139,26 +129,24 @@ fn tell_bound<R: Print>(rt: &R, row: [u32; 24]) -> io::Result<()> {
     let mut worst = [0u32; 6];
     let policy = test_kit::year(row[9]);
     plan_three(policy, &mut summaries, &mut worst);
-    let a = part(row[4], 24);
-    let b = part(row[5], 6);
     say_limited(
         rt,
-        Limited::from(repeat_limits::bound(
+        repeat_limits::bound(
             body_of(row, policy),
-            &summaries[0..a],
-            &worst[0..b],
+            &summaries[..part(row[4], 24)],
+            &worst[..part(row[5], 6)],
             count(row[6]),
             count(row[7]),
             count(row[8]),
-        )),
+        ),
     )
 }
 
-fn say_limited<R: Print>(rt: &R, limited: Limited) -> io::Result<()> {
-    let refusal = limited.refusal;
-    say_number(rt, b": refusal ", refusal.number)?;
-    let mut digits = [0u8; 32];
-    let k = text::put_signed_long(&mut digits, 0, limited.limit);
-    rt.write_all(b", limit ")?;
-    rt.write_all(&digits[..k])
+// With a refusal the limit is said as 0.
+fn say_limited<R: Print>(rt: &R, limited: Result<i64, Reason>) -> io::Result<()> {
+    let (refused, limit) = match limited {
+        Ok(limit) => (0, limit),
+        Err(reason) => (reason as u32, 0),
+    };
+    print!(rt; ": refusal {refused}, limit {limit}")
 }

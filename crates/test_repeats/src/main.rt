@@ -10,14 +10,12 @@ ghost use Rattle.rules.specs.Repeat.{positions as Repeat·positions};
 ghost use Rattle.repeat_limits.specs.Limits.{CountsIn};
 ghost use Rattle.repeat_text.specs.Text.{Lent};
 
-use check::same;
 use print_lines::{put_field, put_four};
-use repeat_frame::BodyFramed;
-use repeat_limits::Limited;
-use rules::Body;
+use repeat_frame::BodyFrame;
+use rules::{Body, Fault};
 use std::io;
 use std::rt::Files;
-use test_kit::{read_case, sum_up, tell};
+use test_kit::{Tally, read_case};
 
 const CASES: usize = 35;
 
@@ -43,22 +41,19 @@ fn line_agrees(line: &[u8], body: Body, order: &[u8], summaries: &[u32]) -> bool
     }
     let mut out = [0u8; 256];
     let k = repeat_text::put_position(&mut out, 0, body, order, summaries, position);
-    same(&out[..k], line)
+    &out[..k] == line
 }
 
-// Each line; there is at least one.
-fn lines_agree(want: &[u8], body: Body, order: &[u8], summaries: &[u32]) -> bool
-    requires { Lent body order.now summaries.now }
+// Whether each line agrees, and there is at least one.
+fn all_agree<F: FnMut(&[u8]) -> bool>(lines: &[u8], mut agrees: F) -> bool
+    requires { F.IsAlwaysCallable agrees }
 {
-    let mut at = 0;
-    while at < want.len() {
-        let end = text::words::next(want, at, b'\n');
-        if !line_agrees(&want[at..end], body, order, summaries) {
+    for line in lines.split_inclusive(|b| *b == b'\n') {
+        if !agrees(line) {
             return false;
         }
-        at = end;
     }
-    0 < at
+    !lines.is_empty()
 }
 
 // All that the program prints: the first line, then the others. It fits into a large buffer: what did not would stand on standard output.
@@ -69,7 +64,7 @@ fn text_agrees<R: Print>(
     first: &[u8],
     others: &[u8],
 ) -> io::Result<bool> {
-    let mut out = files::large_buffer();
+    let mut out = [0u8; files::LARGE_BUFFER];
     let k = repeat_text::plan_text(
         image,
         repeats,
@@ -77,11 +72,10 @@ fn text_agrees<R: Print>(
         &mut out,
         &mut io::writer(rt),
     )?;
-    let begun = first.len();
-    if k < begun {
+    let Some(rest) = out[..k].strip_prefix(first) else {
         return Ok(false);
-    }
-    Ok(same(&out[0..begun], first) & same(&out[begun..k], others))
+    };
+    Ok(rest == others)
 }
 
 // ---- the coast bounds
@@ -91,21 +85,24 @@ fn bound_agrees(line: &[u8], body: Body, summaries: &[u32], worst: &[u32]) -> bo
     let position = text::words::number(line, 0);
     let level = text::words::number(line, 1);
     let length = text::words::number(line, 2);
-    let answer = Limited::from(repeat_limits::bound(
+    let answer = repeat_limits::bound(
         body,
         summaries,
         worst,
         position as usize,
         level as usize,
         length as usize,
-    ));
+    );
+    let Ok(bound) = answer else {
+        return false;
+    };
     let mut out = [0u8; 64];
     let second = put_field(&mut out, 0, position, b' ');
     let third = put_field(&mut out, second, level, b' ');
     let fourth = put_field(&mut out, third, length, b' ');
-    let newline = text::put_signed_long(&mut out, fourth, answer.limit);
+    let newline = text::put_signed_long(&mut out, fourth, bound);
     let end = text::put_byte(&mut out, newline, b'\n');
-    (answer.refusal.number == 0) & same(&out[..end], line)
+    &out[..end] == line
 }
 
 fn bounds_agree<R: Files>(
@@ -115,22 +112,9 @@ fn bounds_agree<R: Files>(
     summaries: &[u32],
     worst: &[u32],
 ) -> io::Result<bool> {
-    let mut text = files::large_buffer();
-    let n = read_case(rt, case, b".bounds", &mut text)?;
-    Ok(each_bound_agrees(&text[..n], body, summaries, worst))
-}
-
-// Each of them; there is at least one.
-fn each_bound_agrees(want: &[u8], body: Body, summaries: &[u32], worst: &[u32]) -> bool {
-    let mut at = 0;
-    while at < want.len() {
-        let end = text::words::next(want, at, b'\n');
-        if !bound_agrees(&want[at..end], body, summaries, worst) {
-            return false;
-        }
-        at = end;
-    }
-    0 < at
+    let mut buffer = [0u8; files::LARGE_BUFFER];
+    let lines = read_case(rt, case, b".bounds", &mut buffer)?;
+    Ok(all_agree(lines, |line| { bound_agrees(line, body, summaries, worst) }))
 }
 
 // ---- a frame run dry
@@ -139,43 +123,34 @@ fn each_bound_agrees(want: &[u8], body: Body, summaries: &[u32], worst: &[u32]) 
 const MOST_STEPS: usize = 256;
 
 // Position, action by its number in the unrolled system, level and decided, a line for each position.
-fn put_steps(
-    out: &mut [u8],
-    n: usize,
-    order: &[u8],
-    given: &[u8],
-    marks: &[u8],
-    positions: usize,
-) -> usize
-    requires { (0 < n) × (n ≤ length order.now) × (positions ≤ 256) × (positions ≤ length given.now) × (positions ≤ length marks.now) }
+fn put_steps(out: &mut [u8], n: usize, order: &[u8], given: &[u8], marks: &[u8]) -> usize
+    requires { (0 < n) × (n ≤ length order.now) × (length given.now ≤ 256) }
     ensures { IsPrefixLen result out.new }
 {
     let mut to = 0;
-    let mut i = 0;
-    while i < positions {
-        let action = (i / n * n) as u32 + order[i % n] as u32;
-        let level = given[i] as u32;
-        let mark = marks[i] as u32;
+    for (i, (level, mark)) in given.iter().zip(marks).enumerate() {
+        let action = (i / n * n) as u32 + u32::from(order[i % n]);
+        let level = u32::from(*level);
+        let mark = u32::from(*mark);
         to = put_four(&mut *out, to, i as u32, action, level, mark);
-        i += 1;
     }
     to
 }
 
 // Decisions, end, overrun, late.
-fn put_end(out: &mut [u8], at: usize, framed: BodyFramed) -> usize
+fn put_end(out: &mut [u8], at: usize, frame: BodyFrame) -> usize
     requires { IsPrefixLen at out.old }
     ensures { IsPrefixLen result out.new }
 {
-    let second = put_field(&mut *out, at, framed.decisions, b' ');
-    let space = text::put_long(&mut *out, second, framed.end);
+    let second = put_field(&mut *out, at, frame.decisions, b' ');
+    let space = text::put_long(&mut *out, second, frame.end);
     let third = text::put_byte(&mut *out, space, b' ');
-    let fourth = put_field(&mut *out, third, run::one_if(framed.overrun), b' ');
-    put_field(&mut *out, fourth, run::one_if(framed.late), b'\n')
+    let fourth = put_field(&mut *out, third, u32::from(frame.overrun), b' ');
+    put_field(&mut *out, fourth, u32::from(frame.late), b'\n')
 }
 
-// What the dry run over the durations in these bytes comes to, as the dry-run program would print it.
-fn dry_text(image: &[u8], repeats: u32, bytes: &[u8], out: &mut [u8]) -> usize
+// What the dry run over the durations in these bytes comes to, as the dry-run program would print it; nothing where there is no room for its steps.
+fn put_dry(image: &[u8], repeats: u32, bytes: &[u8], out: &mut [u8]) -> usize
     ensures { IsPrefixLen result out.new }
 {
     let mut durations = [0u32; 2048];
@@ -183,7 +158,7 @@ fn dry_text(image: &[u8], repeats: u32, bytes: &[u8], out: &mut [u8]) -> usize
     let mut order = [0u8; 64];
     let mut given = [0u8; MOST_STEPS];
     let mut marks = [0u8; MOST_STEPS];
-    let framed = BodyFramed::from(repeat_frame::dry_frame(
+    let framed = repeat_frame::dry_frame(
         image,
         repeats,
         rules::POLICY_2008,
@@ -191,40 +166,41 @@ fn dry_text(image: &[u8], repeats: u32, bytes: &[u8], out: &mut [u8]) -> usize
         &mut order,
         &mut given,
         &mut marks,
-    ));
-    if framed.refusal.number != 0 {
-        return print_lines::put_fault(out, 0, framed.refusal);
-    }
-    let positions = framed.positions as usize;
-    if repeats < 1 {
-        return 0;
-    }
-    if MOST_STEPS < positions {
+    );
+    let frame = match framed {
+        Ok(frame) => frame,
+        Err(blame) => return print_lines::put_fault(out, 0, Fault::from(blame)),
+    };
+    let positions = frame.positions as usize;
+    if repeats < 1 || MOST_STEPS < positions {
         return 0;
     }
     let n = positions / repeats as usize;
-    if n < 1 {
+    if n < 1 || order.len() < n {
         return 0;
     }
-    if order.len() < n {
-        return 0;
-    }
-    let at = put_steps(&mut *out, n, &order, &given, &marks, positions);
-    put_end(out, at, framed)
+    let at = put_steps(
+        &mut *out,
+        n,
+        &order,
+        &given[..positions],
+        &marks[..positions],
+    );
+    put_end(out, at, frame)
 }
 
 // Where a frame is listed.
 fn dry_agrees<R: Files>(rt: &R, case: usize, image: &[u8], repeats: u32) -> io::Result<bool> {
-    let mut want = files::large_buffer();
-    let k = read_case(rt, case, b".dry", &mut want)?;
-    if k == 0 {
+    let mut text = [0u8; files::LARGE_BUFFER];
+    let want = read_case(rt, case, b".dry", &mut text)?;
+    if want.is_empty() {
         return Ok(true);
     }
-    let mut bytes = files::large_buffer();
-    let n = read_case(rt, case, b".durations", &mut bytes)?;
-    let mut out = files::large_buffer();
-    let end = dry_text(image, repeats, &bytes[..n], &mut out);
-    Ok(same(&out[..end], &want[..k]))
+    let mut buffer = [0u8; files::LARGE_BUFFER];
+    let bytes = read_case(rt, case, b".durations", &mut buffer)?;
+    let mut out = [0u8; files::LARGE_BUFFER];
+    let end = put_dry(image, repeats, bytes, &mut out);
+    Ok(&out[..end] == want)
 }
 
 // ---- a case
@@ -248,7 +224,7 @@ fn listed_agrees<R: Files + Print>(
             return Ok(false);
         }
     }
-    let lines = lines_agree(others, body, order, summaries);
+    let lines = all_agree(others, |line| line_agrees(line, body, order, summaries));
     Ok(lines & bounds_agree(rt, case, body, summaries, worst)?)
 }
 
@@ -263,7 +239,7 @@ fn plan_agrees<R: Files + Print>(
     let mut order = [0u8; 64];
     let mut summaries = [0u32; 2048];
     let mut worst = [0u32; 512];
-    let mut out = files::buffer();
+    let mut out = [0u8; files::BUFFER];
     let begun = repeat_text::begin(
         image,
         repeats,
@@ -274,13 +250,13 @@ fn plan_agrees<R: Files + Print>(
         &mut out,
     );
     let at = begun.at;
-    if !same(&out[..at], first) {
+    if &out[..at] != first {
         return Ok(false);
     }
     let planned = begun.planned;
     let refusal = planned.refusal;
     if refusal.number != 0 {
-        return Ok(same(first, others));
+        return Ok(first == others);
     }
     listed_agrees(
         rt,
@@ -296,27 +272,24 @@ fn plan_agrees<R: Files + Print>(
 }
 
 fn agrees<R: Files + Print>(rt: &R, case: usize) -> io::Result<bool> {
-    let mut image = files::buffer();
-    let n = read_case(rt, case, b".body", &mut image)?;
+    let mut image = [0u8; files::BUFFER];
+    let image = read_case(rt, case, b".body", &mut image)?;
     let mut word = [0u8; 16];
-    let k = read_case(rt, case, b".repeats", &mut word)?;
-    let repeats = text::words::number(&word[..k], 0);
+    let repeats = text::words::number(read_case(rt, case, b".repeats", &mut word)?, 0);
     let mut first = [0u8; 64];
-    let a = read_case(rt, case, b".first", &mut first)?;
-    let mut others = files::large_buffer();
-    let b = read_case(rt, case, b".limits", &mut others)?;
+    let first = read_case(rt, case, b".first", &mut first)?;
+    let mut others = [0u8; files::LARGE_BUFFER];
+    let others = read_case(rt, case, b".limits", &mut others)?;
     Ok(
-        plan_agrees(rt, case, &image[..n], repeats, &first[..a], &others[..b])?
-            & dry_agrees(rt, case, &image[..n], repeats)?,
+        plan_agrees(rt, case, image, repeats, first, others)?
+            & dry_agrees(rt, case, image, repeats)?,
     )
 }
 
 fn main(rt: HostRuntime) -> io::Result<()> {
-    let mut agreed: u64 = 0;
-    let mut case = 0;
-    while case < CASES {
-        agreed += tell(&rt, agrees(&rt, case)?, b"body", case)?;
-        case += 1;
+    let mut bodies = Tally::new();
+    for case in 0..CASES {
+        bodies.tell(&rt, agrees(&rt, case)?, b"body", case)?;
     }
-    sum_up(&rt, agreed, CASES, b" bodies")
+    bodies.sum_up(&rt, b" bodies")
 }

@@ -10,12 +10,12 @@ use test_kit::{part, say, say_number};
 pub fn tell<R: Print>(rt: &R, line: &[u8]) -> io::Result<()> {
     let row = test_kit::numbers(line);
     rt.write_all(line)?;
-    match test_kit::first(line) {
-        b's' => tell_start(rt, row)?,
-        b'e' => tell_edge(rt, record(row))?,
-        b'a' => tell_ask(rt, row)?,
-        b'r' => tell_report(rt, row)?,
-        b't' => tell_turns(rt, line)?,
+    match line {
+        [b's', ..] => tell_start(rt, row)?,
+        [b'e', ..] => tell_edge(rt, record(row))?,
+        [b'a', ..] => tell_ask(rt, row)?,
+        [b'r', ..] => tell_report(rt, row)?,
+        [b't', ..] => tell_turns(rt, line)?,
         _ => {}
     }
     rt.write_all(b"\n")
@@ -38,9 +38,10 @@ fn record(row: [u32; 24]) -> Run {
 }
 
 fn running(run: Run) -> Run {
-    let mut next = run;
-    next.running = true;
-    next
+    Run {
+        running: true,
+        ..run
+    }
 }
 
 // ---- the calls, with that much of tables whose limits and bounds are 0 and whose worst times are 10
@@ -49,54 +50,38 @@ fn ask(run: Run, order: u32, limits: u32, bounds: u32) -> Asked {
     let actions = [0u8; 64];
     let zeros = [0i32; 512];
     let more_zeros = [0i32; 8192];
-    let a = part(order, 64);
-    let b = part(limits, 512);
-    let c = part(bounds, 8192);
-    run.ask(&actions[0..a], &zeros[0..b], &more_zeros[0..c])
+    run.ask(
+        &actions[..part(order, 64)],
+        &zeros[..part(limits, 512)],
+        &more_zeros[..part(bounds, 8192)],
+    )
 }
 
 fn report(run: Run, clock: u32, worst: u32) -> Reported {
     let tens = [10u32; 512];
-    let a = part(worst, 512);
-    run.report(clock, &tens[0..a])
+    run.report(clock, &tens[..part(worst, 512)])
 }
 
 // ---- their numbers
-
-fn same(a: Run, b: Run) -> bool {
-    (a.n == b.n)
-        & (a.levels == b.levels)
-        & (a.position == b.position)
-        & (a.clock == b.clock)
-        & (a.level == b.level)
-        & (a.left == b.left)
-        & (a.decisions == b.decisions)
-        & (a.running == b.running)
-        & (a.overrun == b.overrun)
-        & (a.late == b.late)
-}
 
 fn kept(number: u32, before: Run, after: Run) -> u32 {
     if number == 0 {
         return 0;
     }
-    if same(before, after) { number } else { 99 }
+    if before == after { number } else { 99 }
 }
 
 fn ask_number(run: Run, asked: Asked) -> u32 {
-    let answer = asked.answer;
-    let next = asked.run;
-    if let Answer::Refused(refusal) = answer {
-        return kept(refusal.number, run, next);
+    match asked.answer {
+        Answer::Refused(refusal) => kept(refusal.number, run, asked.run),
+        Answer::Given { .. } => 0,
     }
-    0
 }
 
 fn asked<R: Print>(rt: &R, run: Run, order: u32, limits: u32, bounds: u32) -> io::Result<Run> {
     let asked = ask(run, order, limits, bounds);
-    let next = asked.run;
     say_number(rt, b": ask ", ask_number(run, asked))?;
-    Ok(next)
+    Ok(asked.run)
 }
 
 fn reported<R: Print>(rt: &R, run: Run, clock: u32, worst: u32) -> io::Result<Run> {
@@ -148,9 +133,9 @@ fn say_record<R: Print>(rt: &R, run: Run) -> io::Result<()> {
             run.level,
             run.left,
             run.decisions,
-            run.overrun as u32,
-            run.late as u32,
-            run.running as u32,
+            u32::from(run.overrun),
+            u32::from(run.late),
+            u32::from(run.running),
         ],
     )
 }
@@ -159,10 +144,9 @@ fn say_record<R: Print>(rt: &R, run: Run) -> io::Result<()> {
 
 fn tell_turns<R: Print>(rt: &R, line: &[u8]) -> io::Result<()> {
     let mut run = Run::start(3, 2).run;
-    let mut at = text::words::word(line, 1);
-    while at < line.len() {
-        run = turn(rt, run, line[at])?;
-        at += 1;
+    let calls = text::words::word(line, 1);
+    for call in &line[calls..] {
+        run = turn(rt, run, *call)?;
     }
     Ok(())
 }
@@ -172,7 +156,7 @@ fn turn<R: Print>(rt: &R, run: Run, call: u8) -> io::Result<Run> {
     say(
         rt,
         b"\n position _, running _",
-        &[run.position, run.running as u32],
+        &[run.position, u32::from(run.running)],
     )?;
     if call == b'a' {
         return asked(rt, run, 3, 6, 96);

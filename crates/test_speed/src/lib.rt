@@ -9,7 +9,7 @@ use test_kit::count;
 
 pub fn tell<R: Print>(rt: &R, line: &[u8]) -> io::Result<()> {
     rt.write_all(line)?;
-    if test_kit::first(line) != b'#' {
+    if !line.starts_with(b"#") {
         tell_reading(rt, line)?;
     }
     rt.write_all(b"\n")
@@ -17,12 +17,12 @@ pub fn tell<R: Print>(rt: &R, line: &[u8]) -> io::Result<()> {
 
 // A profile, the first position, the last, the level and the time.
 fn tell_reading<R: Print>(rt: &R, line: &[u8]) -> io::Result<()> {
-    let mut image = [0u8; 78];
-    let bytes = test_kit::sample(line, &mut image);
+    let mut buffer = [0u8; 78];
+    let image = test_kit::sample(line, &mut buffer);
     let row = test_kit::numbers(line);
     say_at(
         rt,
-        &image[..bytes],
+        image,
         count(row[0]),
         count(row[1]),
         count(row[2]),
@@ -45,27 +45,18 @@ fn say_at<R: Print>(
 }
 
 fn say_reading<R: Print>(rt: &R, reading: Reading) -> io::Result<()> {
-    let ratio = match &reading {
-        Reading::Ratio(x) => Some(*x),
-        _ => None,
-    };
     let mut text = [0u8; 32];
     let k = put_reading(&mut text, reading);
     rt.write_all(b": ")?;
-    rt.write_all(&text[0..k])?;
-    if let Some(x) = ratio {
+    rt.write_all(&text[..k])?;
+    if let Reading::Ratio(x) = reading {
         say_ratio(rt, thousandths(x))?;
     }
     Ok(())
 }
 
 fn say_ratio<R: Print>(rt: &R, value: u64) -> io::Result<()> {
-    rt.write_all(b", about ")?;
-    print!(rt; "{}", value / 1000)?;
-    rt.write_all(b".")?;
-    print!(rt; "{}", value / 100 % 10)?;
-    print!(rt; "{}", value / 10 % 10)?;
-    print!(rt; "{}", value % 10)
+    print!(rt; ", about {}.{:03}", value / 1000, value % 1000)
 }
 
 // A ratio in thousandths, rounded down.

@@ -1,9 +1,0 @@
--- Each turn passes a line.
-use Rattle.std.proofs.Common.{◌≤◌, length}
-use Rattle.test_faults.proofs.line_at.Given as goal
-
-abbrev pub invariant-loop-left : goal.invariant-loop-left
-invariant-loop-left l = l.at ≤ length l.text
-
-abbrev pub decreases-loop-left : goal.decreases-loop-left
-decreases-loop-left l = l.left
