@@ -4,10 +4,10 @@
 
 pub mod blame;
 
-pub use blame::Blame;
-
 ghost use Rattle.std.specs.Prelude.{◌≡◌};
 ghost use Rattle.rules.specs.Reasons.{number_of, fault_of, number, fault};
+
+pub use blame::Blame;
 
 // ---- ranges
 
