@@ -41,6 +41,6 @@ returns-in-Err-policy_refusal c =
 pub returns : goal.returns
 returns c =
     let policy = c.args.policy in
-    rw c.from-2.ensures
+    rw (c.from-2.ensures.0, c.from-2.ensures.1)
     (after c.args.image.now policy refused_trace c.in_default.ensures.number
     (first-goes_on (known policy) trace _ (omega arith, tt) c.in_default-policy_refusal.ensures (inl (tt, refl))))
