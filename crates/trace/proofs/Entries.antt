@@ -11,6 +11,8 @@ use lib.Dec.{ltb, eqb}
 use Rattle.rules.specs.Numbers.{most_actions, most_levels, duration_said}
 use Rattle.rules.specs.Image.{be}
 use Rattle.rules.specs.Refresh.{entry, open_of, action_of, level_of, duration_of, measures}
+use Rattle.rules.proofs.Tests.{failed}
+use Rattle.rules.proofs.Refresh.{measures-above}
 use Rattle.trace.specs.Trace.{cells, cell_of, IsRecord, Measures}
 use Rattle.trace.specs.declared.Entry.{Entry}
 
@@ -50,6 +52,10 @@ module _ (trace : List ℕ) (r e : ℕ) (is : e ≡ be trace (r * 5) 5) where
   lasts = ap (λ (x : ℕ). x % 2 ^ 30) is
 
 -- ---- which records are measurements
+
+-- One of duration 0 is none.
+pub skipped_measures : (e : Entry) → e.duration ≡ 0 → Measures e false
+skipped_measures e none trace r is = sym (failed _ (λ h. omega (arith, none, is.duration, measures-above trace _ _ r h)))
 
 -- A closed record is none.
 pub closed_measures : (e : Entry) → e.«open» ≡ false → Measures e e.«open»
