@@ -13,7 +13,7 @@ returns-in_err-checked c =
 pub returns-in_err-own_refusal : goal.returns-in_err-own_refusal
 returns-in_err-own_refusal c =
     let p = err_from_is_err_and c.from_residual-in_err-own_refusal.result c.from_residual-in_err-own_refusal.ensures.1 in
-    rw (p.1, p.2)
+    rw (p.1, p.2.0, p.2.1)
     (refused-reads (own-given c.in_ok-checked.ensures _ _ _ _ _ c.in_err-own_refusal.ensures) (some_number c.in_err-own_refusal.field-0.0))
 
 pub stretch-s-requires : goal.stretch-s-requires
