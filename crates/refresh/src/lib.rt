@@ -1,7 +1,7 @@
 // Refreshing averages: the new image of an image and a trace, which differs in averages only.
 #![tactic(auto)]
 
-ghost use Rattle.std.specs.Prelude.{◌≡◌, ◌+◌, ◌*◌, ◌≤◌, length};
+ghost use Rattle.std.specs.Prelude.{◌≡◌, ◌+◌, ◌*◌, ◌≤◌, length, get_or};
 ghost use Rattle.rules.specs.Numbers.{most_levels};
 ghost use Rattle.rules.specs.Words.{tab};
 ghost use Rattle.rules.specs.Image.{record_bytes, record_at, worst_of, profile};
@@ -110,6 +110,16 @@ fn renew(image: &[u8], n: usize, levels: usize, tallies: &[u64; trace::CELLS], o
     }
 }
 
+// Copies the image to the start of `out`, byte by byte: the library's copy calls memmove here, and the archive needs memcpy and memset alone.
+fn copy_image(image: &[u8], out: &mut [u8])
+    requires { length image.now ≤ length out.old }
+    ensures { out.new ≡ splice out.old 0 (tab (λ k. get_or image.now k 0) (length image.now)) }
+{
+    for k in 0..image.len() {
+        out[k] = image[k];
+    }
+}
+
 // Of an accepted image: it is copied, and its averages become the new ones.
 fn refresh_accepted(
     image: &[u8],
@@ -126,7 +136,7 @@ fn refresh_accepted(
     let mut tallies = [0u64; trace::CELLS];
     let bytes = image.len();
     own_refusal(trace, &ceilings, &mut tallies, bytes, out.len())?;
-    fields::copy_front(image, bytes, out);
+    copy_image(image, out);
     renew(image, n, levels, &tallies, out);
     Ok(bytes)
 }

@@ -44,11 +44,11 @@ returns-in_err-own_refusal c =
       count = rw some;
     }
 
-pub copy_front-requires : goal.copy_front-requires
-copy_front-requires c =
+pub copy_image-requires : goal.copy_image-requires
+copy_image-requires c =
     let x = c.args in
     let given = own _ _ _ c.requires.1 c.requires.2 c.take_ceilings.ensures c.in_ok-own_refusal.ensures in
-    (search rules, omega (arith, enough (profile x.image.now) x.trace.now _ _ given))
+    omega (arith, enough (profile x.image.now) x.trace.now _ _ given)
 
 pub renew-requires : goal.renew-requires
 renew-requires c =
@@ -61,7 +61,7 @@ returns c =
     let x = c.args in
     let s = x.image.now in
     let bytes : Bytes s = λ k. (c.type_inv.image k).fits in
-    let copied = c.copy_front.ensures in
+    let copied = c.copy_image.ensures in
     record {
       given = after-image s x.trace.now x.out.now _ c.requires.0 (own _ _ _ c.requires.1 c.requires.2 c.take_ceilings.ensures c.in_ok-own_refusal.ensures);
       written = new-written s bytes c.requires.0 _ copied x.trace.now x.n c.requires.1
