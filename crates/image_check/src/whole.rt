@@ -8,6 +8,7 @@ ghost use Rattle.image_check.specs.Checks.{head_checks, spare_check, record_chec
 
 use crate::Checked;
 use image_fields::{Header, column, read, scan};
+use order::Judgement;
 use rules::{Blame, Reason};
 
 // 2 to 4.
@@ -69,14 +70,13 @@ fn checked_columns(
     ensures { BodyAnswers (rest_checks image.now) image.now result }
 {
     check_records(image, head, masks, deadlines)?;
-    let judged = order::judge(masks, deadlines, head.cycle, worst, 1, head.n)?;
-    let order = judged.order;
+    let Judgement { order, unfit } = order::judge(masks, deadlines, head.cycle, worst, 1, head.n)?;
     Ok(Checked {
         n: head.n,
         levels: head.levels,
         cycle: head.cycle,
         order,
-        unfit: judged.unfit,
+        unfit,
     })
 }
 
@@ -115,9 +115,9 @@ pub fn checked_body(image: &[u8]) -> Result<Checked, Blame>
 pub fn checked(image: &[u8]) -> Result<Checked, Blame>
     ensures { Judged image.now result }
 {
-    let found = checked_body(image)?;
-    if found.unfit {
-        return Err(Blame::from(Reason::Unfit));
+    let found = checked_body(image);
+    match found {
+        Ok(checked) if checked.unfit => Err(Blame::from(Reason::Unfit)),
+        _ => found,
     }
-    Ok(found)
 }

@@ -1,16 +1,11 @@
-use Rattle.rules.proofs.Reasons.{handed_up}
-use Rattle.image_check.specs.Checks.{Judged}
 use Rattle.image_check.proofs.Answers.{refused_judged, unfit_judged, fit_judged}
 use Rattle.image_check.proofs.whole.checked.Goals as goal
 
-pub returns-in_err-found : goal.returns-in_err-found
-returns-in_err-found c =
-    let s = c.args.image.now in
-    let given = refused_judged s _ c.in_err-found.ensures in
-    handed_up (Judged s) c.from_residual.result c.from_residual.ensures.1 (λ b e. rw (← e) at given)
+pub returns-in-Ok : goal.returns-in-Ok
+returns-in-Ok c = record { given = rw (c.from.ensures.0, c.from.ensures.1) (unfit_judged c.args.image.now _ c.in-Ok.ensures c.if-checked.true); accepted = tt }
 
-pub returns-then-found : goal.returns-then-found
-returns-then-found c = record { given = rw (c.from.ensures.0, c.from.ensures.1) (unfit_judged c.args.image.now _ c.in_ok-found.ensures c.if-found.true); accepted = tt }
+pub returns-in_default : goal.returns-in_default
+returns-in_default c = fit_judged c.args.image.now _ c.in-Ok.ensures c.if-checked.false
 
-pub returns : goal.returns
-returns c = fit_judged c.args.image.now _ c.in_ok-found.ensures c.if-found.false
+pub returns-in_default-2 : goal.returns-in_default-2
+returns-in_default-2 c = rw c.in_default.is (refused_judged c.args.image.now _ (rw c.in_default.is at c.checked_body-found.ensures))

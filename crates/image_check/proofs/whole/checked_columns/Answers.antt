@@ -20,19 +20,19 @@ judge-requires c =
     let bytes : Bytes c.args.image.now = λ k. (c.type_inv.image k).fits in
     (masked c.requires.0 c.requires.1 c.in_ok-check_records.ensures.number, timed c.requires.0 c.requires.1 bytes)
 
-pub returns-in_err-judged : goal.returns-in_err-judged
-returns-in_err-judged c =
+pub returns-in_err-order : goal.returns-in_err-order
+returns-in_err-order c =
     let s = c.args.image.now in
-    let eight = loop-given (on_profile c.requires.0 c.requires.1 c.in_err-judged.ensures.verdict) (ap number_of c.in_err-judged.ensures.looped) in
+    let eight = loop-given (on_profile c.requires.0 c.requires.1 c.in_err-order.ensures.verdict) (ap number_of c.in_err-order.ensures.looped) in
     let given = refuses-goes_on (record_checks s) (loop_check s) _ (record_numbered s) c.in_ok-check_records.ensures.number eight in
-    handed_up (BodyAnswers (rest_checks s) s) c.from_residual-in_err-judged.result c.from_residual-in_err-judged.ensures.1 (λ b e. refused_body b (rw (← e) at given))
+    handed_up (BodyAnswers (rest_checks s) s) c.from_residual-in_err-order.result c.from_residual-in_err-order.ensures.1 (λ b e. refused_body b (rw (← e) at given))
 
 pub returns : goal.returns
 returns c =
     let s = c.args.image.now in
-    let judged = on_profile c.requires.0 c.requires.1 c.in_ok-judged.ensures.verdict in
-    let told = nine_if c.in_ok-judged.judged.unfit in
-    let loopless = no_loop c.in_ok-judged.judged.unfit in
+    let judged = on_profile c.requires.0 c.requires.1 c.in_ok-order.ensures.verdict in
+    let told = nine_if c.in_ok-order.field-0.unfit in
+    let loopless = no_loop c.in_ok-order.field-0.unfit in
     let passed = first-goes_on (record_checks s) (loop_check s) 0 (record_numbered s) c.in_ok-check_records.ensures.number (none-given judged loopless) in
     record {
       answers = record {
