@@ -80,7 +80,9 @@ fn whole_frames(image: &[u8], bytes: usize) -> bool
     (bytes % frame_bytes == 0) & (bytes / frame_bytes <= rules::MOST_FRAMES as usize)
 }
 
-// The refusal of a recording whose length is not that of its frames: the image's, then 20, else 14.
+// The refusal of a recording whose length is not that of its frames: the image's, then 20, else 14. It stays a function apart, since its check would
+// take its place on the stack beside the plan, and the header says how much an opening takes.
+#[inline(never)]
 fn length_refusal(image: &[u8], policy: u32) -> Blame
     ensures { Refuses
         (image_checks image.now ++ (refused_policy when UnknownPolicy policy ∷ refused_trace when Unit {0} ∷ [])) (fault_of result) }
