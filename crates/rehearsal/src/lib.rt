@@ -2,7 +2,7 @@
 // the lent buffer is full, so that nothing grows with the recording.
 #![tactic(auto)]
 
-ghost use Rattle.std.specs.Prelude.{◌≤◌, length, OnErr, ◌≡◌};
+ghost use Rattle.std.specs.Prelude.{◌≤◌, ◌≡◌, ◌-◌, ◌^◌, None, IfSome, OnErr, length};
 ghost use Rattle.std.specs.Io.{ReadsAtMost};
 ghost use Rattle.io.specs.Counts.{IsPrefixLen};
 
@@ -102,9 +102,17 @@ fn rehearse_frames<S: Read, W: Write>(
     Ok(print_lines::put_totals(out, start, totals))
 }
 
-// The text of a recording, none being an absent file, against an image by a policy. One whose length cannot be told is taken for a length that no
-// recording has, so that it is refused before any of it is read. What does not fit into `out` is written to `to`; the answer is how much of `out` is
-// still to be written.
+// By which length a recording is judged: one that cannot be told is taken for a length that no recording has, so that it is refused before any of it
+// is read, and not taken for empty.
+fn judged_length(length: Option<usize>) -> usize
+    ensures told { IfSome length (λ n. result ≡ n) }
+    ensures untold { length ≡ None → result ≡ 2 ^ 64 - 1 }
+{
+    length.unwrap_or(usize::MAX)
+}
+
+// The text of a recording, none being an absent file, against an image by a policy. What does not fit into `out` is written to `to`; the answer is
+// how much of `out` is still to be written.
 pub fn rehearse<S: Read + Seek, W: Write>(
     image: &[u8],
     policy: u32,
@@ -122,7 +130,7 @@ pub fn rehearse<S: Read + Seek, W: Write>(
     let opened = recording::open(
         image,
         policy,
-        files::file_length(&mut *recording).unwrap_or(usize::MAX),
+        judged_length(files::file_length(&mut *recording)),
         &mut order,
         &mut limits,
         &mut worst,

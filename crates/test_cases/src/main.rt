@@ -4,6 +4,8 @@
 // Last, what the programs print where a file is not there: it is empty, so an image is refused as short and durations are too few.
 #![tactic(auto)]
 
+ghost use Rattle.std.specs.Prelude.{◌≤◌, IfOk, length};
+
 use std::io;
 use std::rt::Files;
 use test_kit::{Tally, read_case, says};
@@ -14,7 +16,9 @@ const CASES: usize = 418;
 const ABSENT: usize = 999;
 
 // What the plan program prints for a case's profile.
-fn plan<'a, R: Files>(rt: &R, case: usize, out: &'a mut [u8]) -> io::Result<&'a [u8]> {
+fn plan<'a, R: Files>(rt: &R, case: usize, out: &'a mut [u8]) -> io::Result<&'a [u8]>
+    ensures { IfOk result (λ text. length text.now ≤ length out.old) }
+{
     let mut buffer = [0u8; files::BUFFER];
     let image = read_case(rt, case, b".profile", &mut buffer)?;
     let k = print::plan_text(image, rules::POLICY_2008, &mut *out);
@@ -27,7 +31,9 @@ fn dry_run<'a, R: Files>(
     profile: usize,
     durations: usize,
     out: &'a mut [u8],
-) -> io::Result<&'a [u8]> {
+) -> io::Result<&'a [u8]>
+    ensures { IfOk result (λ text. length text.now ≤ length out.old) }
+{
     let mut buffer = [0u8; files::BUFFER];
     let image = read_case(rt, profile, b".profile", &mut buffer)?;
     let mut bytes = [0u8; files::BUFFER];

@@ -122,7 +122,9 @@ fn written(text: &[u8], image: &mut [u8]) -> Result<usize, Blame> {
 }
 
 // The line of a refusal, none without one.
-fn refused_line<'a>(answer: &Result<usize, Blame>, out: &'a mut [u8]) -> &'a [u8] {
+fn refused_line<'a>(answer: &Result<usize, Blame>, out: &'a mut [u8]) -> &'a [u8]
+    ensures { length result.now ≤ length out.old }
+{
     match answer {
         Ok(_) => &[],
         Err(blame) => {

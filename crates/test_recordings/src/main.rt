@@ -3,6 +3,8 @@
 // has no frames.
 #![tactic(auto)]
 
+ghost use Rattle.std.specs.Prelude.{◌≤◌, IfOk, length};
+
 use std::io;
 use std::rt::Files;
 use test_kit::{Tally, case_name, read_case, says};
@@ -19,7 +21,9 @@ fn rehearse<'a, R: Files + Print>(
     profile: usize,
     recording: usize,
     out: &'a mut [u8],
-) -> io::Result<&'a [u8]> {
+) -> io::Result<&'a [u8]>
+    ensures { IfOk result (λ text. length text.now ≤ length out.old) }
+{
     let mut buffer = [0u8; files::BUFFER];
     let image = read_case(rt, profile, b".profile", &mut buffer)?;
     let mut name = [0u8; 32];

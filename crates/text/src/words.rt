@@ -1,5 +1,5 @@
 // Lines of words, as files of outside values have them: a line ends in a newline, one space stands between two words.
-ghost use Rattle.std.specs.Prelude.{◌≤◌, ◌<◌, ◌≡◌, IfSome, length, drop};
+ghost use Rattle.std.specs.Prelude.{◌≤◌, ◌<◌, ◌≡◌, ◌+◌, IfSome, length, drop};
 ghost use Rattle.io.specs.Counts.{IsPrefixLen};
 ghost use Rattle.text.specs.Words.{from_first, after_first, from_word, digits_say, capped, only_digits, whole_number, is_number};
 
@@ -92,7 +92,9 @@ fn hex_digit(b: u8) -> Option<u8>
 }
 
 // The byte that two of them say.
-fn pair(line: &[u8], at: usize) -> Option<u8> {
+fn pair(line: &[u8], at: usize) -> Option<u8>
+    ensures { IfSome result (λ _. at + 2 ≤ length line.now) }
+{
     let high = hex_digit(*line.get(at)?)?;
     let low = hex_digit(*line.get(at + 1)?)?;
     Some(high * 16 + low)
