@@ -12,7 +12,7 @@ use Rattle.rules.specs.declared.Reason.TheVariants.{Short, Version, Count, Lengt
 use Rattle.rules.specs.declared.blame.Blame.{Blame}
 use Rattle.rules.specs.declared.Fault.{Fault}
 use Rattle.rules.proofs.Reasons.{some_number}
-use Rattle.result_laws.specs.Told.{Tells, reason_by, action_by}
+use Rattle.result_laws.specs.Told.{TellsResult, reason_by, action_by}
 
 -- ---- a reason
 
@@ -76,7 +76,7 @@ module _ {A E F K : Type 0} (refused : Result A E → K) (apart : (a : A) (e : E
     (ok : (a : A) → refusal (flat (Ok a)) ≡ refused (Ok a))
     (err : (e : E) → refusal (flat (Err e)) ≡ refused (Err e))
     (back : (a : A) → value (flat (Ok a)) ≡ a) where
-  told : Tells flat
+  told : TellsResult flat
   told (Ok a) (Ok b) e = ap Ok (sym (back a) ∙ ap value e ∙ back b)
   told (Ok a) (Err d) e = absurd (apart a d (sym (ok a) ∙ ap refusal e ∙ err d))
   told (Err d) (Ok a) e = absurd (apart a d (sym (sym (err d) ∙ ap refusal e ∙ ok a)))
@@ -86,12 +86,12 @@ module _ {A E F K : Type 0} (refused : Result A E → K) (apart : (a : A) (e : E
 pub reason_tells : {A F : Type 0} (flat : Result A Reason → F) (refusal : F → ℕ) (value : F → A)
     → ((a : A) → refusal (flat (Ok a)) ≡ 0)
     → ((r : Reason) → refusal (flat (Err r)) ≡ number_of r)
-    → ((a : A) → value (flat (Ok a)) ≡ a) → Tells flat
+    → ((a : A) → value (flat (Ok a)) ≡ a) → TellsResult flat
 reason_tells {A} = told (number {A = A}) (λ a r e. some_number r (sym e)) one_reason
 
 -- and of one of a blame.
 pub blame_tells : {A F : Type 0} (flat : Result A Blame → F) (refusal : F → Fault) (value : F → A)
     → ((a : A) → refusal (flat (Ok a)) ≡ record { number = 0; action = most_actions })
     → ((b : Blame) → refusal (flat (Err b)) ≡ fault_of b)
-    → ((a : A) → value (flat (Ok a)) ≡ a) → Tells flat
+    → ((a : A) → value (flat (Ok a)) ≡ a) → TellsResult flat
 blame_tells {A} = told (fault {A = A}) (λ a b e. some_number b.reason (sym (ap (λ (f : Fault). f.number) e))) one_blame

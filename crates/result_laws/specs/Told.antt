@@ -6,8 +6,8 @@ use Rattle.rules.specs.declared.Reason.TheVariants.{Short, Version, Count, Lengt
 
 -- A flat record tells the Result that it is made of: two Results that make one record are one, both accepted with one value, or both refused for one
 -- reason with one action at fault.
-abbrev pub Tells : {A E F : Type 0} → (Result A E → F) → Type 0
-Tells {A} {E} flat = (r t : Result A E) → flat r ≡ flat t → r ≡ t
+abbrev pub TellsResult : {A E F : Type 0} → (Result A E → F) → Type 0
+TellsResult {A} {E} flat = (r t : Result A E) → flat r ≡ flat t → r ≡ t
 
 -- the reasons by their numbers, from 1 on
 abbrev pub reasons : List Reason
